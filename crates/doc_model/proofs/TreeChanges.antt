@@ -1,0 +1,219 @@
+-- Documents that changes reach have each id once at most, and never 0, and at most 256 nodes.
+use Rattle.std.proofs.Common.{◌≡◌, ◌≢◌, ℕ, suc, zero, ◌+◌, ◌≤◌, Bool, true, false, ◌||◌, not, cond, Option, Some, None, Result, Ok, Err, List, [], ◌∷◌, take, refl, ap, ◌∙◌, arith, eqb, ltb, subst}
+use Rattle.std.specs.List.{AllByRecursion}
+use Rattle.std.proofs.lemmas.Bool.Decides.{nat_tests}
+use Rattle.doc_model.specs.declared.tree.Look.{Look}
+use Rattle.doc_model.specs.declared.canvas.Canvas.{Canvas}
+use Rattle.doc_model.specs.declared.tree.Change.{Change}
+use Rattle.doc_model.specs.declared.tree.Change.TheVariants as change
+use Rattle.doc_model.specs.declared.tree.TreeFault.{TreeFault}
+use Rattle.doc_model.specs.declared.tree.TreeFault.TheVariants.{Taken, NoNode, NotGroup, IntoItself, TreeFull, TooDeep, BadPlace}
+use Rattle.pixel_core.specs.Rgba.{Rgba}
+use Rattle.doc_model.specs.Layers.{Layer, plain}
+use Rattle.doc_model.specs.Forest.{Forest, none, paint, group, count, has, height, depth, inserted, without, only, content, with_look}
+use Rattle.doc_model.specs.Picture.{Doc}
+use Rattle.doc_model.specs.Changes.{changed, answer, first_of_faults, no_new, no_place, no_node, there, takes, child_count, set_in, new_look}
+use Rattle.doc_model.specs.Strokes.{Stroke, Fate, Open, Ended, Cancelled, Entry, Strokes, Changes, Undoes, Redoes, Purges, Exports, conflict}
+use Rattle.doc_model.specs.Meaning.{Story, start, told, told_all, told_stroke, closed_stroke, laid_stroke, told_change, undone, redone, meaning}
+use Rattle.doc_model.proofs.Weights.{weight, mark, times, IsTree, weight_inserted, weight_within, weight_parts, weight_with_look, weight_count, tree_none, tree_with_content, none_there}
+
+-- a new document comes where no test passed
+pub answered : {A : Type 0} (o : Option TreeFault) (x y : A) → answer o x ≡ Ok y → (o ≡ None) × (x ≡ y)
+answered None x y e = (refl, ok_same x y e)
+  where
+    ok_same : {A : Type 0} (x y : A) → ◌≡◌ {A = Result A TreeFault} (Ok x) (Ok y) → x ≡ y
+    ok_same x y e = cc
+answered (Some fault) x y e = absurd (not_ok fault y e)
+  where
+    not_ok : {A : Type 0} (f : TreeFault) (y : A) → ◌≡◌ {A = Result A TreeFault} (Err f) (Ok y) → ⊥
+    not_ok f y e = cc
+
+pub no_fault : (b : Bool) (fault : TreeFault) (rest : List (Bool × TreeFault)) → first_of_faults ((b, fault) ∷ rest) ≡ None → (b ≡ false) × (first_of_faults rest ≡ None)
+no_fault true fault rest e = absurd (some_none fault e)
+  where
+    some_none : (f : TreeFault) → Some f ≡ None → ⊥
+    some_none f e = cc
+no_fault false fault rest e = (refl, e)
+
+-- none of six tests passed
+pub no_faults : (a b c d e f : Bool) (i j k l m n : TreeFault) → first_of_faults ((a, i) ∷ (b, j) ∷ (c, k) ∷ (d, l) ∷ (e, m) ∷ (f, n) ∷ []) ≡ None
+    → (a ≡ false) × (b ≡ false) × (c ≡ false) × (d ≡ false) × (e ≡ false) × (f ≡ false)
+no_faults a b c d e f i j k l m n h =
+    let h1 = no_fault a i ((b, j) ∷ (c, k) ∷ (d, l) ∷ (e, m) ∷ (f, n) ∷ []) h in
+    let h2 = no_fault b j ((c, k) ∷ (d, l) ∷ (e, m) ∷ (f, n) ∷ []) h1.1 in
+    let h3 = no_fault c k ((d, l) ∷ (e, m) ∷ (f, n) ∷ []) h2.1 in
+    let h4 = no_fault d l ((e, m) ∷ (f, n) ∷ []) h3.1 in
+    let h5 = no_fault e m ((f, n) ∷ []) h4.1 in
+    let h6 = no_fault f n [] h5.1 in
+    (h1.0, h2.0, h3.0, h4.0, h5.0, h6.0)
+
+-- a new node may come
+pub new_may : {A : Type 0} (id above place : ℕ) (f : Forest A) → no_new id above place f ≡ None
+    → (there id f ≡ false) × (not (there above f) ≡ false) × (not (takes above f) ≡ false) × (eqb (count f) 256 ≡ false) × (ltb 16 (depth above f + 1) ≡ false) × (ltb (child_count above f) place ≡ false)
+new_may id above place f e = no_faults (there id f) (not (there above f)) (not (takes above f)) (eqb (count f) 256) (ltb 16 (depth above f + 1)) (ltb (child_count above f) place) (Taken id) (NoNode above) (NotGroup above) (TreeFull 256) (TooDeep 16) (BadPlace place) e
+
+-- a node may be moved
+pub place_may : {A : Type 0} (id above place : ℕ) (f : Forest A) → no_place id above place f ≡ None
+    → ((not (has id f) || (eqb id 0)) ≡ false) × (not (there above f) ≡ false) × (not (takes above f) ≡ false) × (has above (only id f) ≡ false) × (ltb 16 (depth above f + height (only id f)) ≡ false) × (ltb (child_count above (without id f)) place ≡ false)
+place_may id above place f e = no_faults (not (has id f) || (eqb id 0)) (not (there above f)) (not (takes above f)) (has above (only id f)) (ltb 16 (depth above f + height (only id f))) (ltb (child_count above (without id f)) place) (NoNode id) (NoNode above) (NotGroup above) (IntoItself id) (TooDeep 16) (BadPlace place) e
+
+or_false : (a b : Bool) → (a || b) ≡ false → a ≡ false
+or_false a b h = grind arith
+
+or_false' : (a b : Bool) → (a || b) ≡ false → b ≡ false
+or_false' true b h = cc
+or_false' false b h = h
+
+either_le : (b : Bool) (w : ℕ → ℕ) {A : Type 0} (x y : Forest A) (n : ℕ) → weight w x ≤ n → weight w y ≤ n → weight w (cond b x y) ≤ n
+either_le true w x y n h k = h
+either_le false w x y n h k = k
+
+-- what is set in adds no more than it has
+weight_set_in : {A : Type 0} (w : ℕ → ℕ) (g place : ℕ) (nodes f : Forest A) → times g f ≤ 1 → weight w (set_in g place nodes f) ≤ weight w nodes + weight w f
+weight_set_in w g place nodes f once = either_le (eqb g 0) w _ _ _
+    (let e : weight w (inserted place nodes f) ≡ weight w nodes + weight w f = weight_inserted w place nodes f in omega arith)
+    (weight_within w (weight w nodes) g (inserted place nodes) f (λ x. weight_inserted w place nodes x) once)
+
+-- one new node
+new_once : (q id n : ℕ) (b : Bool) → eqb q id ≡ b → (q ≡ id → n ≡ 0) → n ≤ 1 → cond b 1 0 + n ≤ 1
+new_once q id n true e gone h = let z : n ≡ 0 = gone (grind (arith, nat_tests)) in omega arith
+new_once q id n false e gone h = omega arith
+
+tree_new : {A : Type 0} (g place id : ℕ) (nodes f : Forest A) → ((w : ℕ → ℕ) → weight w nodes ≡ w id) → IsTree f → there id f ≡ false → IsTree (set_in g place nodes f)
+tree_new g place id nodes f one t free = record {
+  root = (let h : times 0 (set_in g place nodes f) ≤ times 0 nodes + times 0 f = weight_set_in (mark 0) g place nodes f (t.once g) in
+      let m : times 0 nodes ≡ mark 0 id = one (mark 0) in
+      let z : mark 0 id ≡ 0 = not_zero id (eqb id 0) refl (or_false (eqb id 0) _ free) in
+      omega (arith, t.root));
+  once = λ q. (let h : times q (set_in g place nodes f) ≤ times q nodes + times q f = weight_set_in (mark q) g place nodes f (t.once g) in
+      let m : times q nodes ≡ mark q id = one (mark q) in
+      let l : mark q id + times q f ≤ 1 = new_once q id (times q f) (eqb q id) refl (λ e. ap (λ n. times n f) e ∙ none_there id f (or_false' (eqb id 0) _ free)) (t.once q) in
+      omega arith);
+}
+  where
+    not_zero : (id : ℕ) (b : Bool) → eqb id 0 ≡ b → b ≡ false → mark 0 id ≡ 0
+    not_zero id b e f = let no : eqb 0 id ≡ false = grind (arith, nat_tests) in rw no refl
+
+pub tree_without : {A : Type 0} (id : ℕ) (f : Forest A) → IsTree f → IsTree (without id f)
+tree_without id f t = record {
+  root = (let h : times 0 (only id f) + times 0 (without id f) ≤ times 0 f = weight_parts (mark 0) id f in omega (arith, t.root));
+  once = λ q. (let h : times q (only id f) + times q (without id f) ≤ times q f = weight_parts (mark q) id f in omega (arith, t.once q));
+}
+
+tree_place : {A : Type 0} (id g place : ℕ) (f : Forest A) → IsTree f → IsTree (set_in g place (only id f) (without id f))
+tree_place id g place f t =
+    let less : times g (without id f) ≤ 1 = (tree_without id f t).once g in
+    record {
+      root = (let h : times 0 (only id f) + times 0 (without id f) ≤ times 0 f = weight_parts (mark 0) id f in
+          let s : times 0 (set_in g place (only id f) (without id f)) ≤ times 0 (only id f) + times 0 (without id f) = weight_set_in (mark 0) g place (only id f) (without id f) less in
+          omega (arith, t.root));
+      once = λ q. (let h : times q (only id f) + times q (without id f) ≤ times q f = weight_parts (mark q) id f in
+          let s : times q (set_in g place (only id f) (without id f)) ≤ times q (only id f) + times q (without id f) = weight_set_in (mark q) g place (only id f) (without id f) less in
+          omega (arith, t.once q));
+    }
+
+pub tree_look : {A : Type 0} (id : ℕ) (new : Look) (f : Forest A) → IsTree f → IsTree (with_look id new f)
+tree_look id new f t = record {
+  root = weight_with_look (mark 0) id new f ∙ t.root;
+  once = λ q. (let e : times q (with_look id new f) ≡ times q f = weight_with_look (mark q) id new f in omega (arith, t.once q));
+}
+
+-- a change of a document with each id once gives such a document
+pub tree_changed : {A : Type 0} (fresh : Rgba → A) (c : Change) (f new : Forest A) → changed fresh c f ≡ Ok new → IsTree f → IsTree new
+tree_changed fresh (change.Layer id above place pixel) f new e t =
+    let a : (no_new id above place f ≡ None) × (set_in above place (paint id new_look (fresh pixel) none) f ≡ new) = answered _ _ _ e in
+    subst IsTree a.1 (tree_new above place id (paint id new_look (fresh pixel) none) f (λ w. omega arith) t (new_may id above place f a.0).0)
+tree_changed fresh (change.Group id above place) f new e t =
+    let a : (no_new id above place f ≡ None) × (set_in above place (group id new_look none none) f ≡ new) = answered _ _ _ e in
+    subst IsTree a.1 (tree_new above place id (group id new_look none none) f (λ w. omega arith) t (new_may id above place f a.0).0)
+tree_changed fresh (change.Remove id) f new e t =
+    let a : (no_node id f ≡ None) × (without id f ≡ new) = answered _ _ _ e in
+    subst IsTree a.1 (tree_without id f t)
+tree_changed fresh (change.Place id above place) f new e t =
+    let a : (no_place id above place f ≡ None) × (set_in above place (only id f) (without id f) ≡ new) = answered _ _ _ e in
+    subst IsTree a.1 (tree_place id above place f t)
+tree_changed fresh (change.Look id look) f new e t =
+    let a : (no_node id f ≡ None) × (with_look id look f ≡ new) = answered _ _ _ e in
+    subst IsTree a.1 (tree_look id look f t)
+
+-- all documents of a story
+pub record TreeStory (s : Story) : Type 0 where
+  pub past : AllByRecursion (IsTree {A = Layer}) s.past
+  pub document : IsTree s.document
+  pub future : AllByRecursion (IsTree {A = Layer}) s.future
+
+all_taken : {A : Type 0} (P : A → Type 0) (n : ℕ) (xs : List A) → AllByRecursion P xs → AllByRecursion P (take n xs)
+all_taken P zero xs all = tt
+all_taken P (suc n) [] all = tt
+all_taken P (suc n) (x ∷ xs) all = (all.0, all_taken P n xs all.1)
+
+tree_laid : (s : Story) (stroke : Stroke) (o : Option Layer) → TreeStory s → TreeStory (laid_stroke s stroke o)
+tree_laid s stroke None t = record { past = t.past; document = t.document; future = t.future }
+tree_laid s stroke (Some layer) t = record { past = (t.document, t.past); document = tree_with_content stroke.layer _ s.document t.document; future = tt }
+
+tree_closed : (s : Story) (stroke : Stroke) (f : Fate) → TreeStory s → TreeStory (closed_stroke s stroke f)
+tree_closed s stroke Cancelled t = record { past = t.past; document = t.document; future = t.future }
+tree_closed s stroke Open t = tree_laid s stroke (content stroke.layer s.document) t
+tree_closed s stroke Ended t = tree_laid s stroke (content stroke.layer s.document) t
+
+tree_stroke : (s : Story) (stroke : Stroke) (o : Option (ℕ × ℕ)) → TreeStory s → TreeStory (told_stroke s stroke o)
+tree_stroke s stroke (Some pair) t = record { past = t.past; document = t.document; future = t.future }
+tree_stroke s stroke None t = tree_closed s stroke stroke.fate t
+
+tree_told_change : (s : Story) (r : Result Doc TreeFault) → ((new : Doc) → r ≡ Ok new → IsTree new) → TreeStory s → TreeStory (told_change s r)
+tree_told_change s (Ok new) is t = record { past = (t.document, t.past); document = is new refl; future = tt }
+tree_told_change s (Err fault) is t = record { past = t.past; document = t.document; future = t.future }
+
+tree_undone : (s : Story) (past : List Doc) → AllByRecursion (IsTree {A = Layer}) past → TreeStory s → TreeStory (undone s past)
+tree_undone s [] all t = record { past = t.past; document = t.document; future = t.future }
+tree_undone s (d ∷ past) all t = record { past = all.1; document = all.0; future = (t.document, t.future) }
+
+tree_redone : (s : Story) (future : List Doc) → AllByRecursion (IsTree {A = Layer}) future → TreeStory s → TreeStory (redone s future)
+tree_redone s [] all t = record { past = t.past; document = t.document; future = t.future }
+tree_redone s (d ∷ future) all t = record { past = (t.document, t.past); document = all.0; future = all.1 }
+
+pub tree_told : (canvas : Canvas) (s : Story) (e : Entry) → TreeStory s → TreeStory (told canvas s e)
+tree_told canvas s (Strokes stroke) t = tree_stroke s stroke (conflict stroke.jobs) t
+tree_told canvas s (Changes change) t = tree_told_change s (changed plain change s.document) (λ new e. tree_changed plain change s.document new e t.document) t
+tree_told canvas s Undoes t = tree_undone s s.past t.past t
+tree_told canvas s Redoes t = tree_redone s s.future t.future t
+tree_told canvas s (Purges n) t = record { past = all_taken (IsTree {A = Layer}) n s.past t.past; document = t.document; future = t.future }
+tree_told canvas s Exports t = record { past = t.past; document = t.document; future = t.future }
+
+pub tree_told_all : (canvas : Canvas) (s : Story) (es : List Entry) → TreeStory s → TreeStory (told_all canvas s es)
+tree_told_all canvas s [] t = t
+tree_told_all canvas s (e ∷ es) t = tree_told_all canvas (told canvas s e) es (tree_told canvas s e t)
+
+-- every document that entries make of the empty one has each id once at most, and never 0
+pub tree_meaning : (canvas : Canvas) (es : List Entry) → TreeStory (meaning canvas es)
+tree_meaning canvas es = tree_told_all canvas start es (record { past = tt; document = tree_none; future = tt })
+
+-- at most 256 nodes
+new_count : {A : Type 0} (id above place : ℕ) (nodes f : Forest A) → 1 ≡ weight (λ _. 1) nodes → no_new id above place f ≡ None → IsTree f → count f ≤ 256 → count (set_in above place nodes f) ≤ 256
+new_count id above place nodes f one ok t few =
+    let s : weight (λ _. 1) (set_in above place nodes f) ≤ weight (λ _. 1) nodes + weight (λ _. 1) f = weight_set_in (λ _. 1) above place nodes f (t.once above) in
+    let other : count f ≢ 256 = unequal (count f) (new_may id above place f ok).3 in
+    omega (arith, weight_count f, weight_count (set_in above place nodes f))
+  where
+    unequal : (n : ℕ) → eqb n 256 ≡ false → n ≢ 256
+    unequal n e = grind (arith, nat_tests)
+
+pub count_changed : {A : Type 0} (fresh : Rgba → A) (c : Change) (f new : Forest A) → changed fresh c f ≡ Ok new → IsTree f → count f ≤ 256 → count new ≤ 256
+count_changed fresh (change.Layer id above place pixel) f new e t few =
+    let a : (no_new id above place f ≡ None) × (set_in above place (paint id new_look (fresh pixel) none) f ≡ new) = answered _ _ _ e in
+    subst (λ n. count n ≤ 256) a.1 (new_count id above place (paint id new_look (fresh pixel) none) f (weight_count (paint id new_look (fresh pixel) none)) a.0 t few)
+count_changed {A = A} fresh (change.Group id above place) f new e t few =
+    let a : (no_new id above place f ≡ None) × (set_in above place (group id new_look none none) f ≡ new) = answered _ _ _ e in
+    subst (λ n. count n ≤ 256) a.1 (new_count id above place (group id new_look none none) f (weight_count {A = A} (group id new_look none none)) a.0 t few)
+count_changed fresh (change.Remove id) f new e t few =
+    let a : (no_node id f ≡ None) × (without id f ≡ new) = answered _ _ _ e in
+    let h : weight (λ _. 1) (only id f) + weight (λ _. 1) (without id f) ≤ weight (λ _. 1) f = weight_parts (λ _. 1) id f in
+    subst (λ n. count n ≤ 256) a.1 (omega (arith, weight_count f, weight_count (without id f)))
+count_changed fresh (change.Place id above place) f new e t few =
+    let a : (no_place id above place f ≡ None) × (set_in above place (only id f) (without id f) ≡ new) = answered _ _ _ e in
+    let h : weight (λ _. 1) (only id f) + weight (λ _. 1) (without id f) ≤ weight (λ _. 1) f = weight_parts (λ _. 1) id f in
+    let s : weight (λ _. 1) (set_in above place (only id f) (without id f)) ≤ weight (λ _. 1) (only id f) + weight (λ _. 1) (without id f) = weight_set_in (λ _. 1) above place (only id f) (without id f) ((tree_without id f t).once above) in
+    subst (λ n. count n ≤ 256) a.1 (omega (arith, weight_count f, weight_count (set_in above place (only id f) (without id f))))
+count_changed fresh (change.Look id look) f new e t few =
+    let a : (no_node id f ≡ None) × (with_look id look f ≡ new) = answered _ _ _ e in
+    subst (λ n. count n ≤ 256) a.1 (omega (arith, weight_count f, weight_count (with_look id look f), weight_with_look (λ _. 1) id look f))

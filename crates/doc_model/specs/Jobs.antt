@@ -1,0 +1,83 @@
+-- What a job does to a layer.
+use Rattle.std.specs.Prelude.{ℕ, ◌+◌, ◌*◌, ◌==◌, ℤ, pos, ◌-ℤ◌, Bool, true, if◌then◌else◌, List, [], ◌∷◌, map, sum}
+use Rattle.pixel_core.specs.Rgba.{Rgba, clear}
+use Rattle.pixel_core.specs.Bytes.{mul, nearest}
+use Rattle.pixel_core.specs.Compose.{compose}
+use Rattle.brush_mask.specs.Mask.{mask}
+use Rattle.geom_core.specs.Points.{Point, point}
+use Rattle.geom_core.specs.Areas.{Area, area, holds, moved, points_of}
+use Rattle.geom_core.specs.Grid.{Key, key_of, same_key}
+use Rattle.doc_model.specs.declared.job.Job.{Job}
+use Rattle.doc_model.specs.declared.job.Job.TheVariants.{Fill, Dab, Move, Blur}
+use Rattle.doc_model.specs.Layers.{Layer, at, painted, plain}
+
+-- the square of side 2r + 1 round (x, y)
+abbrev pub square : ℤ → ℤ → ℕ → Area
+square x y r = area (x -ℤ pos r) (y -ℤ pos r) (2 * r + 1) (2 * r + 1)
+
+-- the rectangle with r more columns and rows on each side
+abbrev pub grown : Area → ℕ → Area
+grown a r = area (a.x -ℤ pos r) (a.y -ℤ pos r) (a.w + 2 * r) (a.h + 2 * r)
+
+-- the rectangles that a job may change
+abbrev pub writes : Job → List Area
+writes (Fill rect colour op strength) = rect ∷ []
+writes (Dab x y r soft colour op strength) = square x y r ∷ []
+writes (Move rect dx dy) = rect ∷ moved rect dx dy ∷ []
+writes (Blur rect r) = rect ∷ []
+
+-- the rectangles that it looks at
+abbrev pub reads : Job → List Area
+reads (Fill rect colour op strength) = rect ∷ []
+reads (Dab x y r soft colour op strength) = square x y r ∷ []
+reads (Move rect dx dy) = rect ∷ moved rect dx dy ∷ []
+reads (Blur rect r) = grown rect r ∷ []
+
+-- the sum of a channel over some pixels, each by its alpha
+abbrev pub weighed : (Rgba → ℕ) → List Rgba → ℕ
+weighed channel pixels = sum (map (λ (q : Rgba). q.a * channel q) pixels)
+
+-- the mean of n pixels: their mean alpha, and the colours by alpha
+abbrev pub mean : ℕ → List Rgba → Rgba
+mean n pixels =
+    let alphas = sum (map (λ (q : Rgba). q.a) pixels) in
+    let alpha = nearest alphas n in
+    if alpha == 0
+    then clear
+    else record {
+      r = nearest (weighed (λ q. q.r) pixels) alphas;
+      g = nearest (weighed (λ q. q.g) pixels) alphas;
+      b = nearest (weighed (λ q. q.b) pixels) alphas;
+      a = alpha;
+    }
+
+-- the pixel that a job leaves at a point of its writes
+abbrev pub value : Job → Layer → Point → Rgba
+value (Fill rect colour op strength) layer p = compose op colour (at layer p) strength
+value (Dab x y r soft colour op strength) layer p = compose op colour (at layer p) (mul (mask r soft (p.x -ℤ x) (p.y -ℤ y)) strength)
+value (Move rect dx dy) layer p =
+    if holds (moved rect dx dy) p
+    then at layer (point (p.x -ℤ dx) (p.y -ℤ dy))
+    else layer.default_pixel
+value (Blur rect r) layer p = mean ((2 * r + 1) * (2 * r + 1)) (map (at layer) (points_of (square p.x p.y r)))
+
+-- the layer after the job
+unfoldable pub apply : Job → Layer → Layer
+apply job layer = painted (writes job) (λ _. true) (value job layer) layer
+
+-- the layer after the jobs, the first of them first
+abbrev pub apply_all : List Job → Layer → Layer
+apply_all [] layer = layer
+apply_all (job ∷ jobs) layer = apply_all jobs (apply job layer)
+
+-- the layer's pixels on these rectangles, and its default pixel elsewhere
+unfoldable pub shot_of : List Area → Layer → Layer
+shot_of rects layer = painted rects (λ _. true) (at layer) (plain layer.default_pixel)
+
+-- whether the point lies in the tile
+abbrev pub in_tile : Key → Point → Bool
+in_tile key p = same_key (key_of p) key
+
+-- the layer with a job's value on its shot, at the points of the job's writes in one tile
+unfoldable pub published : Job → Layer → Key → Layer → Layer
+published job shot key layer = painted (writes job) (in_tile key) (at (apply job shot)) layer

@@ -1,0 +1,13 @@
+pub mod Layers
+pub mod Jobs
+pub mod Forest
+pub mod Flat
+pub mod Picture
+pub mod Changes
+pub mod Least
+pub mod Strokes
+pub mod Lawful
+pub mod Meaning
+pub mod Laws
+pub mod Updates
+pub mod Codes

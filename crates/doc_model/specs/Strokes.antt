@@ -1,0 +1,150 @@
+-- Commands, the entries that they make, and conflicts of jobs.
+use Rattle.std.specs.Prelude.{ℕ, suc, ◌-◌, ◌==◌, Bool, true, false, ◌||◌, ◌&&◌, not, if◌then◌else◌, Option, Some, None, is_some, List, [], ◌∷◌, ◌++◌, map, length, take, slice_get}
+use Rattle.std.specs.List.{list_any}
+use Rattle.geom_core.specs.Areas.{Area, meets}
+use Rattle.doc_model.specs.declared.job.Job.{Job}
+use Rattle.doc_model.specs.declared.job.Kind.{Kind}
+use Rattle.doc_model.specs.declared.job.Kind.TheVariants.{Con, Seq, Bar, Uni}
+use Rattle.doc_model.specs.declared.tree.Change.{Change}
+use Rattle.doc_model.specs.declared.command.Command.{Command}
+use Rattle.doc_model.specs.declared.command.Command.TheVariants as command
+use Rattle.doc_model.specs.Jobs.{reads, writes}
+use Rattle.doc_model.specs.Least.{least, all_from}
+
+-- the jobs of a stroke with their kinds
+abbrev pub Jobs : Type 0
+Jobs = List (Kind × Job)
+
+-- whether a stroke was closed, and how
+pub data Fate : Type 0 where
+  Open : Fate
+  Ended : Fate
+  Cancelled : Fate
+
+-- a stroke as it was fed so far
+pub record Stroke : Type 0 where
+  pub no : ℕ
+  pub layer : ℕ
+  pub exclusive : Bool
+  pub jobs : Jobs
+  pub fate : Fate
+
+-- one entry
+pub data Entry : Type 0 where
+  Strokes : Stroke → Entry
+  Changes : Change → Entry
+  Undoes : Entry
+  Redoes : Entry
+  Purges : ℕ → Entry
+  Exports : Entry
+
+-- the stroke number n with one more job
+abbrev pub with_job : ℕ → Kind → Job → Entry → Entry
+with_job n kind job (Strokes s) = if s.no == n then Strokes (record s { jobs = s.jobs ++ (kind, job) ∷ [] }) else Strokes s
+with_job n kind job e = e
+
+-- the stroke number n with that fate
+abbrev pub with_fate : ℕ → Fate → Entry → Entry
+with_fate n fate (Strokes s) = if s.no == n then Strokes (record s { fate = fate }) else Strokes s
+with_fate n fate e = e
+
+-- the entries after one more command
+abbrev pub fed : List Entry → Command → List Entry
+fed es (command.Change change) = es ++ Changes change ∷ []
+fed es (command.Stroke n layer exclusive) = es ++ Strokes (record { no = n; layer = layer; exclusive = exclusive; jobs = []; fate = Open }) ∷ []
+fed es (command.Add n kind job) = map (with_job n kind job) es
+fed es (command.End n) = map (with_fate n Ended) es
+fed es (command.Cancel n) = map (with_fate n Cancelled) es
+fed es command.Undo = es ++ Undoes ∷ []
+fed es command.Redo = es ++ Redoes ∷ []
+fed es (command.Purge keep) = es ++ Purges keep ∷ []
+fed es command.Export = es ++ Exports ∷ []
+
+-- the entries after more commands
+abbrev pub all_fed : List Entry → List Command → List Entry
+all_fed es [] = es
+all_fed es (c ∷ cs) = all_fed (fed es c) cs
+
+-- the entries that the commands make
+abbrev pub entries : List Command → List Entry
+entries commands = all_fed [] commands
+
+-- whether a job may stand in a run
+abbrev pub runs : Kind → Bool
+runs Con = true
+runs Seq = false
+runs Bar = false
+runs Uni = true
+
+-- whether a job is uniquely concurrent
+abbrev pub is_uni : Kind → Bool
+is_uni Con = false
+is_uni Seq = false
+is_uni Bar = false
+is_uni Uni = true
+
+-- whether some rectangle of the one meets some of the other
+abbrev pub any_meet : List Area → List Area → Bool
+any_meet one other = list_any (λ a. list_any (λ b. meets a b) other) one
+
+-- whether both are there and pass the test
+abbrev pub some_both : {A B : Type 0} → Option A → Option B → (A → B → Bool) → Bool
+some_both None y test = false
+some_both (Some x) None test = false
+some_both (Some x) (Some y) test = test x y
+
+-- whether it is there and passes the test
+abbrev pub passes : {A : Type 0} → Option A → (A → Bool) → Bool
+passes None test = false
+passes (Some x) test = test x
+
+-- whether the job at a place may stand in a run; places count from 0
+abbrev pub runs_at : Jobs → ℕ → Bool
+runs_at jobs k = passes (slice_get jobs k) (λ (j : Kind × Job). runs j.0)
+
+-- whether the jobs at the places i to j stand in one run
+abbrev pub one_run : Jobs → ℕ → ℕ → Bool
+one_run jobs i j = all_from i (suc j - i) (runs_at jobs)
+
+-- whether one of the jobs writes what the other reads
+abbrev pub disturb : Job → Job → Bool
+disturb a b = any_meet (writes a) (reads b) || any_meet (writes b) (reads a)
+
+-- whether jobs of one run conflict
+abbrev pub clash : Kind × Job → Kind × Job → Bool
+clash a b = disturb a.1 b.1 && not (is_uni a.0 && is_uni b.0)
+
+-- whether the jobs at the places i and j conflict, i before j
+abbrev pub conflicting : Jobs → ℕ → ℕ → Bool
+conflicting jobs i j = one_run jobs i j && some_both (slice_get jobs i) (slice_get jobs j) clash
+
+-- the least index of a job before j that conflicts with it
+abbrev pub first_conflicting : Jobs → ℕ → Option ℕ
+first_conflicting jobs j = least j (λ i. conflicting jobs i j)
+
+-- the least index of a job that conflicts with one before it
+abbrev pub second_of : Jobs → Option ℕ
+second_of jobs = least (length jobs) (λ j. is_some (first_conflicting jobs j))
+
+-- the pair as numbers from 1
+abbrev pub pair_of : Option ℕ → ℕ → Option (ℕ × ℕ)
+pair_of None j = None
+pair_of (Some i) j = Some (suc i, suc j)
+
+-- the pair with that second index
+abbrev pub pair_at : Jobs → Option ℕ → Option (ℕ × ℕ)
+pair_at jobs None = None
+pair_at jobs (Some j) = pair_of (first_conflicting jobs j) j
+
+-- the conflicting pair with the least second number, and among these the least first; jobs are numbered from 1
+unfoldable pub conflict : Jobs → Option (ℕ × ℕ)
+conflict jobs = pair_at jobs (second_of jobs)
+
+-- the jobs before the second one of a pair, or all
+abbrev pub up_to : Jobs → Option (ℕ × ℕ) → Jobs
+up_to jobs None = jobs
+up_to jobs (Some pair) = take (pair.1 - 1) jobs
+
+-- the jobs before the second of the pair
+abbrev pub kept : Jobs → Jobs
+kept jobs = up_to jobs (conflict jobs)

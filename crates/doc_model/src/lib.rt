@@ -1,0 +1,17 @@
+//! Documents of layers and groups: the plain types, and the definitions of what they mean.
+#![tactic(auto)]
+
+mod canvas;
+mod command;
+mod job;
+mod laws;
+mod tree;
+
+pub use canvas::{Canvas, Patch, Walk};
+pub use command::{Command, Outcome};
+pub use job::{Job, Kind};
+pub use laws::{
+    job_laws, jobs_commute, redo_then_undo, refused_leaves_nothing, tiles_commute, undo_gives_back,
+    undo_then_redo,
+};
+pub use tree::{Change, Look, TreeFault};

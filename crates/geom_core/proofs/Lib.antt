@@ -1,0 +1,10 @@
+pub mod Tests
+pub mod Members
+pub mod Cells
+pub mod Keys
+pub mod Shifted
+pub mod Spots
+pub mod Tiles
+pub mod Common
+pub mod Counts
+pub mod Lying

@@ -1,0 +1,267 @@
+//! Rectangles of the world.
+ghost use Rattle.std.specs.Prelude.{IfSome, IfNone, false, length, slice_get, Some, ◌/◌, ◌*◌, nat_abs, ◌<ℤ◌, ◌⊎◌, MatchOption, negsuc, ◌≡◌, ℕ, ◌<◌, ◌≤◌, ◌+◌, ◌-◌, true, ◌&&◌, nat_lt, nat_le, ℤ, pos, ◌-ℤ◌, ◌+ℤ◌, ◌≤ℤ◌, int_le, int_lt, IfOk, OnOk, OnErr, MatchResult, SomeIff};
+ghost use Rattle.geom_core.specs.Areas.{IsShared, place_in, Area, area, holds, meets, clipped, bound, moved, right, bottom, world, IsRect, IsInWorld};
+ghost use Rattle.geom_core.specs.Points.{Point, point};
+ghost use Rattle.geom_core.specs.Grid.{keys_of, IsWorldKey};
+ghost use Rattle.geom_core.specs.Place.{IsOffset};
+
+use crate::{OutOfWorld, TileKey};
+use std::marker::Model;
+
+/// How far the world's corner lies to the left of 0 and above it.
+const CORNER: i32 = 16384;
+
+/// A rectangle of the world with at least one point.
+#[derive(Clone, Copy, Debug, PartialEq, Eq)]
+pub struct Rect {
+    left: u32,
+    top: u32,
+    w: u32,
+    h: u32,
+}
+
+impl Model for Rect {
+    ghost use Rattle.std.specs.Prelude.{◌≤◌, ◌+◌};
+    ghost use Rattle.geom_core.specs.Areas.{Area};
+
+    ghost Value = { Area };
+
+    ghost use Rattle.geom_core.specs.Place.{seen, kept, kept-seen};
+
+    ghost view = { seen };
+
+    ghost invariant = { λ r. (1 ≤ r.w) × (1 ≤ r.h) × (r.left + r.w ≤ 32768) × (r.top + r.h ≤ 32768) };
+
+    ghost inverse = { kept };
+
+    ghost inverse_ok = { λ a h. kept-seen a };
+}
+
+impl Rect {
+    pub fn new(x: i32, y: i32, w: u32, h: u32) -> Result<Rect, OutOfWorld>
+        requires w { 1 ≤ w × w ≤ 32768 }
+        requires h { 1 ≤ h × h ≤ 32768 }
+        ensures ok { IfOk result (λ r. r ≡ area x y w h) }
+        ensures inside { OnOk result (IsInWorld (area x y w h)) }
+        ensures outside { OnErr result (IsInWorld (area x y w h) → ⊥) }
+    {
+        if x < -CORNER || y < -CORNER || x >= CORNER || y >= CORNER {
+            return Err(OutOfWorld);
+        }
+        let left = (x + CORNER) as u32;
+        let top = (y + CORNER) as u32;
+        if left + w > 32768 || top + h > 32768 {
+            return Err(OutOfWorld);
+        }
+        Ok(Rect { left, top, w, h })
+    }
+
+    /// How far its left column lies from the world's.
+    pub fn left(&self) -> u32
+        ensures value { IsOffset result self.now.x }
+        ensures small { result + self.now.w ≤ 32768 }
+    {
+        self.left
+    }
+
+    /// How far its top row lies from the world's.
+    pub fn top(&self) -> u32
+        ensures value { IsOffset result self.now.y }
+        ensures small { result + self.now.h ≤ 32768 }
+    {
+        self.top
+    }
+
+    pub fn x(&self) -> i32
+        ensures value { result ≡ self.now.x }
+        ensures low { world.x ≤ℤ result }
+        ensures high { result ≤ℤ pos 16383 }
+    {
+        self.left as i32 - CORNER
+    }
+
+    pub fn y(&self) -> i32
+        ensures value { result ≡ self.now.y }
+        ensures low { world.y ≤ℤ result }
+        ensures high { result ≤ℤ pos 16383 }
+    {
+        self.top as i32 - CORNER
+    }
+
+    pub fn w(&self) -> u32
+        ensures value { result ≡ self.now.w }
+        ensures some { 1 ≤ result }
+        ensures small { result ≤ 32768 }
+    {
+        self.w
+    }
+
+    pub fn h(&self) -> u32
+        ensures value { result ≡ self.now.h }
+        ensures some { 1 ≤ result }
+        ensures small { result ≤ 32768 }
+    {
+        self.h
+    }
+
+    pub fn holds(&self, x: i32, y: i32) -> bool
+        ensures { result ≡ holds self.now (point x y) }
+    {
+        within(self.left, self.w, x) && within(self.top, self.h, y)
+    }
+
+    pub fn meets(&self, other: &Rect) -> bool
+        ensures { result ≡ meets self.now other.now }
+    {
+        crosses(self.left, self.w, other.left, other.w)
+            && crosses(self.top, self.h, other.top, other.h)
+    }
+
+    /// The common points. None where there are none.
+    pub fn clip(&self, other: &Rect) -> Option<Rect>
+        ensures value { result ≡ clipped self.now other.now }
+        ensures shared { IfSome result (IsShared self.now other.now) }
+        ensures apart { IfNone result ((p : Point) → holds self.now p ≡ true → holds other.now p ≡ false) }
+    {
+        if self.meets(other) {
+            let left = self.left.max(other.left);
+            let top = self.top.max(other.top);
+            let w = (self.left + self.w).min(other.left + other.w) - left;
+            let h = (self.top + self.h).min(other.top + other.h) - top;
+            Some(Rect { left, top, w, h })
+        } else {
+            None
+        }
+    }
+
+    /// The rectangle moved by (dx, dy).
+    pub fn moved(&self, dx: i32, dy: i32) -> Result<Rect, OutOfWorld>
+        requires dx { negsuc 32766 ≤ℤ dx × dx ≤ℤ pos 32767 }
+        requires dy { negsuc 32766 ≤ℤ dy × dy ≤ℤ pos 32767 }
+        ensures ok { IfOk result (λ r. r ≡ moved self.now dx dy) }
+        ensures inside { OnOk result (IsInWorld (moved self.now dx dy)) }
+        ensures outside { OnErr result (IsInWorld (moved self.now dx dy) → ⊥) }
+    {
+        let Some(left) = shifted(self.left, self.w, dx) else {
+            return Err(OutOfWorld);
+        };
+        let Some(top) = shifted(self.top, self.h, dy) else {
+            return Err(OutOfWorld);
+        };
+        Ok(Rect {
+            left,
+            top,
+            w: self.w,
+            h: self.h,
+        })
+    }
+
+    /// The least rectangle round both.
+    pub fn bound(&self, other: &Rect) -> Rect
+        ensures { result ≡ bound self.now other.now }
+    {
+        let left = self.left.min(other.left);
+        let top = self.top.min(other.top);
+        let w = (self.left + self.w).max(other.left + other.w) - left;
+        let h = (self.top + self.h).max(other.top + other.h) - top;
+        Rect { left, top, w, h }
+    }
+}
+
+impl Rect {
+    /// Where a point stands among its points in row order.
+    pub fn place(&self, x: i32, y: i32) -> usize
+        requires { holds self.now (point x y) ≡ true }
+        ensures value { result ≡ place_in self.now (point x y) }
+        ensures inside { result < self.now.h * self.now.w }
+    {
+        let row = behind(self.top, self.h, y) as usize;
+        let col = behind(self.left, self.w, x) as usize;
+        row * self.w as usize + col
+    }
+
+    /// How many tiles it meets.
+    pub fn tile_count(&self) -> u32
+        ensures value { result ≡ length (keys_of self.now) }
+        ensures small { result ≤ 262144 }
+    {
+        let cols = pieces(self.left, self.w);
+        let rows = pieces(self.top, self.h);
+        cols * rows
+    }
+
+    /// The tile at place i of those that it meets, in row order.
+    pub fn tile_at(&self, i: u32) -> TileKey
+        requires { i < length (keys_of self.now) }
+        ensures value { slice_get (keys_of self.now) i ≡ Some result }
+        ensures world { IsWorldKey result }
+    {
+        let cols = pieces(self.left, self.w);
+        TileKey::from_corner(self.left / 64 + i % cols, self.top / 64 + i / cols)
+    }
+
+    /// The tile of a column and a row, which count from the world's corner.
+    pub(crate) fn of_tile(col: u32, row: u32) -> Rect
+        requires col { col < 512 }
+        requires row { row < 512 }
+        ensures { result ≡ area (pos (64 * col) -ℤ pos 16384) (pos (64 * row) -ℤ pos 16384) 64 64 }
+    {
+        Rect {
+            left: 64 * col,
+            top: 64 * row,
+            w: 64,
+            h: 64,
+        }
+    }
+}
+
+/// Whether x is one of the n numbers from a on, which counts from the world's edge.
+fn within(a: u32, n: u32, x: i32) -> bool
+    requires { a + n ≤ 32768 }
+    ensures { result ≡ (int_le (pos a -ℤ pos 16384) x && int_lt x ((pos a -ℤ pos 16384) +ℤ pos n)) }
+{
+    a as i32 - CORNER <= x && x < a as i32 - CORNER + n as i32
+}
+
+fn crosses(a: u32, n: u32, b: u32, m: u32) -> bool
+    requires first { a + n ≤ 32768 }
+    requires second { b + m ≤ 32768 }
+    ensures { result ≡ (nat_lt a (b + m) && nat_lt b (a + n)) }
+{
+    a < b + m && b < a + n
+}
+
+/// Where the n numbers from a on, which count from the world's edge, begin after they are moved by d.
+/// None where some of them are outside then.
+fn shifted(a: u32, n: u32, d: i32) -> Option<u32>
+    requires inside { a + n ≤ 32768 }
+    requires d { negsuc 32766 ≤ℤ d × d ≤ℤ pos 32767 }
+    ensures { MatchOption result ((pos a +ℤ d) <ℤ pos 0 ⊎ pos (32768 - n) <ℤ (pos a +ℤ d)) (λ b. (pos b ≡ pos a +ℤ d) × (b + n ≤ 32768)) }
+{
+    let b = a as i32 + d;
+    if b < 0 || b > 32768 - n as i32 {
+        return None;
+    }
+    Some(b as u32)
+}
+
+/// How far x lies behind a, which counts from the world's edge.
+fn behind(a: u32, n: u32, x: i32) -> u32
+    requires inside { a + n ≤ 32768 }
+    requires held { (int_le (pos a -ℤ pos 16384) x && int_lt x ((pos a -ℤ pos 16384) +ℤ pos n)) ≡ true }
+    ensures value { result ≡ nat_abs (x -ℤ (pos a -ℤ pos 16384)) }
+    ensures small { result < n }
+{
+    (x + CORNER) as u32 - a
+}
+
+/// How many pieces of 64 the n numbers from a on meet.
+fn pieces(a: u32, n: u32) -> u32
+    requires some { 1 ≤ n }
+    requires inside { a + n ≤ 32768 }
+    ensures value { result ≡ (a + n - 1) / 64 + 1 - a / 64 }
+    ensures some { 1 ≤ result }
+    ensures inside { a / 64 + result ≤ 512 }
+{
+    (a + n - 1) / 64 + 1 - a / 64
+}
