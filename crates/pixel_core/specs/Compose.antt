@@ -1,7 +1,8 @@
 -- Laying a source on a backdrop, by the equations of W3C's Compositing and Blending Level 1, in whole numbers.
 --
--- Alphas and colours are 255ths, and colours aren't premultiplied. The equations, in fractions of 1, are
---   co = cs x αs + cb x αb x (1 - αs) and αo = αs + αb x (1 - αs)     section 5.1, simple alpha compositing
+-- Alphas and colours are 255ths, and colours aren't premultiplied. The equations, in fractions of 1 and with a small co
+-- for the result's premultiplied colour, are
+--   co = Cs x αs + Cb x αb x (1 - αs) and αo = αs + αb x (1 - αs)     section 5.1, simple alpha compositing
 --   Cs = (1 - αb) x Cs + αb x B(Cb, Cs)                               section 10, the source's colour after blending
 --   B = Cs for normal, Cb x Cs for multiply, Cb + Cs - Cb x Cs for screen     section 10
 --   co = αb x Cb x (1 - αs) and αo = αb x (1 - αs)                    section 9.1, destination out

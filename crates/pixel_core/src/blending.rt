@@ -27,7 +27,7 @@ pub enum Op {
 /// `s` laid on `d` with a strength of `m` 255ths.
 ///
 /// The source's alpha is `mul(s.a, m)`. The result's alpha is αs + αb x (1 - αs), and its colour
-/// follows from co = cs x αs + cb x αb x (1 - αs) after blending, by W3C's Compositing and Blending
+/// follows from co = Cs x αs + Cb x αb x (1 - αs) after blending, by W3C's Compositing and Blending
 /// Level 1, sections 5.1 and 10. Each channel of the result is rounded once, to the nearest 255th.
 #[inline]
 pub fn compose(op: Op, s: Pixel, d: Pixel, m: u8) -> Pixel

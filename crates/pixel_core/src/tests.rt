@@ -30,7 +30,7 @@ fn compose_exactly(op: Op, cs: u64, sa: u64, cb: u64, ba: u64) -> Exact {
         .wrapping_mul(cs)
         .wrapping_mul(255)
         .wrapping_add(ba.wrapping_mul(exact_blend(op, cs, cb)));
-    // co = cs x αs + cb x αb x (1 - αs)
+    // co = Cs x αs + Cb x αb x (1 - αs)
     let colour = blended
         .wrapping_mul(sa)
         .wrapping_add(cb.wrapping_mul(255).wrapping_mul(ba).wrapping_mul(not_sa));
