@@ -8,3 +8,4 @@ pub mod Tiles
 pub mod Common
 pub mod Counts
 pub mod Lying
+pub mod Parts

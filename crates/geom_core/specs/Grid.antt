@@ -10,7 +10,7 @@ use Rattle.std.specs.FinSet.{FinSet}
 use Rattle.geom_core.specs.Points.{Point}
 use Rattle.geom_core.specs.declared.key.TileKey.{TileKey}
 use Rattle.std.specs.Prelude.{◌≤ℤ◌, ◌<ℤ◌}
-use Rattle.geom_core.specs.Areas.{Area, area, right, bottom, clipped}
+use Rattle.geom_core.specs.Areas.{Area, area, right, bottom, clipped, common}
 use Rattle.std.specs.Coded.{Coded, code_by, coded×, coded_ℤ}
 use Rattle.std.proofs.Common.{ap, refl}
 use Rattle.std.proofs.lemmas.Cmp.{on_total, then_total, int_cmp_total}
@@ -101,6 +101,14 @@ cell_of a = key (floor_by 256 a.x) (floor_by 256 a.y)
 -- the parts of a rectangle by the cells, in row order
 abbrev pub parts : Area → List Area
 parts a = filter_map (clipped a) cells
+
+-- the cells that a rectangle meets, by their columns and rows, in row order
+abbrev pub cell_keys_of : Area → List Key
+cell_keys_of a = keys_in_rows (pieces 256 a.x (right a -ℤ pos 1)) (pieces 256 a.y (bottom a -ℤ pos 1))
+
+-- the parts of any rectangle in the cells that it meets, in row order
+abbrev pub cells_of : Area → List Area
+cells_of a = map (λ k. common a (cell k)) (cell_keys_of a)
 
 -- the code by which contracts tell keys apart
 abbrev pub key_code : Coded Key

@@ -1,4 +1,5 @@
-//! The world: rectangles, tiles and cells.
+//! The world of points: its rectangles, its tiles of 64 by 64 points, by which layers keep their
+//! pixels, and its cells of 256 by 256, by which updates are queued.
 #![tactic(auto, using(crate::proofs::Shifted::shifted))]
 
 mod key;
@@ -8,11 +9,11 @@ pub use key::{TileKey, tile_of};
 pub use rect::Rect;
 use std::alloc::{AllocError, AllocFailed};
 
-/// No memory was left. The object is as it was before the call.
+/// No memory was left. Where a call doesn't say otherwise, all is as it was before it.
 #[derive(Clone, Copy, Debug, PartialEq, Eq)]
 pub struct NoMemory;
 
-/// A point is outside the world.
+/// A point would lie outside the world, whose x and y go from -16384 to 16383.
 #[derive(Clone, Copy, Debug, PartialEq, Eq)]
 pub struct OutOfWorld;
 
@@ -26,4 +27,13 @@ impl<T: Drop> From<AllocFailed<T>> for NoMemory {
     fn from(_e: AllocFailed<T>) -> NoMemory {
         NoMemory
     }
+}
+
+/// What a change of tiles has touched.
+#[derive(Clone, Copy, Debug, PartialEq, Eq)]
+pub struct Touched {
+    /// How many tiles were exchanged.
+    pub count: u32,
+    /// The least rectangle round these tiles. None exactly where there are none.
+    pub bound: Option<Rect>,
 }
