@@ -8,13 +8,16 @@ mod rect;
 pub use key::{TileKey, tile_of};
 pub use rect::Rect;
 use std::alloc::{AllocError, AllocFailed};
+use thiserror::Error;
 
 /// No memory was left. Where a call doesn't say otherwise, all is as it was before it.
-#[derive(Clone, Copy, Debug, PartialEq, Eq)]
+#[derive(Clone, Copy, Debug, PartialEq, Eq, Error)]
+#[error("no memory was left")]
 pub struct NoMemory;
 
 /// A point would lie outside the world, whose x and y go from -16384 to 16383.
-#[derive(Clone, Copy, Debug, PartialEq, Eq)]
+#[derive(Clone, Copy, Debug, PartialEq, Eq, Error)]
+#[error("a point lies outside the world")]
 pub struct OutOfWorld;
 
 impl From<AllocError> for NoMemory {
