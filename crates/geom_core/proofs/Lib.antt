@@ -9,3 +9,8 @@ pub mod Common
 pub mod Counts
 pub mod Lying
 pub mod Parts
+pub mod Bounds
+pub mod Order
+pub mod Axes
+pub mod Whole
+pub mod Canvas

@@ -3,6 +3,7 @@
 #![tactic(auto, using(crate::proofs::Shifted::shifted))]
 
 mod key;
+pub mod laws;
 mod rect;
 
 pub use key::{TileKey, tile_of};
