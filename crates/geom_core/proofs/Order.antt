@@ -44,9 +44,10 @@ rows_below m x y c (suc n) h = each-append (λ (k : Key). m <ℤ k.row) (keys_in
 sorted_row : (x r : ℤ) (c : ℕ) (rest : List Key) → AllByRecursion (λ (k : Key). r <ℤ k.row) rest → IsStrictlySortedBy key_cmp rest → IsStrictlySortedBy key_cmp (keys_in_row (count_from x c) r ++ rest)
 unfolding IsStrictlySortedBy
 sorted_row x r zero rest b s = s
-sorted_row x r (suc c) rest b s =
-    (each-append (λ k. key_cmp (key x r) k ≡ Less) (keys_in_row (count_from (x +ℤ pos 1) c) r) rest (row_after x (x +ℤ pos 1) r c (next x)) (each_so (λ (k : Key). r <ℤ k.row) (λ k. key_cmp (key x r) k ≡ Less) (λ k h. row_first (key x r) k h) rest b),
-    sorted_row (x +ℤ pos 1) r c rest b s)
+sorted_row x r (suc c) rest b s = (
+  each-append (λ k. key_cmp (key x r) k ≡ Less) (keys_in_row (count_from (x +ℤ pos 1) c) r) rest (row_after x (x +ℤ pos 1) r c (next x)) (each_so (λ (k : Key). r <ℤ k.row) (λ k. key_cmp (key x r) k ≡ Less) (λ k h. row_first (key x r) k h) rest b),
+  sorted_row (x +ℤ pos 1) r c rest b s,
+)
 
 sorted_rows : (x y : ℤ) (c n : ℕ) → IsStrictlySortedBy key_cmp (keys_in_rows (count_from x c) (count_from y n))
 unfolding IsStrictlySortedBy

@@ -5,6 +5,8 @@
 mod key;
 pub mod laws;
 mod rect;
+#[cfg(test)]
+mod tests;
 
 pub use key::{TileKey, tile_of};
 pub use rect::Rect;
