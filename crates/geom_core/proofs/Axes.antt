@@ -1,9 +1,9 @@
 -- Along one axis: which pieces of 64 and of 256 the n numbers from a on meet.
-use Rattle.std.proofs.Common.{◌≡◌, ℕ, ◌≤◌, Bool, true, ◌&&◌, ap, ◌∙◌, arith}
-use Rattle.std.specs.Prelude.{ℤ, pos, negsuc, ◌+ℤ◌, ◌-ℤ◌, ◌*ℤ◌, int_le, int_lt, nat_abs, ◌≤ℤ◌, ◌<ℤ◌}
+use Rattle.std.proofs.Common.{◌≡◌, ℕ, ◌≤◌, ◌&&◌, ap, ◌∙◌, arith}
+use Rattle.std.specs.Prelude.{ℤ, pos, negsuc, ◌+ℤ◌, ◌-ℤ◌, ◌*ℤ◌, int_le, int_lt, ◌≤ℤ◌, ◌<ℤ◌}
 use borrow.Author.Differences.{ints}
-use Rattle.geom_core.specs.Areas.{Area, meets}
-use Rattle.geom_core.specs.Grid.{floor_by, how_many, tile, keys_of}
+use Rattle.geom_core.specs.Areas.{meets}
+use Rattle.geom_core.specs.Grid.{floor_by, how_many, tile}
 use Rattle.geom_core.specs.Laws.{TilesAreMet}
 use Rattle.geom_core.proofs.Order.{each_once, same_both}
 

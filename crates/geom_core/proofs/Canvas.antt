@@ -1,12 +1,12 @@
 -- In the largest canvas the cells of a rectangle are its parts.
-use Rattle.std.proofs.Common.{◌≡◌, ℕ, suc, zero, ◌+◌, ◌-◌, ◌≤◌, ◌<◌, Bool, true, false, ◌&&◌, List, [], ◌∷◌, ◌++◌, map, Option, Some, None, cond, refl, sym, ap, ◌∙◌, arith}
+use Rattle.std.proofs.Common.{◌≡◌, ℕ, suc, zero, ◌+◌, ◌-◌, ◌≤◌, Bool, true, false, ◌&&◌, List, [], ◌∷◌, ◌++◌, map, Some, None, cond, refl, sym, ap, ◌∙◌, arith}
 use Rattle.std.specs.Prelude.{ℤ, pos, ◌+ℤ◌, ◌-ℤ◌, ◌*ℤ◌, int_le, int_lt, nat_abs, ◌≤ℤ◌, ◌<ℤ◌}
 use Rattle.std.specs.List.{filter, filter_map}
 use Rattle.std.proofs.lemmas.List.{append-nil}
 use Rattle.std.proofs.lemmas.List.Elements.{filter-append}
 use borrow.Author.Differences.{ints}
-use Rattle.geom_core.specs.Areas.{Area, area, meets, common, lies_in, right, bottom}
-use Rattle.geom_core.specs.Grid.{Key, key, cell, cells, cell_keys_of, parts, floor_by, how_many, pieces, count_from, keys_in_row, keys_in_rows}
+use Rattle.geom_core.specs.Areas.{meets, common}
+use Rattle.geom_core.specs.Grid.{Key, cell, cells, floor_by, how_many, pieces, count_from, keys_in_row, keys_in_rows}
 use Rattle.geom_core.specs.Laws.{PartsAreCells}
 use Rattle.geom_core.proofs.Tests.{and_left, and_right}
 use Rattle.geom_core.proofs.Axes.{InPiece, in_cell, cell_met, cells_rise}

@@ -1,5 +1,5 @@
 -- The keys of a block of columns and rows, each once and in row order.
-use Rattle.std.proofs.Common.{◌≡◌, ℕ, suc, zero, Bool, ◌&&◌, List, [], ◌∷◌, ◌++◌, ap, ◌∙◌, arith, Less}
+use Rattle.std.proofs.Common.{◌≡◌, ℕ, suc, zero, Bool, ◌&&◌, List, [], ◌∷◌, ◌++◌, ◌∙◌, arith, Less}
 use Rattle.std.specs.Prelude.{ℤ, pos, ◌+ℤ◌, int_le, int_lt, ◌<ℤ◌}
 use Rattle.std.specs.List.{AllByRecursion}
 use Rattle.std.specs.List.Sorted.{IsStrictlySortedBy}

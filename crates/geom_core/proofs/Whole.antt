@@ -1,12 +1,12 @@
 -- A rectangle is parted by its cells.
-use Rattle.std.proofs.Common.{◌≡◌, ℕ, ◌+◌, ◌*◌, ◌≤◌, Bool, true, false, ◌&&◌, ◌||◌, List, [], ◌∷◌, map, refl, sym, ap, ◌∙◌, arith}
-use Rattle.std.specs.Prelude.{ℤ, pos, ◌+ℤ◌, ◌-ℤ◌, ◌*ℤ◌, int_le, int_lt, nat_abs, ◌≤ℤ◌, ◌<ℤ◌}
-use Rattle.std.specs.Int.{int_max, int_min}
+use Rattle.std.proofs.Common.{◌≡◌, ℕ, ◌*◌, ◌≤◌, Bool, true, false, ◌&&◌, ◌||◌, List, [], ◌∷◌, refl, sym, ap, ◌∙◌, arith}
+use Rattle.std.specs.Prelude.{ℤ, pos, ◌+ℤ◌, ◌-ℤ◌, ◌*ℤ◌, int_le, int_lt, ◌≤ℤ◌, ◌<ℤ◌}
+use Rattle.std.specs.Int.{int_max}
 use Rattle.std.specs.List.{list_any}
 use borrow.Author.Differences.{ints}
 use Rattle.geom_core.specs.Points.{Point}
 use Rattle.geom_core.specs.Areas.{Area, holds, any_holds, meets, common, length_between, right, bottom}
-use Rattle.geom_core.specs.Grid.{Key, cell, cell_keys_of, cells_of, floor_by, how_many, pieces}
+use Rattle.geom_core.specs.Grid.{cell, cell_keys_of, cells_of, floor_by, how_many, pieces}
 use Rattle.geom_core.specs.Laws.{CellsAreMet}
 use Rattle.geom_core.proofs.Tests.{and_left, and_right, both_true}
 use Rattle.geom_core.proofs.Common.{shared_common, crossed}

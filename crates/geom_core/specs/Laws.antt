@@ -1,5 +1,5 @@
 -- What holds of every rectangle, its tiles and its cells.
-use Rattle.std.specs.Prelude.{◌≡◌, ℕ, ◌≤◌, true, Bool, List, pos}
+use Rattle.std.specs.Prelude.{◌≡◌, ◌≤◌, true, Bool, List, pos}
 use Rattle.std.specs.List.{list_any, IsDistinct}
 use Rattle.std.specs.List.Sorted.{IsStrictlySortedBy}
 use Rattle.geom_core.specs.Points.{Point}

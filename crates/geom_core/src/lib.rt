@@ -2,11 +2,11 @@
 //! pixels, and its cells of 256 by 256, by which updates are queued.
 #![tactic(auto, using(crate::proofs::Shifted::shifted))]
 
+#[cfg(test)]
+mod by_hand;
 mod key;
 pub mod laws;
 mod rect;
-#[cfg(test)]
-mod tests;
 
 pub use key::{TileKey, tile_of};
 pub use rect::Rect;
