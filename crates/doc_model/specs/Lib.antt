@@ -11,3 +11,6 @@ pub mod Meaning
 pub mod Laws
 pub mod Updates
 pub mod Codes
+pub mod Canvases
+pub mod Outcomes
+pub mod Readers

@@ -1,5 +1,8 @@
 //! What is asked of a document, and how it ends.
 
+ghost use Rattle.std.specs.Prelude.{◌≡◌};
+ghost use Rattle.doc_model.specs.Outcomes.{refused};
+
 use crate::job::{Job, Kind};
 use crate::tree::{Change, TreeFault};
 
@@ -42,4 +45,13 @@ pub enum Outcome {
     Tree(TreeFault),
     NothingToUndo,
     NothingToRedo,
+}
+
+impl Outcome {
+    /// Whether the entry was refused: false exactly for `Done` and `Cancelled`.
+    pub fn refused(&self) -> bool
+        ensures { result ≡ refused self.now }
+    {
+        !matches!(self, Outcome::Done | Outcome::Cancelled)
+    }
 }

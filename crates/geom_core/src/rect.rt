@@ -37,6 +37,20 @@ impl Model for Rect {
     ghost inverse_ok = { λ a h. kept-seen a };
 }
 
+/// The point (0, 0) alone. It fills the unused places of lists of a fixed capacity.
+impl Default for Rect {
+    ghost is_default = { λ r. r ≡ area (pos 0) (pos 0) 1 1 };
+
+    fn default() -> Rect {
+        Rect {
+            left: CORNER as u32,
+            top: CORNER as u32,
+            w: 1,
+            h: 1,
+        }
+    }
+}
+
 impl Rect {
     pub fn new(x: i32, y: i32, w: u32, h: u32) -> Result<Rect, OutOfWorld>
         requires w { 1 ≤ w × w ≤ 32768 }
