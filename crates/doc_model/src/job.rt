@@ -124,7 +124,10 @@ impl Job {
         match *self {
             Job::Fill { rect, .. } => Ok(one(in_world(rect))),
             Job::Dab { x, y, r, .. } => Ok(one(square_round(x, y, r)?)),
-            Job::Move { rect, dx, dy } => Ok(ArrayVec::from([in_world(rect), displaced(&rect, dx, dy)?])),
+            Job::Move { rect, dx, dy } => Ok(ArrayVec::from([
+                in_world(rect),
+                displaced(&rect, dx, dy)?,
+            ])),
             Job::Blur { rect, r } => Ok(one(grown_by(&rect, r)?)),
         }
     }

@@ -5,6 +5,8 @@ mod canvas;
 mod command;
 mod job;
 mod laws;
+#[cfg(test)]
+mod tests;
 mod tree;
 
 pub use canvas::{Canvas, Patch, Walk};
