@@ -1,9 +1,8 @@
 -- Jobs disturb each other both ways.
 use Rattle.std.proofs.Common.{◌≡◌, Bool, true, false, ◌&&◌, ◌||◌, not, refl}
 use Rattle.doc_model.specs.declared.job.Job.{Job}
-use Rattle.doc_model.specs.declared.job.Kind.{Kind}
 use Rattle.doc_model.specs.Jobs.{reads, writes}
-use Rattle.doc_model.specs.Strokes.{any_meet, disturb, clash, is_uni}
+use Rattle.doc_model.specs.Strokes.{any_meet, disturb, is_uni}
 use Rattle.doc_model.specs.Laws.{ConflictsBothWays}
 
 either_way : (a b : Bool) → (a || b) ≡ (b || a)

@@ -1,14 +1,11 @@
 -- Every document that entries reach is within the limits.
-use Rattle.std.proofs.Common.{◌≡◌, ℕ, suc, ◌≤◌, max, Ok, refl, ap, arith}
-use Rattle.doc_model.specs.declared.canvas.Canvas.{Canvas}
-use Rattle.doc_model.specs.declared.tree.Change.{Change}
+use Rattle.std.proofs.Common.{◌≡◌, ℕ, suc, ◌≤◌, max, refl, ap, arith}
 use Rattle.doc_model.specs.Layers.{Layer, plain}
 use Rattle.doc_model.specs.Forest.{Forest, none, paint, group, count, height, with_content}
 use Rattle.doc_model.specs.Picture.{Doc}
-use Rattle.doc_model.specs.Changes.{changed}
 use Rattle.doc_model.specs.Meaning.{start}
 use Rattle.doc_model.specs.Laws.{IsDocument, ChangesKeepLimits, MeaningKeepsLimits}
-use Rattle.doc_model.proofs.Weights.{weight, weight_count, weight_with_content, tree_none, tree_with_content}
+use Rattle.doc_model.proofs.Weights.{weight_count, weight_with_content, tree_none, tree_with_content}
 use Rattle.doc_model.proofs.TreeChanges.{tree_changed, count_changed}
 use Rattle.doc_model.proofs.Heights.{height_changed}
 use Rattle.doc_model.proofs.Reached.{each_told_all}

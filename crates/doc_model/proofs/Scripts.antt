@@ -1,5 +1,5 @@
 -- Whole scripts and what they mean, by computing.
-use Rattle.std.proofs.Common.{◌≡◌, refl, List, [], ◌∷◌, Some, None, pos, true, false, ℕ, replicate, ◌++◌}
+use Rattle.std.proofs.Common.{◌≡◌, refl, List, [], ◌∷◌, pos, true, false, ℕ}
 use Rattle.pixel_core.specs.Rgba.{Rgba, rgba, clear}
 use Rattle.pixel_core.specs.Bytes.{mul}
 use Rattle.pixel_core.specs.Compose.{compose}
@@ -8,7 +8,6 @@ use Rattle.geom_core.specs.Areas.{area}
 use Rattle.doc_model.specs.declared.job.Job.{Job}
 use Rattle.doc_model.specs.declared.job.Job.TheVariants.{Fill, Move}
 use Rattle.doc_model.specs.declared.job.Kind.TheVariants.{Con, Seq, Bar, Uni}
-use Rattle.doc_model.specs.declared.canvas.Canvas.{Canvas}
 use Rattle.doc_model.specs.declared.command.Command.{Command}
 use Rattle.doc_model.specs.declared.command.Command.TheVariants.{Change, Stroke, Add, End, Cancel, Undo, Redo, Purge, Export}
 use Rattle.doc_model.specs.declared.command.Outcome.TheVariants as outcome

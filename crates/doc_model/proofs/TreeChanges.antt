@@ -1,6 +1,5 @@
 -- Documents that changes reach have each id once at most, and never 0, and at most 256 nodes.
-use Rattle.std.proofs.Common.{◌≡◌, ◌≢◌, ℕ, suc, zero, ◌+◌, ◌≤◌, Bool, true, false, ◌||◌, not, cond, Option, Some, None, Result, Ok, Err, List, [], ◌∷◌, take, refl, ap, ◌∙◌, arith, eqb, ltb, subst}
-use Rattle.std.specs.List.{AllByRecursion}
+use Rattle.std.proofs.Common.{◌≡◌, ◌≢◌, ℕ, ◌+◌, ◌≤◌, Bool, true, false, ◌||◌, not, cond, Option, Some, None, Result, Ok, Err, List, [], ◌∷◌, refl, ap, ◌∙◌, arith, eqb, ltb, subst}
 use Rattle.std.proofs.lemmas.Bool.Decides.{nat_tests}
 use Rattle.doc_model.specs.declared.tree.Look.{Look}
 use Rattle.doc_model.specs.declared.canvas.Canvas.{Canvas}
@@ -10,12 +9,12 @@ use Rattle.doc_model.specs.declared.tree.TreeFault.{TreeFault}
 use Rattle.doc_model.specs.declared.tree.TreeFault.TheVariants.{Taken, NoNode, NotGroup, IntoItself, TreeFull, TooDeep, BadPlace}
 use Rattle.pixel_core.specs.Rgba.{Rgba}
 use Rattle.doc_model.specs.Layers.{Layer, plain}
-use Rattle.doc_model.specs.Forest.{Forest, none, paint, group, count, has, height, depth, inserted, without, only, content, with_look}
+use Rattle.doc_model.specs.Forest.{Forest, none, paint, group, count, has, height, depth, inserted, without, only, with_look}
 use Rattle.doc_model.specs.Laws.{EachDoc}
 use Rattle.doc_model.proofs.Reached.{each_told, each_told_all}
 use Rattle.doc_model.specs.Changes.{changed, answer, first_of_faults, no_new, no_place, no_node, there, takes, child_count, set_in, new_look}
-use Rattle.doc_model.specs.Strokes.{Stroke, Fate, Open, Ended, Cancelled, Entry, Strokes, Changes, Undoes, Redoes, Purges, Exports, conflict}
-use Rattle.doc_model.specs.Meaning.{Story, start, told, told_all, told_stroke, closed_stroke, laid_stroke, told_change, undone, redone, meaning}
+use Rattle.doc_model.specs.Strokes.{Entry}
+use Rattle.doc_model.specs.Meaning.{Story, start, told, told_all, meaning}
 use Rattle.doc_model.proofs.Weights.{weight, mark, times, IsTree, weight_inserted, weight_within, weight_parts, weight_with_look, weight_count, tree_none, tree_with_content, none_there}
 
 -- a new document comes where no test passed

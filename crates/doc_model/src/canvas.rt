@@ -40,6 +40,8 @@ pub enum Walk {
 /// An update that waits: the groups and the rectangle.
 #[derive(Clone, Copy, Debug, PartialEq, Eq)]
 pub struct Patch {
+    /// Which groups are composed anew.
     pub walk: Walk,
+    /// Where they are.
     pub rect: Rect,
 }

@@ -1,7 +1,7 @@
 use Rattle.std.proofs.Common.{◌≡◌, ℤ, pos, negsuc, Bool, false, ◌&&◌, ap, sym, ◌∙◌, to_z, of_z, w32, arith}
 use Rattle.std.specs.Prelude.{int_le}
 use borrow.Author.Differences.{ints}
-use Rattle.geom_core.specs.Areas.{Area, moved}
+use Rattle.geom_core.specs.Areas.{moved}
 use Rattle.doc_model.proofs.InWorld.{ok_inside, err_outside, far_across, far_down}
 use Rattle.doc_model.proofs.job.displaced.Goals as goal
 use Rattle.doc_model.proofs.job.displaced.Goals.{then-not-is_step-via-then-not-is_step, then-not-is_step-via-else-not-is_step+then-not-is_step-2}

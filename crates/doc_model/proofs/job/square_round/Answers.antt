@@ -1,6 +1,6 @@
-use Rattle.std.proofs.Common.{◌≡◌, ℤ, pos, ◌-ℤ◌, ◌+◌, ◌*◌, to_z, of_z, w32, arith}
+use Rattle.std.proofs.Common.{◌≡◌, pos, ◌-ℤ◌, ◌+◌, ◌*◌, to_z, of_z, w32, arith}
 use borrow.Author.Differences.{ints}
-use Rattle.geom_core.specs.Areas.{Area, area}
+use Rattle.geom_core.specs.Areas.{area}
 use Rattle.doc_model.specs.Jobs.{square}
 use Rattle.doc_model.proofs.InWorld.{same_value, ok_inside, err_outside}
 use Rattle.doc_model.proofs.job.square_round.Goals as goal
