@@ -41,6 +41,20 @@ impl Model for Rect {
     ghost inverse_ok = { λ a h. kept-seen a };
 }
 
+/// The point (0, 0) alone. It fills the unused places of lists of a fixed capacity.
+impl Default for Rect {
+    ghost is_default = { λ r. r ≡ area (pos 0) (pos 0) 1 1 };
+
+    fn default() -> Rect {
+        Rect {
+            left: CORNER as u32,
+            top: CORNER as u32,
+            w: 1,
+            h: 1,
+        }
+    }
+}
+
 impl Rect {
     /// The rectangle of w columns from x on and h rows from y on, each 1 to 32,768.
     /// `OutOfWorld` exactly where a corner point lies outside the world.
