@@ -1,0 +1,5 @@
+pub mod Lines
+pub mod Fields
+pub mod Drawing
+pub mod Form
+pub mod Refusal
