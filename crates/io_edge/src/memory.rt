@@ -184,10 +184,7 @@ impl Sink for MemSink {
             self.faults = self.faults.saturating_add(1);
             return Err(Failed);
         }
-        let n = piece
-            .len()
-            .min(self.most)
-            .min(self.room.len() - self.len);
+        let n = piece.len().min(self.most).min(self.room.len() - self.len);
         self.room[self.len..self.len + n].copy_from_slice(&piece[..n]);
         self.len += n;
         Ok(n)

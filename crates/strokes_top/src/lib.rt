@@ -12,6 +12,5 @@ pub use command::run;
 pub use status::Status;
 pub use words::Words;
 
-
 #[cfg(test)]
 mod tests;

@@ -22,13 +22,12 @@ fn filled(command: &Command, x: i32, y: i32, old: Pixel) -> Pixel
 {
     match *command {
         Command::Add {
-            job:
-                Job::Fill {
-                    rect,
-                    colour,
-                    op,
-                    strength,
-                },
+            job: Job::Fill {
+                rect,
+                colour,
+                op,
+                strength,
+            },
             ..
         } => {
             if rect.holds(x, y) {

@@ -42,7 +42,10 @@ pub fn report<E: Sink>(alloc: Global, err: &mut E, status: Status) -> Status
 {
     match status {
         Status::Done => {}
-        Status::Usage => tell(err, b"strokes: usage: strokes [--workers N] [--emit picture|log|sum] [--demo NUMBER]\n"),
+        Status::Usage => tell(
+            err,
+            b"strokes: usage: strokes [--workers N] [--emit picture|log|sum] [--demo NUMBER]\n",
+        ),
         Status::Script { line, cause } => {
             let Ok(text) = script_line(alloc, line, cause) else {
                 tell(err, b"strokes: out of memory\n");

@@ -49,23 +49,48 @@ fn source_of(alloc: Global, script: &[u8], failing: u32) -> Result<MemSource, Fa
 fn pictures(rt: HostRuntime) -> Result<(), Fail> {
     let got = ran(&rt, rt.alloc(), None, source_of(rt.alloc(), SCRIPT, 0)?, 0)?;
     assert_eq!(rt; got.code, 0);
-    assert_eq!(rt; got.out.as_slice(), b"P6\n1 1\n255\n\xff\x7f\x7f".as_slice());
+    assert_eq!(rt;
+        got.out.as_slice(),
+        b"P6\n1 1\n255\n\xff\x7f\x7f".as_slice()
+    );
     assert_eq!(rt; got.err.as_slice(), b"".as_slice());
-    let got = ran(&rt, rt.alloc(), None, source_of(rt.alloc(), UNPAINTED, 0)?, 0)?;
+    let got = ran(
+        &rt,
+        rt.alloc(),
+        None,
+        source_of(rt.alloc(), UNPAINTED, 0)?,
+        0,
+    )?;
     assert_eq!(rt; got.code, 0);
-    assert_eq!(rt; got.out.as_slice(), b"P6\n1 1\n255\n\xff\xff\xff".as_slice());
+    assert_eq!(rt;
+        got.out.as_slice(),
+        b"P6\n1 1\n255\n\xff\xff\xff".as_slice()
+    );
     Ok(())
 }
 
 #[test]
 fn refusals(rt: HostRuntime) -> Result<(), Fail> {
-    let got = ran(&rt, rt.alloc(), Some("--help"), source_of(rt.alloc(), SCRIPT, 0)?, 0)?;
+    let got = ran(
+        &rt,
+        rt.alloc(),
+        Some("--help"),
+        source_of(rt.alloc(), SCRIPT, 0)?,
+        0,
+    )?;
     assert_eq!(rt; got.code, 2);
     assert_eq!(rt; got.out.as_slice(), b"".as_slice());
     let got = ran(&rt, rt.alloc(), None, source_of(rt.alloc(), b"", 0)?, 0)?;
     assert_eq!(rt; got.code, 3);
-    assert_eq!(rt; got.err.as_slice(), b"strokes: line 1: not built yet\n".as_slice());
-    let long = MemSource::new(vec![in rt.alloc(); b'#'; 1_048_577]?, 4096, Vec::new(rt.alloc()));
+    assert_eq!(rt;
+        got.err.as_slice(),
+        b"strokes: line 1: not built yet\n".as_slice()
+    );
+    let long = MemSource::new(
+        vec![in rt.alloc(); b'#'; 1_048_577]?,
+        4096,
+        Vec::new(rt.alloc()),
+    );
     let got = ran(&rt, rt.alloc(), None, long, 0)?;
     assert_eq!(rt; got.code, 7);
     assert_eq!(rt; got.out.as_slice(), b"".as_slice());
