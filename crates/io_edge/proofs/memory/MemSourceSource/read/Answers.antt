@@ -1,4 +1,4 @@
-use Rattle.std.proofs.Common.{rules, arith, drop, sym, ap, ◌≡◌, ◌++◌, ◌+◌}
+use Rattle.std.proofs.Common.{rules, arith, drop, ◌≡◌, ◌+◌}
 use Rattle.std.proofs.lemmas.Grind.{common_steps}
 use Rattle.std.proofs.Math.ListN.{drop_of_length-le}
 use Rattle.io_edge.proofs.MemoryLemmas.{front_of_rest}
