@@ -1,5 +1,5 @@
 -- Reading fills one after the other, as a loop does.
-use Rattle.std.proofs.Common.{◌≡◌, ℕ, ◌+◌, ◌<◌, ◌≤◌, get_or, drop, length, add-one, List, [], ◌∷◌, ◌++◌, Bool, true, false, Option, Some, None, is_some, refl, sym, ap, ◌∙◌, append_assoc}
+use Rattle.std.proofs.Common.{◌≡◌, ℕ, ◌+◌, ◌<◌, ◌≤◌, get_or, drop, length, add-one, List, [], ◌∷◌, ◌++◌, true, false, Option, Some, None, is_some, refl, sym, ap, ◌∙◌, append_assoc}
 use Rattle.std.proofs.lemmas.List.{append-nil}
 use Rattle.std.proofs.Math.Seq.{drop-cons}
 use Rattle.std.proofs.Math.ListN.{drop_of_length-le}
@@ -14,10 +14,6 @@ use Rattle.script_text.specs.Form.{Line, fills, fill, end, last_export}
 -- what was read before, and what is still read
 abbrev pub with_front : List Coat → Option (List Coat) → Option (List Coat)
 with_front front read = read >>= λ coats. Some (front ++ coats)
-
-pub front_none : (read : Option (List Coat)) → with_front [] read ≡ read
-front_none None = refl
-front_none (Some coats) = refl
 
 regroup : (front : List Coat) (coat : Coat) (read : Option (List Coat)) → with_front front (read >>= λ coats. Some (coat ∷ coats)) ≡ with_front (front ++ coat ∷ []) read
 regroup front coat None = refl

@@ -1,5 +1,5 @@
 -- Numbers and colours as a field spells them.
-use Rattle.std.specs.Prelude.{ℕ, ◌+◌, ◌-◌, ◌*◌, ◌<◌, ◌≤◌, Bool, ◌&&◌, nat_le, nat_lt, ◌==◌, List, [], ◌∷◌, length, ℤ, pos, negsuc, neg_ℤ, int_le, Option, Some, None, if◌then◌else◌}
+use Rattle.std.specs.Prelude.{ℕ, ◌+◌, ◌-◌, ◌*◌, ◌&&◌, nat_le, nat_lt, ◌==◌, List, [], ◌∷◌, length, ℤ, pos, negsuc, neg_ℤ, int_le, Option, Some, None, if◌then◌else◌}
 use Rattle.std.specs.Char.{is_ascii_digit, digit_value}
 use Rattle.std.specs.Str.{bytes_eq}
 use Rattle.pixel_core.specs.Rgba.{Rgba, if_canonical}

@@ -1,5 +1,5 @@
 -- The form of a script, and what it says.
-use Rattle.std.specs.Prelude.{◌≡◌, ℕ, nat_le, List, [], ◌∷◌, ◌++◌, length, map, ℤ, pos, negsuc, Bool, true, false, Option, Some, None, is_some, codes, if◌then◌else◌}
+use Rattle.std.specs.Prelude.{◌≡◌, ℕ, nat_le, List, [], ◌∷◌, ◌++◌, length, map, ℤ, pos, negsuc, false, Option, Some, None, is_some, codes, if◌then◌else◌}
 use Rattle.pixel_core.specs.Rgba.{Rgba, rgba, clear}
 use Rattle.pixel_core.specs.declared.blending.Op.TheVariants.{Over}
 use Rattle.geom_core.specs.Areas.{Area, area, lies_in, world}

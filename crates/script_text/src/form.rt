@@ -1,6 +1,6 @@
 //! The form of a script that can be read so far: one layer, one stroke of fills on it, and an export.
 
-ghost use Rattle.std.specs.Prelude.{◌≡◌, ◌≤◌, ◌++◌, ◌∷◌, [], Some, Err, IfOk, IfSome, OnErr, MatchResult};
+ghost use Rattle.std.specs.Prelude.{◌≡◌, ◌≤◌, ◌++◌, ◌∷◌, [], Some, Err, IfOk, IfSome, OnErr};
 ghost use Rattle.script_text.specs.Lines.{pointed, lines_seen};
 ghost use Rattle.script_text.specs.Form.{commands_of, IsCoats, in_world, rectangle as rectangle_of, fill_words as fill_words_of, ink as ink_of, fill as fill_of, fill_fields as fill_fields_of, canvas as canvas_of, layer as layer_of, stroke as stroke_of, end as end_of, export as export_of, last_export as last_export_of, fills as fills_of, opening as opening_of, drawn as drawn_of, drawing as drawing_of, script};
 ghost use Rattle.script_text.specs.Refusal.{Gives, fault};

@@ -1,6 +1,6 @@
 -- What the commands of a script of fills mean: one picture, point by point.
-use Rattle.std.proofs.Common.{◌≡◌, ℕ, suc, zero, ◌+◌, ◌-◌, ◌<◌, ◌≤◌, Bool, true, false, ◌&&◌, ◌||◌, cond, pos, List, [], ◌∷◌, ◌++◌, map, Option, Some, None, is_some, length, refl, sym, ap, ◌∙◌, subst, append_assoc, arith}
-use Rattle.std.specs.Prelude.{ℤ, ◌+ℤ◌, fold, slice_get}
+use Rattle.std.proofs.Common.{◌≡◌, ℕ, suc, zero, ◌+◌, ◌-◌, ◌<◌, ◌≤◌, Bool, true, false, ◌||◌, cond, pos, List, [], ◌∷◌, ◌++◌, map, None, is_some, length, refl, sym, ap, ◌∙◌, subst, append_assoc, arith}
+use Rattle.std.specs.Prelude.{ℤ, ◌+ℤ◌, fold}
 use Rattle.std.specs.List.{flat_map, concat, range_with_len}
 use Rattle.std.proofs.lemmas.List.{append-nil}
 use Rattle.std.proofs.lemmas.List.Concat.{concat_is, flat_map-append}
@@ -10,27 +10,26 @@ use Rattle.pixel_core.specs.Rgba.{Rgba, clear}
 use Rattle.pixel_core.specs.Compose.{compose, on_paper}
 use Rattle.pixel_core.specs.declared.blending.Op.TheVariants.{Over}
 use Rattle.geom_core.specs.Points.{Point, point}
-use Rattle.geom_core.specs.Areas.{holds, row, rows, points_of}
+use Rattle.geom_core.specs.Areas.{holds, row, rows}
 use Rattle.doc_model.specs.declared.canvas.Canvas.{Canvas}
 use Rattle.doc_model.specs.declared.job.Job.{Job}
 use Rattle.doc_model.specs.declared.job.Kind.{Kind}
 use Rattle.doc_model.specs.declared.job.Kind.TheVariants.{Seq}
 use Rattle.doc_model.specs.declared.tree.Change.TheVariants as change
-use Rattle.doc_model.specs.declared.command.Command.{Command}
 use Rattle.doc_model.specs.declared.command.Command.TheVariants as command
 use Rattle.doc_model.specs.Layers.{Layer, at, plain, at-plain}
 use Rattle.doc_model.specs.Jobs.{apply, apply_all}
 use Rattle.doc_model.specs.Forest.{none, paint}
-use Rattle.doc_model.specs.Picture.{Doc, frame, picture, canvas_area}
+use Rattle.doc_model.specs.Picture.{Doc, frame, picture}
 use Rattle.doc_model.specs.Changes.{new_look}
-use Rattle.doc_model.specs.Least.{least, least_from, all_from}
+use Rattle.doc_model.specs.Least.{least_from, all_from}
 use Rattle.doc_model.specs.Strokes.{Jobs, Entry, Strokes, Changes, Exports, Open, Ended, all_fed, entries, conflict, conflicting, first_conflicting, runs_at}
 use Rattle.doc_model.specs.Meaning.{meaning}
 use Rattle.doc_model.proofs.JobLaws.{at-apply}
 use Rattle.script_text.specs.Drawing.{Drawing, Coat}
 use Rattle.script_text.specs.Form.{commands_of, added, fill_of, IsCoats}
 use Rattle.strokes_top.specs.Output.{header, output}
-use Rattle.strokes_top.specs.Painting.{filled, pixel_of, point_bytes, row_bytes, rows_bytes}
+use Rattle.strokes_top.specs.Painting.{filled, pixel_of, point_bytes, rows_bytes}
 
 -- a coat as a job with its kind
 abbrev paired : Coat → Kind × Job

@@ -1,6 +1,6 @@
 //! Reading all of a source, and writing all of some bytes.
 
-ghost use Rattle.std.specs.Prelude.{◌≡◌, ◌≢◌, ◌<◌, ◌≤◌, ℕ, List, length, Err, IfOk, OnOk, OnErr, IsErrOf};
+ghost use Rattle.std.specs.Prelude.{◌≡◌, ◌≢◌, ◌≤◌, length, Err, IfOk, OnOk, OnErr, IsErrOf};
 ghost use Rattle.std.specs.Io.KnownBytes.{Consumes, IsAtEnd, Appends};
 ghost use Rattle.io_edge.specs.Faults.{HasCause, Rose};
 ghost use Rattle.strokes_top.specs.Bytes.{AppendsPrefix, ConsumesMore, ConsumesAtMost};

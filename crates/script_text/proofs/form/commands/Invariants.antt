@@ -1,4 +1,4 @@
-use Rattle.std.proofs.Common.{◌≡◌, ◌∷◌, ◌++◌, take, map, false}
+use Rattle.std.proofs.Common.{◌≡◌, ◌∷◌, take, map, false}
 use Rattle.pixel_core.specs.Rgba.{clear}
 use Rattle.doc_model.specs.declared.tree.Change.TheVariants.{Layer}
 use Rattle.doc_model.specs.declared.command.Command.TheVariants.{Change, Stroke}

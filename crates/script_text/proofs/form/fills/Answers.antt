@@ -1,5 +1,4 @@
-use Rattle.std.proofs.Common.{rules, arith, refl, sym, ap, ◌∙◌, ◌+◌, drop}
-use Rattle.script_text.specs.Lines.{pointed, lines_seen}
+use Rattle.std.proofs.Common.{rules, sym, ap, ◌∙◌}
 use Rattle.script_text.specs.Form.{fills}
 use Rattle.script_text.specs.Refusal.{fault_where_none}
 use Rattle.script_text.proofs.FillLemmas.{with_front, seen_at, none_seen, goes_on, stops, runs_out, ends, at_none, at_some}

@@ -1,4 +1,4 @@
-use Rattle.std.proofs.Common.{◌≡◌, ◌*◌, take, length}
+use Rattle.std.proofs.Common.{◌≡◌, ◌*◌, take}
 use Rattle.strokes_top.specs.Painting.{row_bytes}
 use Rattle.strokes_top.proofs.painting.fill_line.Given as goal
 

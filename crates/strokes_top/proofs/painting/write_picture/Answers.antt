@@ -1,4 +1,4 @@
-use Rattle.std.proofs.Common.{◌≡◌, ◌<◌, ◌++◌, List, ℕ, ap, sym, ◌∙◌, append_assoc, refl, arith, rules}
+use Rattle.std.proofs.Common.{◌≡◌, ◌<◌, ◌++◌, ap, sym, ◌∙◌, append_assoc, refl, arith, rules}
 use Rattle.strokes_top.specs.Output.{header, output}
 use Rattle.strokes_top.specs.Painting.{row_bytes, rows_bytes}
 use Rattle.strokes_top.proofs.CoatsMean.{output_is}
