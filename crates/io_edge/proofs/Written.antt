@@ -1,5 +1,5 @@
 -- What several writes in a row do.
-use Rattle.std.proofs.Common.{◌≡◌, ℕ, zero, suc, ◌+◌, ◌<◌, List, [], ◌∷◌, ◌++◌, length, take, drop, get_or, Option, Some, None, Result, Ok, Err, OnErr, refl, sym, ap, ◌∙◌, append_assoc, append-nil, arith}
+use Rattle.std.proofs.Common.{◌≡◌, ℕ, zero, suc, ◌<◌, List, [], ◌∷◌, ◌++◌, length, take, drop, get_or, Option, Result, Ok, Err, OnErr, refl, sym, ap, subst, ◌∙◌, append_assoc, append-nil, arith}
 use Rattle.std.specs.List.{flat_map}
 use Rattle.std.specs.Io.KnownBytes.{Appends}
 use Rattle.std.proofs.KnownBytes.{Appends-trans}
@@ -23,6 +23,10 @@ appends_to a b c xs ys zs h k e = rw (← e) (Appends-trans a b c xs ys h k)
 pub on_err_any : {P : Type 0} (r : Result (Unit {0}) Failed) → P → OnErr r P
 on_err_any (Ok u) p = tt
 on_err_any (Err e) p = p
+
+-- a prefix of the same bytes
+pub prefix_is : (r : Result (Unit {0}) Failed) (a b : Option (List ℕ)) (xs ys : List ℕ) → OnErr r (AppendsPrefix a b xs) → xs ≡ ys → OnErr r (AppendsPrefix a b ys)
+prefix_is r a b xs ys h e = subst (λ l. OnErr r (AppendsPrefix a b l)) e h
 
 -- the part of one item, with those before it and behind it
 pub flat_at : {X : Type 0} (f : X → List ℕ) (xs : List X) (i : ℕ) (d : X) → i < length xs → flat_map f xs ≡ flat_map f (take i xs) ++ (f (get_or xs i d) ++ flat_map f (drop (suc i) xs))

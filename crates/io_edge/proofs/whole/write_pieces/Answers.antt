@@ -19,5 +19,5 @@ loop-piece-preserved g c =
     record {
       later = omega (arith, c.loop-piece.invariant.later, c.write_all.ensures.cause.later);
       so_far = appends_to _ _ _ _ _ _ c.loop-piece.invariant.so_far c.in_ok-write_all.ensures.ok
-      (flat_more (λ (p : Bor (List ℕ)). p.now) pieces i (record { ref_ptr = (0, 0); now = [] }) c.loop-piece-test.true ∙ ap (λ n. joined (take n pieces)) next);
+          (flat_more (λ (p : Bor (List ℕ)). p.now) pieces i (record { ref_ptr = (0, 0); now = [] }) c.loop-piece-test.true ∙ ap (λ n. joined (take n pieces)) next);
     }
