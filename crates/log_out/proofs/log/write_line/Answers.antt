@@ -1,5 +1,4 @@
-use Rattle.std.proofs.Common.{refl, append_assoc, append-nil, arith}
-use Rattle.std.proofs.lemmas.Grind.{common_steps}
+use Rattle.std.proofs.Common.{refl, append_assoc, append-nil}
 use Rattle.io_edge.proofs.Written.{prefix_is}
 use Rattle.log_out.proofs.log.write_line.Goals as goal
 

@@ -1,4 +1,4 @@
-use Rattle.std.proofs.Common.{◌≡◌, ◌*◌, ◌≤◌, length}
+use Rattle.std.proofs.Common.{◌≡◌, ◌*◌, ◌≤◌}
 use Rattle.std.specs.List.{sum}
 use Rattle.ppm_out.proofs.Lines.{lines}
 use Rattle.log_out.proofs.summary.colour_sum.Given as goal
