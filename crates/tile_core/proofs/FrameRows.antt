@@ -95,7 +95,7 @@ pub lays_points : (s : Scene) (paper : Rgba) (y x n at : ℕ) (old new : List �
 lays_points s paper y x n at old new ps ep es ea w =
     let many : length ps ≡ n = sym (ap length es) ∙ length-map (row (pos x) (pos y) n) (put_at s) ∙ length-row (pos x) (pos y) n in
     let colours : flat_map (λ q. on_paper q paper) ps ≡ flat_map (colours_at s) (row (pos x) (pos y) n) =
-      ap (λ v. flat_map (λ q. on_paper q v) ps) ep ∙ sym (ap (flat_map (λ q. on_paper q s.paper)) es) ∙ flat_map-map (λ q. on_paper q s.paper) (put_at s) (row (pos x) (pos y) n) in
+    ap (λ v. flat_map (λ q. on_paper q v) ps) ep ∙ sym (ap (flat_map (λ q. on_paper q s.paper)) es) ∙ flat_map-map (λ q. on_paper q s.paper) (put_at s) (row (pos x) (pos y) n) in
     let end : at + 3 * length ps ≡ 3 * (x + n) = omega arith in
     w ∙ ap (λ v. take v old ++ flat_map (λ q. on_paper q paper) ps ++ drop (at + 3 * length ps) old) ea
     ∙ ap (λ v. take (3 * x) old ++ v ++ drop (at + 3 * length ps) old) colours

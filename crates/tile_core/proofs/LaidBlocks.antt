@@ -1,15 +1,14 @@
 -- A block laid over a tile, point by point.
-use Rattle.std.proofs.Common.{◌≡◌, ℕ, ◌+◌, ◌-◌, ◌*◌, ◌%◌, ◌≤◌, ◌<◌, Bool, true, false, ◌&&◌, cond, List, length, get_or, refl, sym, ap, ◌∙◌, arith, ltb, leb}
-use Rattle.std.specs.Prelude.{ℤ, pos, negsuc, ◌+ℤ◌, ◌-ℤ◌, ◌*ℤ◌, int_le, int_lt, nat_abs, ◌≤ℤ◌, ◌<ℤ◌}
+use Rattle.std.proofs.Common.{◌≡◌, ℕ, ◌+◌, ◌-◌, ◌*◌, ◌%◌, ◌≤◌, ◌<◌, Bool, true, false, ◌&&◌, cond, List, get_or, refl, sym, ap, ◌∙◌, arith, ltb, leb}
+use Rattle.std.specs.Prelude.{ℤ, pos, ◌+ℤ◌, ◌-ℤ◌, ◌*ℤ◌, int_le, int_lt, nat_abs, ◌≤ℤ◌}
 use borrow.Author.Differences.{ints}
 use Rattle.std.proofs.lemmas.Bool.Decides.{nat_tests}
 use Rattle.pixel_core.specs.Rgba.{Rgba, clear}
-use Rattle.geom_core.specs.Points.{Point, point}
+use Rattle.geom_core.specs.Points.{point}
 use Rattle.geom_core.specs.Areas.{Area, area, holds}
-use Rattle.geom_core.specs.Grid.{Key, tile}
-use Rattle.geom_core.specs.Place.{across, down, IsOffset}
+use Rattle.geom_core.specs.Place.{IsOffset}
 use Rattle.geom_core.proofs.Spots.{TileSpot, tile_spot, le_shifted, lt_end_shifted, nat_abs-back}
-use Rattle.tile_core.specs.Pixels.{Pixels, pixel_of, pixel_at}
+use Rattle.tile_core.specs.Pixels.{Pixels, pixel_of}
 use Rattle.tile_core.specs.Parts.{in_part, pixel_in, LaysPart}
 use Rattle.tile_core.specs.Blocks.{Piece, IsPiece, piece_at, LaysBlock}
 
@@ -48,8 +47,8 @@ axis_at n c left w p q r =
 pub axis : (a x t : ℤ) (n c left w : ℕ) → (pos (64 * n) -ℤ pos 16384) ≡ t → (pos (64 * n + c) -ℤ pos 16384) ≡ x → (pos left -ℤ pos 16384) ≡ a → t ≤ℤ a → (a +ℤ pos w) ≤ℤ (t +ℤ pos 64) → 1 ≤ w → Axis a x c left w
 axis a x t n c left w et ex ea low high some =
     rw (← ex, ← ea) (axis_at n c left w
-      (less (64 * n) left 16384 (rw (et, ea) low))
-      (less_end left w (64 * n) 64 16384 (rw (et, ea) high)) some)
+    (less (64 * n) left 16384 (rw (et, ea) low))
+    (less_end left w (64 * n) 64 16384 (rw (et, ea) high)) some)
 
 pub rest_of : (x : ℤ) (n c : ℕ) → (pos (64 * n + c) -ℤ pos 16384) ≡ x → c < 64 → nat_abs (x +ℤ pos 16384) % 64 ≡ c
 rest_of x n c e h = rw (← e, nat_abs-back (64 * n + c) 16384) (omega arith)
@@ -75,10 +74,10 @@ lays_block old new b left top is el et w h laid p held =
     let f : Axis b.rect.x p.x c left b.rect.w = axis b.rect.x p.x _ n c left b.rect.w spot.left spot.x el is.inside.left is.inside.right w in
     let g : Axis b.rect.y p.y r top b.rect.h = axis b.rect.y p.y _ m r top b.rect.h spot.top spot.y et is.inside.top is.inside.bottom h in
     rw (rest_of p.x n c spot.x spot.col, rest_of p.y m r spot.y spot.row)
-      (laid c r spot.col ∙ chosen (in_part (left % 64) (top % 64) b.rect.w b.rect.h c r) (holds b.rect p) (pixel_in (left % 64) (top % 64) b.rect.w b.pixels c r) (piece_at b p) (pixel_of old c r)
-        (same_part left top b.rect.w b.rect.h c r b.rect.x b.rect.y p.x p.y f g)
-        (λ t. let u : ((int_le b.rect.x p.x && int_lt p.x (b.rect.x +ℤ pos b.rect.w)) ≡ true) × ((int_le b.rect.y p.y && int_lt p.y (b.rect.y +ℤ pos b.rect.h)) ≡ true) = both _ _ t in
-          ap (λ i. get_or b.pixels i clear) (rw (f.apart u.0, g.apart u.1) refl)))
+    (laid c r spot.col ∙ chosen (in_part (left % 64) (top % 64) b.rect.w b.rect.h c r) (holds b.rect p) (pixel_in (left % 64) (top % 64) b.rect.w b.pixels c r) (piece_at b p) (pixel_of old c r)
+    (same_part left top b.rect.w b.rect.h c r b.rect.x b.rect.y p.x p.y f g)
+    (λ t. let u : ((int_le b.rect.x p.x && int_lt p.x (b.rect.x +ℤ pos b.rect.w)) ≡ true) × ((int_le b.rect.y p.y && int_lt p.y (b.rect.y +ℤ pos b.rect.h)) ≡ true) = both _ _ t in
+    ap (λ i. get_or b.pixels i clear) (rw (f.apart u.0, g.apart u.1) refl)))
 
 -- the same where the parts have names of their own
 pub lays_block_as : (old old' new : Pixels) (b : Piece) (rect : Area) (src : List Rgba) (left top w h : ℕ) → IsPiece b → rect ≡ b.rect → IsOffset left rect.x → IsOffset top rect.y → w ≡ rect.w → h ≡ rect.h → 1 ≤ w → 1 ≤ h

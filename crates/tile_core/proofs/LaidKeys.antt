@@ -1,19 +1,19 @@
 -- A tile laid over the pixels of a rectangle.
-use Rattle.std.proofs.Common.{◌≡◌, ℕ, ◌+◌, ◌-◌, ◌*◌, ◌%◌, ◌≤◌, ◌<◌, Bool, true, false, ◌&&◌, cond, List, length, get_or, refl, sym, ap, ◌∙◌, arith, ltb, leb, ◌⊎◌, inl, inr, subst}
-use Rattle.std.specs.Prelude.{ℤ, pos, negsuc, ◌+ℤ◌, ◌-ℤ◌, ◌*ℤ◌, int_le, int_lt, nat_abs, ◌≤ℤ◌, ◌<ℤ◌}
+use Rattle.std.proofs.Common.{◌≡◌, ℕ, ◌+◌, ◌-◌, ◌*◌, ◌%◌, ◌≤◌, ◌<◌, Bool, true, false, ◌&&◌, cond, List, length, get_or, refl, sym, ap, ◌∙◌, arith, ltb, leb, inl, inr, subst}
+use Rattle.std.specs.Prelude.{ℤ, pos, negsuc, ◌+ℤ◌, ◌-ℤ◌, ◌*ℤ◌, int_le, int_lt, nat_abs, ◌≤ℤ◌}
 use borrow.Author.Differences.{ints}
 use Rattle.std.proofs.lemmas.Bool.Decides.{nat_tests}
 use Rattle.pixel_core.specs.Rgba.{Rgba, clear}
-use Rattle.geom_core.specs.Points.{Point, point}
-use Rattle.geom_core.specs.Areas.{Area, area, holds, place_in, right, bottom, IsWithin, IsShared}
+use Rattle.geom_core.specs.Points.{Point}
+use Rattle.geom_core.specs.Areas.{Area, holds, place_in, IsShared}
 use Rattle.geom_core.specs.Grid.{Key, key_of, same_key, tile, IsWorldKey}
-use Rattle.geom_core.specs.Place.{across, down, IsOffset}
-use Rattle.geom_core.proofs.Tests.{and_left, and_right, both_true, true_or_false, taken, kept}
-use Rattle.geom_core.proofs.Spots.{le_shifted, lt_end_shifted, nat_abs-back, from_edge, tile_spot, TileSpot}
+use Rattle.geom_core.specs.Place.{across, IsOffset}
+use Rattle.geom_core.proofs.Tests.{and_left, and_right, true_or_false, taken, kept}
+use Rattle.geom_core.proofs.Spots.{le_shifted, lt_end_shifted, nat_abs-back, from_edge}
 use Rattle.geom_core.proofs.Tiles.{own_tile, key_of_holder, key_same, key_is}
 use Rattle.tile_core.specs.Pixels.{Pixels, pixel_of, pixel_at}
 use Rattle.tile_core.specs.Parts.{in_part, LaysTile}
-use Rattle.std.proofs.Common.{take, ◌++◌, ◌∷◌, [], ◌||◌, Option, Some, None, replicate}
+use Rattle.std.proofs.Common.{take, ◌++◌, ◌∷◌, [], ◌||◌, Some, None, replicate}
 use Rattle.std.specs.FinMap as map
 use Rattle.std.specs.List.{list_any}
 use Rattle.std.specs.Prelude.{slice_get}
@@ -88,7 +88,7 @@ along : (rx ax x : ℤ) (n r a m w : ℕ) → (pos r -ℤ pos 16384) ≡ rx → 
 along rx ax x n r a m w er ea h i s =
     let e : (pos (nat_abs (x +ℤ pos 16384)) -ℤ pos 16384) ≡ x = from_edge x (not_below x rx r er h) in
     subst (λ v. Along rx ax v r a m) e (subst (λ v. Along v ax (pos (nat_abs (x +ℤ pos 16384)) -ℤ pos 16384) r a m) er (subst (λ v. Along (pos r -ℤ pos 16384) v (pos (nat_abs (x +ℤ pos 16384)) -ℤ pos 16384) r a m) ea
-      (along_at n r a m (nat_abs (x +ℤ pos 16384)) s.from i.from i.to (spot_after x rx r er h))))
+    (along_at n r a m (nat_abs (x +ℤ pos 16384)) s.from i.from i.to (spot_after x rx r er h))))
 
 starts : (a x : ℤ) (n : ℕ) → (int_le a x && int_lt x (a +ℤ pos n)) ≡ true → a ≤ℤ x
 starts a x n h = grind (arith, ints)
@@ -99,12 +99,12 @@ small_step a x n h = grind (arith, ints)
 -- a tile holds the points that have its key
 tile_holds : (k : Key) (p : Point) → holds (tile k) p ≡ same_key (key_of p) k
 tile_holds k p = elim (true_or_false (holds (tile k) p)) [
-    | inl h ↦ h ∙ sym (key_is (key_of p) k (key_of_holder k p h))
-    | inr f ↦ elim (true_or_false (same_key (key_of p) k)) [
-      | inl t ↦ ap (λ (m : Key). holds (tile m) p) (sym (key_same (key_of p) k t)) ∙ own_tile p ∙ sym t
-      | inr e ↦ f ∙ sym e
-    ]
+  | inl h ↦ h ∙ sym (key_is (key_of p) k (key_of_holder k p h))
+  | inr f ↦ elim (true_or_false (same_key (key_of p) k)) [
+    | inl t ↦ ap (λ (m : Key). holds (tile m) p) (sym (key_same (key_of p) k t)) ∙ own_tile p ∙ sym t
+    | inr e ↦ f ∙ sym e
   ]
+]
 
 chosen : (t u : Bool) (x y z : Rgba) → t ≡ u → (u ≡ true → x ≡ y) → cond t x z ≡ cond u y z
 chosen t true x y z e s = rw e (s refl)
@@ -119,17 +119,17 @@ lays_key old new rect part k t rl rt al at erl ert eal eat world shared laid p h
     let hx : (int_le rect.x p.x && int_lt p.x (rect.x +ℤ pos rect.w)) ≡ true = and_left _ _ held in
     let hy : (int_le rect.y p.y && int_lt p.y (rect.y +ℤ pos rect.h)) ≡ true = and_right _ _ held in
     let x : Along rect.x part.x p.x rl al part.w = along rect.x part.x p.x (nat_abs (k.col +ℤ pos 256)) rl al part.w rect.w erl eal (starts rect.x p.x rect.w hx)
-      (in_piece k.col part.x al part.w world.left eal shared.in_b.left shared.in_b.right) (in_span rect.x part.x rl al part.w rect.w erl eal shared.in_a.left shared.in_a.right) in
+    (in_piece k.col part.x al part.w world.left eal shared.in_b.left shared.in_b.right) (in_span rect.x part.x rl al part.w rect.w erl eal shared.in_a.left shared.in_a.right) in
     let y : Along rect.y part.y p.y rt at part.h = along rect.y part.y p.y (nat_abs (k.row +ℤ pos 256)) rt at part.h rect.h ert eat (starts rect.y p.y rect.h hy)
-      (in_piece k.row part.y at part.h world.top eat shared.in_b.top shared.in_b.bottom) (in_span rect.y part.y rt at part.h rect.h ert eat shared.in_a.top shared.in_a.bottom) in
+    (in_piece k.row part.y at part.h world.top eat shared.in_b.top shared.in_b.bottom) (in_span rect.y part.y rt at part.h rect.h ert eat shared.in_a.top shared.in_a.bottom) in
     let col : ℕ = nat_abs (p.x -ℤ rect.x) in
     let row : ℕ = nat_abs (p.y -ℤ rect.y) in
     let part_is : in_part (al - rl) (at - rt) part.w part.h col row ≡ holds part p = rw (x.inside, y.inside) refl in
     laid col row (small_step rect.x p.x rect.w hx)
     ∙ chosen (in_part (al - rl) (at - rt) part.w part.h col row) (same_key (key_of p) k) (pixel_of t (al % 64 + (col - (al - rl))) (at % 64 + (row - (at - rt)))) (pixel_at t p) (get_or old (place_in rect p) clear)
-      (part_is ∙ shared.held p ∙ and_of (holds rect p) (holds (tile k) p) held ∙ tile_holds k p)
-      (λ e. let inside : holds part p ≡ true = shared.held p ∙ and_of (holds rect p) (holds (tile k) p) held ∙ tile_holds k p ∙ e in
-        ap (λ i. pixel_of t i (at % 64 + (row - (at - rt)))) (x.there (and_left _ _ inside)) ∙ ap (λ i. pixel_of t (across p % 64) i) (y.there (and_right _ _ inside)))
+    (part_is ∙ shared.held p ∙ and_of (holds rect p) (holds (tile k) p) held ∙ tile_holds k p)
+    (λ e. let inside : holds part p ≡ true = shared.held p ∙ and_of (holds rect p) (holds (tile k) p) held ∙ tile_holds k p ∙ e in
+    ap (λ i. pixel_of t i (at % 64 + (row - (at - rt)))) (x.there (and_left _ _ inside)) ∙ ap (λ i. pixel_of t (across p % 64) i) (y.there (and_right _ _ inside)))
 
 -- the same where the parts have names of their own
 pub lays_key_as : (old new : List Rgba) (rect part : Area) (k : Key) (t t' : Pixels) (rl rt al at width w h : ℕ) → IsOffset rl rect.x → IsOffset rt rect.y → IsOffset al part.x → IsOffset at part.y → IsWorldKey k → IsShared rect (tile k) part
@@ -164,6 +164,7 @@ read_next s a old new ks k t r e lays p held = lays p held ∙ ap (λ v. cond (s
   where
     here : same_key (key_of p) k ≡ true → pixel_at t p ≡ sight_at s p
     here h = sym (ap (λ (m : Key). pixel_or (map.get s.tiles m) s.default_pixel p) (key_same (key_of p) k h) ∙ ap (λ o. pixel_or o s.default_pixel p) e)
+
     go : (b u : Bool) → same_key (key_of p) k ≡ u → cond u (pixel_at t p) (cond b (sight_at s p) s.default_pixel) ≡ cond (b || (u || false)) (sight_at s p) s.default_pixel
     go true true h = here h
     go false true h = here h

@@ -1,12 +1,12 @@
 -- Rows laid over a tile.
-use Rattle.std.proofs.Common.{◌≡◌, ℕ, suc, zero, ◌+◌, ◌-◌, ◌*◌, ◌≤◌, ◌<◌, Bool, true, false, ◌&&◌, cond, List, [], ◌∷◌, ◌++◌, length, get_or, take, drop, refl, sym, ap, ◌∙◌, arith, ltb, leb, ◌⊎◌, inl, inr}
-use Rattle.std.proofs.Common.{length-append, length-drop, append_assoc}
+use Rattle.std.proofs.Common.{◌≡◌, ℕ, ◌+◌, ◌-◌, ◌*◌, ◌≤◌, ◌<◌, true, false, ◌&&◌, cond, List, ◌++◌, length, get_or, take, drop, ap, ◌∙◌, arith, ltb, leb, ◌⊎◌, inl, inr}
+use Rattle.std.proofs.Common.{length-append, length-drop}
 use Rattle.std.proofs.lemmas.Bool.Decides.{nat_tests}
 use Rattle.std.proofs.lemmas.List.{get_or-drop, get_or-take, get_or_append_left, length-take-le, get_or-append_right}
 use Rattle.std.specs.Prelude.{slice_range}
 use Rattle.pixel_core.specs.Rgba.{Rgba, clear}
-use Rattle.tile_core.specs.Pixels.{Pixels, pixel_of}
-use Rattle.tile_core.specs.Parts.{in_part, pixel_in, LaysPart, LaysTile}
+use Rattle.tile_core.specs.Pixels.{pixel_of}
+use Rattle.tile_core.specs.Parts.{in_part, pixel_in}
 use Rattle.tile_core.proofs.SoFar.{LaidSoFar, TakenSoFar, TileSoFar}
 
 -- a row of ys laid over xs from place a on
@@ -69,9 +69,9 @@ lays_next old mid src left top w rows from to so across fits has =
           ∙ ap (λ m. cond (leb to (64 * row + col) && ltb (64 * row + col) (to + m)) r o) n
           ∙ ap (λ b. cond b r o) (row_laid to w left top rows col row so.to_is across k)
           ∙ one_more left top w rows col row r (pixel_in left top w src col row) (pixel_of old col row) o
-            (λ t. let q : (from + ((64 * row + col) - to) ≡ (row - top) * w + (col - left)) × ((64 * row + col) - to < w) = place left top w rows col row to from so.to_is so.from_is across t in
-                get_or-take (from + w - from) (drop from src) ((64 * row + col) - to) clear (omega arith) ∙ get_or-drop from src ((64 * row + col) - to) clear ∙ ap (λ i. get_or src i clear) q.0)
-            (so.laid col row k);
+          (λ t. let q : (from + ((64 * row + col) - to) ≡ (row - top) * w + (col - left)) × ((64 * row + col) - to < w) = place left top w rows col row to from so.to_is so.from_is across t in
+          get_or-take (from + w - from) (drop from src) ((64 * row + col) - to) clear (omega arith) ∙ get_or-drop from src ((64 * row + col) - to) clear ∙ ap (λ i. get_or src i clear) q.0)
+          (so.laid col row k);
       from_is = omega (arith, so.from_is);
       to_is = omega (arith, so.to_is);
     }
@@ -94,8 +94,10 @@ takes_next tile ps left top w rows from so fits =
   where
     either : (row rows : ℕ) → row < rows + 1 → (row < rows) ⊎ (row ≡ rows)
     either row rows q = grind arith
+
     rest : (row rows w col : ℕ) → row ≡ rows → (row * w + col) - rows * w ≡ col
     rest row rows w col e = rw e (omega arith)
+
     there : (row rows top left from col : ℕ) → row ≡ rows → from ≡ 64 * (top + rows) + left → from + col ≡ 64 * (top + row) + (left + col)
     there row rows top left from col e f = omega arith
 
@@ -103,19 +105,22 @@ takes_next tile ps left top w rows from so fits =
 pub stretch : (width left w at row col : ℕ) → left + w ≤ width → col < width
     → (leb (at * width + left) (row * width + col) && ltb (row * width + col) (at * width + left + w)) ≡ ((leb left col && ltb col (left + w)) && (leb at row && ltb row (at + 1)))
 stretch width left w at row col h k = elim (three row at) [
-    | inl l ↦ before width left w at row col l (next_fits row at width l) k
-    | inr q ↦ elim q [
-      | inl l ↦ after width left w at row col l (next_fits at row width l) h
-      | inr e ↦ same width left w at row col e (ap (λ i. i * width) e)
-    ]
+  | inl l ↦ before width left w at row col l (next_fits row at width l) k
+  | inr q ↦ elim q [
+    | inl l ↦ after width left w at row col l (next_fits at row width l) h
+    | inr e ↦ same width left w at row col e (ap (λ i. i * width) e)
   ]
+]
   where
     three : (a b : ℕ) → (a < b) ⊎ ((b < a) ⊎ (a ≡ b))
     three a b = grind arith
+
     before : (width left w at row col : ℕ) → row < at → row * width + width ≤ at * width → col < width → (leb (at * width + left) (row * width + col) && ltb (row * width + col) (at * width + left + w)) ≡ ((leb left col && ltb col (left + w)) && (leb at row && ltb row (at + 1)))
     before width left w at row col l m k = grind (arith, nat_tests)
+
     after : (width left w at row col : ℕ) → at < row → at * width + width ≤ row * width → left + w ≤ width → (leb (at * width + left) (row * width + col) && ltb (row * width + col) (at * width + left + w)) ≡ ((leb left col && ltb col (left + w)) && (leb at row && ltb row (at + 1)))
     after width left w at row col l m h = grind (arith, nat_tests)
+
     same : (width left w at row col : ℕ) → row ≡ at → row * width ≡ at * width → (leb (at * width + left) (row * width + col) && ltb (row * width + col) (at * width + left + w)) ≡ ((leb left col && ltb col (left + w)) && (leb at row && ltb row (at + 1)))
     same width left w at row col e m = grind (arith, nat_tests)
 
@@ -142,9 +147,9 @@ tile_next old mid tile width left top w rows tile_left tile_top from to so acros
           ∙ ap (λ t. cond (leb t (row * width + col) && ltb (row * width + col) (t + w)) r o) so.to_is
           ∙ ap (λ b. cond b r o) (stretch width left w (top + rows) row col across k)
           ∙ one_more left top w rows col row r (pixel_of tile (tile_left + (col - left)) (tile_top + (row - top))) (get_or old (row * width + col) clear) o
-            (λ t. let q : (from + ((row * width + col) - to) ≡ 64 * (tile_top + (row - top)) + (tile_left + (col - left))) × ((row * width + col) - to < w) = tile_place width left top w rows col row to from tile_left tile_top so.to_is so.from_is t in
-                get_or-take (from + w - from) (drop from tile) ((row * width + col) - to) clear (omega arith) ∙ get_or-drop from tile ((row * width + col) - to) clear ∙ ap (λ i. get_or tile i clear) q.0)
-            (so.laid col row k);
+          (λ t. let q : (from + ((row * width + col) - to) ≡ 64 * (tile_top + (row - top)) + (tile_left + (col - left))) × ((row * width + col) - to < w) = tile_place width left top w rows col row to from tile_left tile_top so.to_is so.from_is t in
+          get_or-take (from + w - from) (drop from tile) ((row * width + col) - to) clear (omega arith) ∙ get_or-drop from tile ((row * width + col) - to) clear ∙ ap (λ i. get_or tile i clear) q.0)
+          (so.laid col row k);
       from_is = omega (arith, so.from_is);
       to_is = further top rows width left to so.to_is;
     }

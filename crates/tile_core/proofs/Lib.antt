@@ -9,3 +9,4 @@ pub mod OnPaper
 pub mod PartsOf
 pub mod FrameRows
 pub mod SameRows
+pub mod TileLaws

@@ -1,12 +1,12 @@
 -- Rectangles as parts of their tiles.
-use Rattle.std.proofs.Common.{◌≡◌, ℕ, ◌+◌, ◌-◌, ◌*◌, ◌%◌, ◌≤◌, ◌<◌, ◌↔◌, IsTrue, Bool, true, ◌&&◌, List, sym, ap, ◌∙◌, arith}
-use Rattle.std.specs.Prelude.{ℤ, pos, negsuc, ◌+ℤ◌, ◌-ℤ◌, ◌*ℤ◌, int_le, int_lt, nat_abs, ◌≤ℤ◌, ◌<ℤ◌}
+use Rattle.std.proofs.Common.{◌≡◌, ℕ, ◌+◌, ◌%◌, ◌≤◌, ◌<◌, ◌↔◌, IsTrue, Bool, true, ◌&&◌, List, sym, ap, ◌∙◌, arith}
+use Rattle.std.specs.Prelude.{ℤ, pos, ◌+ℤ◌, ◌-ℤ◌, int_le, int_lt, nat_abs, ◌≤ℤ◌, ◌<ℤ◌}
 use borrow.Author.Differences.{ints}
 use Rattle.pixel_core.specs.Rgba.{Rgba}
 use Rattle.geom_core.specs.Points.{Point, point}
 use Rattle.geom_core.specs.Areas.{Area, holds, IsWithin}
 use Rattle.geom_core.specs.Grid.{Key, tile, IsWorldKey}
-use Rattle.geom_core.specs.Place.{across, down, IsOffset}
+use Rattle.geom_core.specs.Place.{across, down}
 use Rattle.geom_core.proofs.Tests.{and_left, and_right, both_true}
 use Rattle.tile_core.specs.declared.rows.Part.{Part}
 use Rattle.tile_core.specs.Pixels.{Pixels, pixel_of, pixel_at, whole_tile, SameOn, HasPixels}
@@ -41,6 +41,7 @@ axis_place a x n low high h = omega (arith, ints, starts a x n h, ends a x n h)
   where
     starts : (a x : ℤ) (n : ℕ) → (int_le a x && int_lt x (a +ℤ pos n)) ≡ true → a ≤ℤ x
     starts a x n h = grind (arith, ints)
+
     ends : (a x : ℤ) (n : ℕ) → (int_le a x && int_lt x (a +ℤ pos n)) ≡ true → x <ℤ (a +ℤ pos n)
     ends a x n h = grind (arith, ints)
 

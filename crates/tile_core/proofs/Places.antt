@@ -1,16 +1,15 @@
 -- Points of a rectangle and their places in row order.
-use Rattle.std.proofs.Common.{◌≡◌, ◌≢◌, ℕ, ◌+◌, ◌-◌, ◌*◌, ◌≤◌, ◌<◌, Bool, true, false, ◌&&◌, cond, List, length, get_or, refl, sym, ap, ◌∙◌, arith, ltb, leb, ◌⊎◌, inl, inr}
+use Rattle.std.proofs.Common.{◌≡◌, ℕ, ◌+◌, ◌*◌, ◌<◌, Bool, true, false, ◌&&◌, cond, List, length, get_or, refl, sym, ap, ◌∙◌, arith, ◌⊎◌, inl, inr}
 use Rattle.std.proofs.Math.ListN.{set}
-use Rattle.std.specs.Prelude.{ℤ, pos, ◌+ℤ◌, ◌-ℤ◌, int_le, int_lt, nat_abs, ◌≤ℤ◌, ◌<ℤ◌, nat_eq}
+use Rattle.std.specs.Prelude.{ℤ, pos, ◌+ℤ◌, ◌-ℤ◌, int_le, int_lt, nat_abs}
 use Rattle.std.specs.Ordering.{int_eq}
 use borrow.Author.Differences.{ints}
-use Rattle.std.proofs.lemmas.Bool.Decides.{nat_tests}
 use Rattle.pixel_core.specs.Rgba.{Rgba, clear}
 use Rattle.geom_core.specs.Points.{Point, point, same_point}
-use Rattle.geom_core.specs.Areas.{Area, area, holds, place_in}
+use Rattle.geom_core.specs.Areas.{Area, holds, place_in}
 use Rattle.std.proofs.lemmas.List.{get_or-set_same, get_or-set_other}
 use Rattle.std.proofs.Common.{subst}
-use Rattle.tile_core.specs.Blocks.{Piece, piece, IsPiece, SetsAt, piece_at}
+use Rattle.tile_core.specs.Blocks.{Piece, piece, IsPiece, SetsAt}
 use Rattle.tile_core.proofs.LaidRows.{next_fits}
 
 and_left : (a b : Bool) → (a && b) ≡ true → a ≡ true
@@ -31,9 +30,9 @@ which a b = grind arith
 -- the same place means the same row and the same column
 row_same : (w r c s d : ℕ) → c < w → d < w → r * w + c ≡ s * w + d → r ≡ s
 row_same w r c s d p q e = elim (which r s) [
-    | inl l ↦ absurd (omega (arith, next_fits r s w l))
-    | inr m ↦ elim m [ inl l ↦ absurd (omega (arith, next_fits s r w l)) | inr l ↦ l ]
-  ]
+  | inl l ↦ absurd (omega (arith, next_fits r s w l))
+  | inr m ↦ elim m [ inl l ↦ absurd (omega (arith, next_fits s r w l)) | inr l ↦ l ]
+]
 
 col_same : (w r c s d : ℕ) → r ≡ s → r * w + c ≡ s * w + d → c ≡ d
 col_same w r c s d f e = let g : r * w ≡ s * w = ap (λ i. i * w) f in omega arith
@@ -69,10 +68,10 @@ same_point-same p q t = let u : (int_eq p.x q.x && int_eq p.y q.y) ≡ true = sy
 pub sets_at : (a : Area) (ps : List Rgba) (q : Point) (c : Rgba) (p : Point) → holds a q ≡ true → holds a p ≡ true → place_in a q < length ps
     → get_or (set ps (place_in a q) c) (place_in a p) clear ≡ cond (same_point p q) c (get_or ps (place_in a p) clear)
 sets_at a ps q c p hq hp small = elim (test_cases (same_point p q)) [
-    | inl t ↦ let e : p ≡ q = same_point-same p q t in rw t (rw e (get_or-set_same ps (place_in a q) c clear small))
-    | inr f ↦ rw f (get_or-set_other ps (place_in a q) (place_in a p) c clear (λ e. let u : same_point p q ≡ true = rw (place_same a p q hp hq e) (same_point-refl q) in
-        let v : true ≡ false = sym u ∙ f in cc))
-  ]
+  | inl t ↦ let e : p ≡ q = same_point-same p q t in rw t (rw e (get_or-set_same ps (place_in a q) c clear small))
+  | inr f ↦ rw f (get_or-set_other ps (place_in a q) (place_in a p) c clear (λ e. let u : same_point p q ≡ true = rw (place_same a p q hp hq e) (same_point-refl q) in
+      let v : true ≡ false = sym u ∙ f in cc))
+]
 
 -- one pixel of a block is set
 pub sets_one : (b : Piece) (q : Point) (c : Rgba) (i : ℕ) → IsPiece b → holds b.rect q ≡ true → i ≡ place_in b.rect q → i < b.rect.h * b.rect.w → SetsAt b (piece b.key b.rect (set b.pixels i c)) q c

@@ -1,5 +1,5 @@
 -- Tiles that have the same pixels, row by row.
-use Rattle.std.proofs.Common.{◌≡◌, ℕ, ◌+◌, ◌-◌, ◌*◌, ◌≤◌, ◌<◌, Bool, true, ◌&&◌, nat_eq, List, length, get_or, take, drop, sym, ap, ◌∙◌, subst, arith, ◌⊎◌, inl, inr}
+use Rattle.std.proofs.Common.{◌≡◌, ℕ, ◌+◌, ◌-◌, ◌*◌, ◌≤◌, ◌<◌, Bool, true, ◌&&◌, nat_eq, length, get_or, drop, sym, ap, ◌∙◌, subst, arith, ◌⊎◌, inl, inr}
 use Rattle.std.specs.Prelude.{slice_range}
 use Rattle.std.proofs.lemmas.Bool.Decides.{nat_tests}
 use Rattle.std.proofs.lemmas.List.{ext_get_or, get_or-take, get_or-drop}
@@ -35,12 +35,12 @@ in_row tile left top w rows from col e h =
 -- one more row is the same
 pub same_next : (tile other : Pixels) (left top w rows from : ℕ) → SameSoFar tile other left top w rows from → slice_range tile from (from + w) ≡ slice_range other from (from + w) → SameSoFar tile other left top w (rows + 1) (from + 64)
 same_next tile other left top w rows from so e = record {
-    same = λ col row p q. elim (either row rows q) as (λ _. pixel_of tile (left + col) (top + row) ≡ pixel_of other (left + col) (top + row)) [
-      | inl l ↦ so.same col row p l
-      | inr f ↦ rw f (sym (in_row tile left top w rows from col so.from_is p) ∙ ap (λ v. get_or v col clear) e ∙ in_row other left top w rows from col so.from_is p)
-    ];
-    from_is = omega (arith, so.from_is);
-  }
+  same = λ col row p q. elim (either row rows q) as (λ _. pixel_of tile (left + col) (top + row) ≡ pixel_of other (left + col) (top + row)) [
+    | inl l ↦ so.same col row p l
+    | inr f ↦ rw f (sym (in_row tile left top w rows from col so.from_is p) ∙ ap (λ v. get_or v col clear) e ∙ in_row other left top w rows from col so.from_is p)
+  ];
+  from_is = omega (arith, so.from_is);
+}
   where
     either : (row rows : ℕ) → row < rows + 1 → (row < rows) ⊎ (row ≡ rows)
     either row rows q = grind arith
@@ -50,4 +50,4 @@ pub each_same : (tile other : Pixels) (left top w h rows from : ℕ) → SamePar
 each_same tile other left top w h rows from same e l p q =
     let n : length (slice_range tile from (from + w)) ≡ w = length_range tile from w p in
     ext_get_or clear (slice_range tile from (from + w)) (slice_range other from (from + w)) (n ∙ sym (length_range other from w q))
-      (λ col k. let k' : col < w = omega (arith, n) in in_row tile left top w rows from col e k' ∙ same col rows k' l ∙ sym (in_row other left top w rows from col e k'))
+    (λ col k. let k' : col < w = omega (arith, n) in in_row tile left top w rows from col e k' ∙ same col rows k' l ∙ sym (in_row other left top w rows from col e k'))

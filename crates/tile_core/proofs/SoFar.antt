@@ -1,5 +1,5 @@
 -- How far the loops over rows have come.
-use Rattle.std.proofs.Common.{◌≡◌, ℕ, ◌+◌, ◌*◌, ◌<◌, List, length}
+use Rattle.std.proofs.Common.{◌≡◌, ℕ, ◌+◌, ◌*◌, List, length}
 use Rattle.pixel_core.specs.Rgba.{Rgba}
 use Rattle.tile_core.specs.Pixels.{Pixels}
 use Rattle.tile_core.specs.Parts.{LaysPart, TakesPart, LaysTile, SamePart}

@@ -1,14 +1,14 @@
 -- A part taken from a tile, point by point.
-use Rattle.std.proofs.Common.{◌≡◌, ℕ, ◌+◌, ◌-◌, ◌*◌, ◌%◌, ◌≤◌, ◌<◌, Bool, true, false, ◌&&◌, cond, List, length, get_or, replicate, Option, Some, None, refl, sym, ap, ◌∙◌, arith, ltb, leb}
+use Rattle.std.proofs.Common.{◌≡◌, ℕ, ◌+◌, ◌-◌, ◌*◌, ◌%◌, ◌≤◌, ◌<◌, true, ◌&&◌, List, get_or, replicate, Option, refl, sym, ap, ◌∙◌, arith, ltb, leb}
 use Rattle.std.specs.Prelude.{ℤ, pos, ◌+ℤ◌, ◌-ℤ◌, ◌*ℤ◌, int_le, int_lt, nat_abs, ◌≤ℤ◌}
 use borrow.Author.Differences.{ints}
 use Rattle.std.proofs.lemmas.Bool.Decides.{nat_tests}
 use Rattle.std.proofs.lemmas.List.{get_or-replicate}
 use Rattle.pixel_core.specs.Rgba.{Rgba, clear}
-use Rattle.geom_core.specs.Points.{Point, point}
-use Rattle.geom_core.specs.Areas.{Area, area, holds, place_in}
+use Rattle.geom_core.specs.Points.{Point}
+use Rattle.geom_core.specs.Areas.{Area, holds, place_in}
 use Rattle.geom_core.specs.Grid.{Key, key_of, tile, IsWorldKey}
-use Rattle.geom_core.specs.Place.{across, down, IsOffset}
+use Rattle.geom_core.specs.Place.{IsOffset}
 use Rattle.geom_core.proofs.Tests.{and_left, and_right, both_true}
 use Rattle.geom_core.proofs.Spots.{TileSpot, tile_spot}
 use Rattle.tile_core.specs.Pixels.{Pixels, pixel_of, pixel_at}
@@ -47,9 +47,9 @@ has_pixels t k a ps left top wk is el et sw sh takes p held =
     let bx : (left % 64 + (c - left % 64) ≡ c) × (c - left % 64 < a.w) = between (left % 64) c a.w (f.inside ∙ hx) in
     let by : (top % 64 + (r - top % 64) ≡ r) × (r - top % 64 < a.h) = between (top % 64) r a.h (g.inside ∙ hy) in
     rw (rest_of p.x n c spot.x spot.col, rest_of p.y m r spot.y spot.row)
-      (ap (λ i. get_or ps i clear) (rw (f.apart hx, g.apart hy) refl)
-      ∙ takes (c - left % 64) (r - top % 64) bx.1 by.1
-      ∙ ap (λ i. pixel_of t i (top % 64 + (r - top % 64))) bx.0 ∙ ap (λ i. pixel_of t c i) by.0)
+    (ap (λ i. get_or ps i clear) (rw (f.apart hx, g.apart hy) refl)
+    ∙ takes (c - left % 64) (r - top % 64) bx.1 by.1
+    ∙ ap (λ i. pixel_of t i (top % 64 + (r - top % 64))) bx.0 ∙ ap (λ i. pixel_of t c i) by.0)
 
 steps_small : (a x : ℤ) (n : ℕ) → (int_le a x && int_lt x (a +ℤ pos n)) ≡ true → nat_abs (x -ℤ a) < n
 steps_small a x n h = grind (arith, ints)

@@ -1,7 +1,7 @@
 -- A block as contracts see it: pixels on a rectangle inside one tile.
-use Rattle.std.specs.Prelude.{◌≡◌, ℕ, ◌+◌, ◌-◌, ◌*◌, ◌≤◌, ℤ, pos, ◌-ℤ◌, nat_abs, List, slice_index_or, length, replicate, cond}
+use Rattle.std.specs.Prelude.{◌≡◌, ◌*◌, List, slice_index_or, length, replicate, cond}
 use Rattle.geom_core.specs.Points.{Point, same_point}
-use Rattle.std.specs.Prelude.{◌≤ℤ◌, true}
+use Rattle.std.specs.Prelude.{true}
 use Rattle.geom_core.specs.Areas.{Area, holds, IsWithin, place_in}
 use Rattle.tile_core.specs.Pixels.{Pixels, pixel_at}
 use Rattle.geom_core.specs.Grid.{Key, tile, IsWorldKey}

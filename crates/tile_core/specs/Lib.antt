@@ -4,3 +4,4 @@ pub mod Blocks
 pub mod Shots
 pub mod Frames
 pub mod Maps
+pub mod Laws

@@ -1,5 +1,5 @@
 -- Parts of tiles: some columns from `left` on, in some rows from `top` on.
-use Rattle.std.specs.Prelude.{◌≡◌, ℕ, ◌+◌, ◌-◌, ◌*◌, ◌%◌, ◌<◌, ◌≤◌, Bool, ◌&&◌, nat_le, nat_lt, nat_abs, pos, ◌+ℤ◌, cond, List, slice_index_or, length}
+use Rattle.std.specs.Prelude.{◌≡◌, ℕ, ◌+◌, ◌-◌, ◌*◌, ◌%◌, ◌<◌, ◌≤◌, Bool, ◌&&◌, nat_le, nat_lt, nat_abs, pos, ◌+ℤ◌, cond, List, slice_index_or}
 use Rattle.geom_core.specs.Areas.{Area}
 use Rattle.geom_core.specs.Place.{IsOffset}
 use Rattle.pixel_core.specs.Rgba.{Rgba, clear}

@@ -1,5 +1,5 @@
 -- A shot as contracts see it: rectangles, a default pixel, and tiles under some keys.
-use Rattle.std.specs.Prelude.{◌≡◌, ℕ, ℤ, Option, Some, None, true, false, List, slice_index_or, length, refl, cond}
+use Rattle.std.specs.Prelude.{◌≡◌, true, List, slice_index_or, refl, cond}
 use Rattle.std.specs.List.{list_any}
 use Rattle.std.specs.FinMap as map
 use Rattle.std.specs.FinMap.{FinMap}

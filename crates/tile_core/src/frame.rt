@@ -87,7 +87,10 @@ impl Frame {
         requires y { y < self.now.height }
         ensures { result ≡ colours_at self.now (point (pos x) (pos y)) }
     {
-        colours_of(pixel_under(&self.tiles, Pixel::CLEAR, x as i32, y as i32), self.paper)
+        colours_of(
+            pixel_under(&self.tiles, Pixel::CLEAR, x as i32, y as i32),
+            self.paper,
+        )
     }
 
     /// Writes red, green and blue of each point of a row to the first 3 * width places, from the left.
@@ -152,5 +155,9 @@ fn colours_of(p: Pixel, paper: Pixel) -> [u8; 3]
         return [r, g, b];
     }
     let [r, g, b, a] = p.bytes();
-    if a == 255 { [r, g, b] } else { on_paper(p, paper) }
+    if a == 255 {
+        [r, g, b]
+    } else {
+        on_paper(p, paper)
+    }
 }

@@ -14,7 +14,11 @@ use pixel_core::Pixel;
 use std::collections::BTreeMap;
 
 /// The tile goes under the key.
-pub fn put_under(tiles: &mut BTreeMap<TileKey, Tile>, key: TileKey, tile: Tile) -> Result<(), NoMemory>
+pub fn put_under(
+    tiles: &mut BTreeMap<TileKey, Tile>,
+    key: TileKey,
+    tile: Tile,
+) -> Result<(), NoMemory>
     ensures ok { OnOk result (PutsUnder tiles.old tiles.new key tile) }
     ensures err { OnErr result (tiles.new.entries ≡ tiles.old.entries) }
 {

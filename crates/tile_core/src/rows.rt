@@ -42,7 +42,12 @@ fn lay_part(tile: &mut [Pixel], part: Part, src: &[Pixel])
 }
 
 /// The tile with these rows on the part. One copy where the part is the whole tile.
-pub fn with_part(alloc: Global, tile: &[Pixel], part: Part, src: &[Pixel]) -> Result<Vec<Pixel>, AllocError>
+pub fn with_part(
+    alloc: Global,
+    tile: &[Pixel],
+    part: Part,
+    src: &[Pixel],
+) -> Result<Vec<Pixel>, AllocError>
     requires whole { length tile.now ≡ 4096 }
     requires across { part.left + part.w ≤ 64 }
     requires down { part.top + part.h ≤ 64 }
@@ -101,7 +106,14 @@ fn same_pixels(row: &[Pixel], other: &[Pixel]) -> bool
 
 /// Lays a part of a tile, from its column `tile_left` and its row `tile_top` on, over a part of
 /// pixels that stand in rows of that width.
-pub fn lay_tile_rows(pixels: &mut [Pixel], width: usize, part: Part, tile: &[Pixel], tile_left: usize, tile_top: usize)
+pub fn lay_tile_rows(
+    pixels: &mut [Pixel],
+    width: usize,
+    part: Part,
+    tile: &[Pixel],
+    tile_left: usize,
+    tile_top: usize,
+)
     requires across { part.left + part.w ≤ width }
     requires down { (part.top + part.h) * width ≤ length pixels.old }
     requires small { length pixels.old < 2 ^ 32 }

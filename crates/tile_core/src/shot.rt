@@ -155,7 +155,14 @@ fn lay_common(pixels: &mut [Pixel], rect: &Rect, key: TileKey, part: &Rect, tile
         h: part.h() as usize,
     };
     let width = rect.w() as usize;
-    lay_tile_rows(pixels, width, place, tile.pixels(), left as usize % 64, top as usize % 64);
+    lay_tile_rows(
+        pixels,
+        width,
+        place,
+        tile.pixels(),
+        left as usize % 64,
+        top as usize % 64,
+    );
 }
 
 /// One pixel at each point of a rectangle.
@@ -177,7 +184,8 @@ fn lies_in_some(rect: &Rect, others: &[Rect]) -> bool
 fn lies_in(rect: &Rect, other: &Rect) -> bool
     ensures { result ≡ lies_in rect.now other.now }
 {
-    lies_along(rect.left(), rect.w(), other.left(), other.w()) && lies_along(rect.top(), rect.h(), other.top(), other.h())
+    lies_along(rect.left(), rect.w(), other.left(), other.w())
+        && lies_along(rect.top(), rect.h(), other.top(), other.h())
 }
 
 /// Whether the n numbers from a on are among the m numbers from b on.

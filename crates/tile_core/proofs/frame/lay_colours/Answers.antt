@@ -1,4 +1,3 @@
-use Rattle.std.proofs.Common.{refl}
 use Rattle.tile_core.proofs.FrameRows.{colours_next}
 use Rattle.tile_core.proofs.frame.lay_colours.Goals as goal
 

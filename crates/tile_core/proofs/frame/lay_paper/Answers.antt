@@ -1,8 +1,3 @@
-use Rattle.std.proofs.Common.{◌≡◌, List, ◌+◌, ◌*◌, ◌++◌, take, drop, replicate, length, ap, ◌∙◌}
-use Rattle.std.specs.List.{flat_map}
-use Rattle.std.proofs.lemmas.List.{take-replicate, length-replicate}
-use Rattle.pixel_core.specs.Rgba.{Rgba, clear}
-use Rattle.pixel_core.specs.Compose.{on_paper}
 use Rattle.tile_core.proofs.FrameRows.{lays_clear}
 use Rattle.tile_core.proofs.frame.lay_paper.Goals as goal
 

@@ -1,4 +1,4 @@
-use Rattle.std.proofs.Common.{arith, ◌≤◌, ◌+◌, length}
+use Rattle.std.proofs.Common.{arith}
 use Rattle.tile_core.proofs.LaidRows.{lays_next, next_fits}
 use Rattle.tile_core.proofs.rows.lay_part.Goals as goal
 

@@ -1,5 +1,3 @@
-use Rattle.std.proofs.Common.{◌≡◌, ℕ, ◌+◌, ◌*◌, length}
-use Rattle.tile_core.specs.Parts.{LaysPart}
 use Rattle.tile_core.proofs.SoFar.{LaidSoFar}
 use Rattle.tile_core.proofs.rows.lay_part.Given as goal
 

@@ -1,4 +1,4 @@
-use Rattle.std.proofs.Common.{arith, ◌≤◌, ◌+◌, length}
+use Rattle.std.proofs.Common.{arith, ◌+◌}
 use Rattle.tile_core.proofs.LaidRows.{tile_next, next_fits}
 use Rattle.tile_core.proofs.rows.lay_tile_rows.Goals as goal
 

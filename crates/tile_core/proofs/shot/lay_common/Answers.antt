@@ -1,4 +1,3 @@
-use Rattle.std.proofs.Common.{◌≡◌, arith, ◌≤◌, ◌+◌, ◌*◌, ◌-◌}
 use Rattle.tile_core.proofs.LaidKeys.{lays_key_as, tile_fits, in_span, rows_fit}
 use Rattle.tile_core.proofs.shot.lay_common.Goals as goal
 

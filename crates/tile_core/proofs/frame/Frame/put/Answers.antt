@@ -1,7 +1,7 @@
-use Rattle.std.proofs.Common.{◌≡◌, ap}
+use Rattle.std.proofs.Common.{ap}
 use Rattle.std.proofs.lemmas.Result.{IfOk-weaker}
 use Rattle.tile_core.specs.Maps.{PutsUnder}
-use Rattle.tile_core.specs.Frames.{scene, with_put}
+use Rattle.tile_core.specs.Frames.{scene}
 use Rattle.tile_core.proofs.MapViews.{view-put}
 use Rattle.tile_core.proofs.frame.Frame.put.Goals as goal
 

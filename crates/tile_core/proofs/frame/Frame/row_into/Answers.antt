@@ -1,4 +1,4 @@
-use Rattle.std.proofs.Common.{arith, ◌≡◌, ◌≤◌, ◌<◌, length, ap}
+use Rattle.std.proofs.Common.{arith, ◌≡◌, ap}
 use Rattle.tile_core.specs.Frames.{Scene}
 use Rattle.tile_core.proofs.FrameRows.{row_next, row_all}
 use Rattle.tile_core.proofs.frame.Frame.row_into.Goals as goal

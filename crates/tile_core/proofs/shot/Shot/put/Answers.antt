@@ -1,7 +1,7 @@
-use Rattle.std.proofs.Common.{◌≡◌, ap}
+use Rattle.std.proofs.Common.{ap}
 use Rattle.std.proofs.lemmas.Result.{IfOk-weaker}
 use Rattle.tile_core.specs.Maps.{PutsUnder}
-use Rattle.tile_core.specs.Shots.{Sight, sight, with_seen}
+use Rattle.tile_core.specs.Shots.{sight}
 use Rattle.tile_core.proofs.MapViews.{view-put}
 use Rattle.tile_core.proofs.shot.Shot.put.Goals as goal
 

@@ -1,4 +1,4 @@
-use Rattle.std.proofs.Common.{arith, rules}
+use Rattle.std.proofs.Common.{rules}
 use Rattle.std.specs.Prelude.{pos}
 use Rattle.geom_core.specs.Grid.{key, IsWorldKey}
 use Rattle.tile_core.proofs.PartsOf.{fits_across, fits_down, same_on}
