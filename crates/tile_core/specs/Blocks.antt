@@ -7,14 +7,17 @@ use Rattle.tile_core.specs.Pixels.{Pixels, pixel_at}
 use Rattle.geom_core.specs.Grid.{Key, tile, IsWorldKey}
 use Rattle.pixel_core.specs.Rgba.{Rgba, clear}
 
+-- a block's key, its rectangle, and the rectangle's pixels in row order
 pub record Piece : Type 0 where
   pub key : Key
   pub rect : Area
   pub pixels : List Rgba
 
+-- the block of these parts
 abbrev pub piece : Key → Area → List Rgba → Piece
 piece k a ps = record { key = k; rect = a; pixels = ps }
 
+-- a key of the world, a rectangle inside its tile, and a pixel for each of the rectangle's points
 pub record IsPiece (b : Piece) : Type 0 where
   pub key : IsWorldKey b.key
   pub inside : IsWithin b.rect (tile b.key)
@@ -24,6 +27,7 @@ pub record IsPiece (b : Piece) : Type 0 where
 abbrev pub piece_at : Piece → Point → Rgba
 piece_at b p = slice_index_or b.pixels (place_in b.rect p) clear
 
+-- a block with that pixel at each of its points
 abbrev pub plain_piece : Key → Area → Rgba → Piece
 plain_piece k a c = piece k a (replicate (a.h * a.w) c)
 

@@ -11,12 +11,14 @@ use Rattle.geom_core.specs.Areas.{row}
 use Rattle.geom_core.specs.Grid.{Key, key_cmp, key_of, key_code}
 use Rattle.tile_core.specs.Pixels.{Pixels, pixel_or}
 
+-- a frame's sides, its paper, and what was put
 pub record Scene : Type 0 where
   pub width : ℕ
   pub height : ℕ
   pub paper : Rgba
   pub tiles : FinMap key_cmp Pixels
 
+-- the frame of these parts
 abbrev pub scene : ℕ → ℕ → Rgba → FinMap key_cmp Pixels → Scene
 scene w h paper m = record { width = w; height = h; paper = paper; tiles = m }
 

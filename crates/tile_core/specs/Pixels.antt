@@ -5,6 +5,7 @@ use Rattle.geom_core.specs.Areas.{Area, area, holds, place_in}
 use Rattle.geom_core.specs.Place.{across, down}
 use Rattle.pixel_core.specs.Rgba.{Rgba, clear}
 
+-- the pixels of a tile, row by row from the top, each row from the left
 abbrev pub Pixels : Type 0
 Pixels = List Rgba
 

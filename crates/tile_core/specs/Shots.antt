@@ -10,11 +10,13 @@ use Rattle.geom_core.specs.Areas.{Area, holds, place_in, area_code}
 use Rattle.geom_core.specs.Grid.{Key, key_cmp, key_of, same_key, key_code}
 use Rattle.tile_core.specs.Pixels.{Pixels, pixel_at, pixel_or}
 
+-- a shot's rectangles, its tiles under keys, and the pixel that it has wherever no tile stands
 pub record Sight : Type 0 where
   pub default_pixel : Rgba
   pub rects : List Area
   pub tiles : FinMap key_cmp Pixels
 
+-- the shot of these parts
 abbrev pub sight : Rgba → List Area → FinMap key_cmp Pixels → Sight
 sight c rects m = record { default_pixel = c; rects = rects; tiles = m }
 
