@@ -2,6 +2,7 @@
 
 ghost use Rattle.std.specs.Prelude.{◌≡◌, OnOk, OnErr, true};
 ghost use Rattle.std.specs.BTreeMap as tree;
+ghost use Rattle.std.specs.Option.{option_copied};
 ghost use Rattle.geom_core.specs.Areas.{holds, world};
 ghost use Rattle.geom_core.specs.Grid.{key_cmp, key_of};
 ghost use Rattle.geom_core.specs.Points.{point};
@@ -24,6 +25,13 @@ pub fn put_under(
 {
     tiles.insert(key, tile)?;
     Ok(())
+}
+
+/// The tile under the key.
+pub fn tile_under(tiles: &BTreeMap<TileKey, Tile>, key: TileKey) -> Option<&Tile>
+    ensures { option_copied result ≡ tree.get key_cmp tiles.now key }
+{
+    tiles.get(&key)
 }
 
 /// The pixel at a point, which is `default_pixel` where no tile stands.

@@ -2,6 +2,7 @@
 
 ghost use Rattle.std.specs.Prelude.{List, [], ◌∷◌, ◌++◌, length, replicate, ◌≡◌, ℕ, ◌*◌, true, IfOk, OnOk, OnErr, vec_len, ◌+◌, ◌≤◌, ◌&&◌, nat_le};
 ghost use Rattle.std.specs.List.{list_any};
+ghost use Rattle.std.specs.Option.{option_copied};
 ghost use Rattle.std.specs.FinMap as map;
 ghost use Rattle.geom_core.specs.Areas.{holds, lies_in, world, IsWithin, IsShared};
 ghost use Rattle.geom_core.specs.Grid.{Key, IsWorldKey, tile as tile_area};
@@ -10,7 +11,7 @@ ghost use Rattle.tile_core.specs.Pixels.{HasPixels};
 ghost use Rattle.tile_core.specs.Shots.{sight, sight_at, with_seen, LaysKey, ReadsKeys};
 
 use crate::Tile;
-use crate::keyed::{pixel_under, put_under};
+use crate::keyed::{pixel_under, put_under, tile_under};
 use crate::rows::{Part, lay_tile_rows};
 use geom_core::{NoMemory, Rect, TileKey};
 use pixel_core::Pixel;
@@ -72,6 +73,13 @@ impl Shot {
         ensures { result ≡ sight_at self.now (point x y) }
     {
         pixel_under(&self.tiles, self.ground, x, y)
+    }
+
+    /// The tile that was put under the key. Where there is none, the key's points are the ground.
+    pub fn tile(&self, key: TileKey) -> Option<&Tile>
+        ensures { option_copied result ≡ map.get self.now.tiles key }
+    {
+        tile_under(&self.tiles, key)
     }
 
     /// Whether the rectangle lies in one of the shot's rectangles.

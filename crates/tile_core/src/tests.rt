@@ -78,6 +78,7 @@ fn a_shot(rt: HostRuntime) -> Result<(), Fail> {
         shot.read(alloc, ORIGIN, &right)?.as_slice(),
         [red, red].as_slice()
     );
+    assert!(rt; shot.tile(ORIGIN).is_some());
     assert!(rt; shot.covers(&right));
     assert!(rt; !shot.covers(&ORIGIN.rect()));
     Ok(())
