@@ -1,22 +1,15 @@
 -- The group round a node.
-use Rattle.std.proofs.Common.{◌≡◌, ◌≢◌, ℕ, suc, zero, ◌+◌, ◌-◌, ◌<◌, ◌≤◌, Bool, true, false, ◌||◌, not, cond, Option, Some, None, List, [], ◌∷◌, ◌++◌, map, refl, sym, ap, ◌∙◌, arith, eqb, subst, append_assoc, append-nil}
+use Rattle.std.proofs.Common.{◌≡◌, ℕ, suc, zero, ◌+◌, ◌≤◌, Bool, true, false, ◌||◌, cond, Option, IsNone, ◌↔◌, is_some, Some, None, List, [], ◌∷◌, ◌++◌, map, refl, sym, ap, ◌∙◌, arith, eqb, append_assoc, append-nil}
 use Rattle.std.proofs.lemmas.Bool.Decides.{nat_tests}
-use Rattle.doc_model.specs.declared.tree.Look.{Look}
-use Rattle.doc_model.specs.Forest.{Forest, none, paint, group, has, depth, parent}
-use Rattle.doc_model.specs.Flat.{Row, flat}
-use Rattle.doc_model.proofs.Parents.{Distinct}
-use Rattle.doc_model.proofs.Weights.{tree_distinct}
-use Rattle.doc_model.proofs.Paths.{or_cases, or_left, or_right, or_false, or_false'}
+use Rattle.geom_core.proofs.Tests.{kept, none_left, none_right}
+use Rattle.doc_model.specs.Forest.{none, paint, group, has, depth, parent}
+use Rattle.doc_model.specs.Flat.{flat}
 use Rattle.tree_core.specs.declared.node.Node.{Node}
-use Rattle.tree_core.specs.Rows.{Tree, row_of, tree_of, IsKept, last_above}
-use Rattle.tree_core.proofs.Segments.{Rows}
-use Rattle.tree_core.proofs.Moved.{depth_some}
-
-kept : {B : Type 0} (b : Bool) (x y : B) → b ≡ false → cond b x y ≡ y
-kept b x y e = rw e refl
-
-turned : (a b : ℕ) → eqb a b ≡ eqb b a
-turned a b = grind (arith, nat_tests)
+use Rattle.tree_core.specs.Nodes.{Tree, row_of, tree_of, IsKept}
+use Rattle.tree_core.proofs.Choices.{turned, same, none_only}
+use Rattle.tree_core.proofs.Kept.{Rows}
+use Rattle.tree_core.proofs.Passes.{last_above}
+use Rattle.tree_core.proofs.Depths.{depth_some}
 
 abbrev row_last : ℕ → ℕ → ℕ → Rows → Option ℕ
 row_last q d best [] = None
@@ -29,15 +22,15 @@ not_two e d h = grind (arith, nat_tests)
 skip : (q d best e : ℕ) (f : Tree) (rows : Rows) → has q f ≡ false → (best' : ℕ) × (row_last q d best (flat e f ++ rows) ≡ row_last q d best' rows) × (d ≤ suc e → best' ≡ best)
 skip q d best e none rows h = (best, refl, λ l. refl)
 skip q d best e (paint id look x rest) rows h =
-    let i : (best' : ℕ) × (row_last q d (cond (eqb (e + 2) d) id best) (flat e rest ++ rows) ≡ row_last q d best' rows) × (d ≤ suc e → best' ≡ cond (eqb (e + 2) d) id best) = skip q d (cond (eqb (e + 2) d) id best) e rest rows (or_false' (eqb q id) _ h) in
-    (i.0, kept (eqb q id) _ _ (or_false (eqb q id) _ h) ∙ i.1, λ l. i.2 l ∙ kept (eqb (e + 2) d) id best (not_two e d l))
+    let i : (best' : ℕ) × (row_last q d (cond (eqb (e + 2) d) id best) (flat e rest ++ rows) ≡ row_last q d best' rows) × (d ≤ suc e → best' ≡ cond (eqb (e + 2) d) id best) = skip q d (cond (eqb (e + 2) d) id best) e rest rows (none_right (eqb q id) _ h) in
+    (i.0, kept (eqb q id) _ _ (none_left (eqb q id) _ h) ∙ i.1, λ l. i.2 l ∙ kept (eqb (e + 2) d) id best (not_two e d l))
 skip q d best e (group id look nodes rest) rows h =
     let b : ℕ = cond (eqb (e + 2) d) id best in
     let m : (best' : ℕ) × (row_last q d (cond (eqb (e + 2) d) id best) (flat (suc e) nodes ++ (flat e rest ++ rows)) ≡ row_last q d best' (flat e rest ++ rows)) × (d ≤ suc (suc e) → best' ≡ cond (eqb (e + 2) d) id best) =
-    skip q d (cond (eqb (e + 2) d) id best) (suc e) nodes (flat e rest ++ rows) (or_false (has q nodes) _ (or_false' (eqb q id) _ h)) in
-    let i : (best' : ℕ) × (row_last q d m.0 (flat e rest ++ rows) ≡ row_last q d best' rows) × (d ≤ suc e → best' ≡ m.0) = skip q d m.0 e rest rows (or_false' (has q nodes) _ (or_false' (eqb q id) _ h)) in (
+    skip q d (cond (eqb (e + 2) d) id best) (suc e) nodes (flat e rest ++ rows) (none_left (has q nodes) _ (none_right (eqb q id) _ h)) in
+    let i : (best' : ℕ) × (row_last q d m.0 (flat e rest ++ rows) ≡ row_last q d best' rows) × (d ≤ suc e → best' ≡ m.0) = skip q d m.0 e rest rows (none_right (has q nodes) _ (none_right (eqb q id) _ h)) in (
       i.0,
-      kept (eqb q id) _ _ (or_false (eqb q id) _ h) ∙ ap (row_last q d (cond (eqb (e + 2) d) id best)) (append_assoc (flat (suc e) nodes) (flat e rest) rows) ∙ m.1 ∙ i.1,
+      kept (eqb q id) _ _ (none_left (eqb q id) _ h) ∙ ap (row_last q d (cond (eqb (e + 2) d) id best)) (append_assoc (flat (suc e) nodes) (flat e rest) rows) ∙ m.1 ∙ i.1,
       λ l. i.2 l ∙ m.2 (omega arith) ∙ kept (eqb (e + 2) d) id best (not_two e d l),
     )
 
@@ -106,8 +99,8 @@ last_flat q d best e (group id look nodes rest) rows h at = go (λ b g a. last_f
 
 parent_absent : (q a : ℕ) (f : Tree) → has q f ≡ false → parent q a f ≡ None
 parent_absent q a none h = refl
-parent_absent q a (paint id look x rest) h = kept (eqb q id) _ _ (or_false (eqb q id) _ h) ∙ parent_absent q a rest (or_false' (eqb q id) _ h)
-parent_absent q a (group id look nodes rest) h = kept (eqb q id) _ _ (or_false (eqb q id) _ h) ∙ kept (has q nodes) _ _ (or_false (has q nodes) _ (or_false' (eqb q id) _ h)) ∙ parent_absent q a rest (or_false' (has q nodes) _ (or_false' (eqb q id) _ h))
+parent_absent q a (paint id look x rest) h = kept (eqb q id) _ _ (none_left (eqb q id) _ h) ∙ parent_absent q a rest (none_right (eqb q id) _ h)
+parent_absent q a (group id look nodes rest) h = kept (eqb q id) _ _ (none_left (eqb q id) _ h) ∙ kept (has q nodes) _ _ (none_left (has q nodes) _ (none_right (eqb q id) _ h)) ∙ parent_absent q a rest (none_right (has q nodes) _ (none_right (eqb q id) _ h))
 
 last_rows : (q d best : ℕ) (nodes : List Node) → last_above q d best nodes ≡ row_last q d best (map row_of nodes)
 last_rows q d best [] = refl
@@ -119,3 +112,21 @@ parent_is q d nodes t k is e = last_rows q d 0 nodes ∙ ap (row_last q d 0) (k.
     go : (b : Bool) → has q (tree_of nodes) ≡ b → row_last q d 0 (flat 0 (tree_of nodes) ++ []) ≡ parent q 0 (tree_of nodes)
     go true h = let at : d ≡ depth q (tree_of nodes) = e ∙ ap (depth q) (sym is) in last_flat q d 0 0 (tree_of nodes) [] h (omega arith)
     go false h = (skip q d 0 0 (tree_of nodes) [] h).1 ∙ sym (parent_absent q 0 (tree_of nodes) h)
+
+parented : (q a : ℕ) (f : Tree) → is_some (parent q a f) ≡ has q f
+parented q a none = refl
+parented q a (paint id look x rest) = go (eqb q id) (parented q a rest)
+  where
+    go : (b : Bool) → is_some (parent q a rest) ≡ has q rest → is_some (cond b (Some a) (parent q a rest)) ≡ (b || has q rest)
+    go true e = refl
+    go false e = e
+parented q a (group id look nodes rest) = go (eqb q id) (has q nodes) refl (parented q id nodes) (parented q a rest)
+  where
+    go : (b t : Bool) → has q nodes ≡ t → is_some (parent q id nodes) ≡ has q nodes → is_some (parent q a rest) ≡ has q rest → is_some (cond b (Some a) (cond t (parent q id nodes) (parent q a rest))) ≡ (b || (t || has q rest))
+    go true t i e h = refl
+    go false true i e h = e ∙ i
+    go false false i e h = h
+
+-- a parent is None exactly where there is no such node
+pub parent_absent_only : (q : ℕ) (t : Tree) (o : Option ℕ) → o ≡ parent q 0 t → IsNone o ↔ (has q t ≡ false)
+parent_absent_only q t o e = none_only o (has q t) (ap is_some e ∙ parented q 0 t)

@@ -1,28 +1,18 @@
--- The rows of one node with those below it.
-use Rattle.std.proofs.Common.{◌≡◌, ◌≢◌, ℕ, suc, zero, ◌+◌, ◌-◌, ◌<◌, ◌≤◌, Bool, true, false, ◌&&◌, ◌||◌, not, cond, Option, Some, None, is_some, List, [], ◌∷◌, ◌++◌, map, length, refl, sym, ap, ◌∙◌, arith, eqb, ltb, subst, append_assoc, append-nil, ◌⊎◌, inl, inr}
-use Rattle.std.specs.Prelude.{max, min}
+-- The nodes of one node with those below it.
+use Rattle.std.proofs.Common.{◌≡◌, ℕ, suc, ◌+◌, ◌-◌, ◌<◌, Bool, true, false, ◌||◌, cond, Some, None, List, [], ◌∷◌, ◌++◌, map, refl, sym, ap, ◌∙◌, arith, eqb, ltb, append_assoc, append-nil}
 use Rattle.std.proofs.lemmas.Bool.Decides.{nat_tests}
-use Rattle.doc_model.specs.declared.tree.Look.{Look}
-use Rattle.doc_model.specs.Forest.{Forest, none, paint, group, has, height, depth, join, only, without}
+use Rattle.geom_core.proofs.Tests.{taken, kept, none_left, none_right}
+use Rattle.doc_model.specs.Forest.{none, paint, group, has, depth, join, only}
 use Rattle.doc_model.specs.Flat.{Row, flat, EndsAt, ends_below}
 use Rattle.doc_model.proofs.Parents.{Distinct}
 use Rattle.doc_model.proofs.Weights.{tree_distinct}
-use Rattle.doc_model.proofs.Paths.{or_cases, or_left, or_right, or_false, or_false', join_none, other_than, not_both}
+use Rattle.doc_model.proofs.Paths.{join_none}
 use Rattle.tree_core.specs.declared.node.Node.{Node}
-use Rattle.tree_core.specs.Rows.{Tree, row_of, tree_of, IsKept, first_with, deeper, part, deepest, relevel}
-use Rattle.tree_core.proofs.Scans.{found_any, any_flat}
-
-kept : {B : Type 0} (b : Bool) (x y : B) → b ≡ false → cond b x y ≡ y
-kept b x y e = rw e refl
-
-taken : {B : Type 0} (b : Bool) (x y : B) → b ≡ true → cond b x y ≡ x
-taken b x y e = rw e refl
-
-turned : (a b : ℕ) → eqb a b ≡ eqb b a
-turned a b = grind (arith, nat_tests)
-
-abbrev pub Rows : Type 0
-Rows = List (Row (Unit {0}))
+use Rattle.tree_core.specs.Nodes.{Tree, rows_of, row_of, tree_of, IsKept}
+use Rattle.tree_core.proofs.Choices.{turned}
+use Rattle.tree_core.proofs.Kept.{Rows}
+use Rattle.tree_core.proofs.Depths.{depth_some}
+use Rattle.tree_core.proofs.Passes.{deeper, part}
 
 abbrev row_deeper : ℕ → Rows → Rows
 row_deeper d [] = []
@@ -48,16 +38,16 @@ deeper_ends : (d : ℕ) (rows : Rows) → EndsAt (suc d) rows → row_deeper d r
 deeper_ends d [] h = refl
 deeper_ends d (r ∷ rs) h = kept (ltb d r.depth) _ _ (not_less d r.depth h)
 
-pub only_absent : (q : ℕ) (f : Tree) → has q f ≡ false → only q f ≡ none
+only_absent : (q : ℕ) (f : Tree) → has q f ≡ false → only q f ≡ none
 only_absent q none h = refl
-only_absent q (paint id look x rest) h = kept (eqb q id) _ _ (or_false (eqb q id) _ h) ∙ only_absent q rest (or_false' (eqb q id) _ h)
-only_absent q (group id look nodes rest) h = kept (eqb q id) _ _ (or_false (eqb q id) _ h) ∙ ap (λ a. join a (only q rest)) (only_absent q nodes (or_false (has q nodes) _ (or_false' (eqb q id) _ h))) ∙ only_absent q rest (or_false' (has q nodes) _ (or_false' (eqb q id) _ h))
+only_absent q (paint id look x rest) h = kept (eqb q id) _ _ (none_left (eqb q id) _ h) ∙ only_absent q rest (none_right (eqb q id) _ h)
+only_absent q (group id look nodes rest) h = kept (eqb q id) _ _ (none_left (eqb q id) _ h) ∙ ap (λ a. join a (only q rest)) (only_absent q nodes (none_left (has q nodes) _ (none_right (eqb q id) _ h))) ∙ only_absent q rest (none_right (has q nodes) _ (none_right (eqb q id) _ h))
 
 part_skip : (q d : ℕ) (f : Tree) (rows : Rows) → has q f ≡ false → row_part q (flat d f ++ rows) ≡ row_part q rows
 part_skip q d none rows h = refl
-part_skip q d (paint id look x rest) rows h = kept (eqb q id) _ _ (or_false (eqb q id) _ h) ∙ part_skip q d rest rows (or_false' (eqb q id) _ h)
-part_skip q d (group id look nodes rest) rows h = kept (eqb q id) _ _ (or_false (eqb q id) _ h) ∙ ap (row_part q) (append_assoc (flat (suc d) nodes) (flat d rest) rows)
-    ∙ part_skip q (suc d) nodes (flat d rest ++ rows) (or_false (has q nodes) _ (or_false' (eqb q id) _ h)) ∙ part_skip q d rest rows (or_false' (has q nodes) _ (or_false' (eqb q id) _ h))
+part_skip q d (paint id look x rest) rows h = kept (eqb q id) _ _ (none_left (eqb q id) _ h) ∙ part_skip q d rest rows (none_right (eqb q id) _ h)
+part_skip q d (group id look nodes rest) rows h = kept (eqb q id) _ _ (none_left (eqb q id) _ h) ∙ ap (row_part q) (append_assoc (flat (suc d) nodes) (flat d rest) rows)
+    ∙ part_skip q (suc d) nodes (flat d rest ++ rows) (none_left (has q nodes) _ (none_right (eqb q id) _ h)) ∙ part_skip q d rest rows (none_right (has q nodes) _ (none_right (eqb q id) _ h))
 
 part_flat : (q d k : ℕ) (f : Tree) (rows : Rows) → Distinct f → has q f ≡ true → EndsAt d rows → suc k ≡ d + depth q f → row_part q (flat d f ++ rows) ≡ flat k (only q f)
 part_flat q d k none rows dis h ends at = absurd (let t : false ≡ true = h in cc)
@@ -109,8 +99,22 @@ part_rows q (n ∷ ns) = go (eqb n.id q) (part_rows q ns) ∙ ap (λ b. cond b (
     go true e = ap (λ rs. row_of n ∷ rs) (deeper_rows n.depth ns)
     go false e = e
 
-pub part_is : (q k : ℕ) (nodes : List Node) → IsKept nodes → has q (tree_of nodes) ≡ true → suc k ≡ depth q (tree_of nodes) → map row_of (part q nodes) ≡ flat k (only q (tree_of nodes))
+part_is : (q k : ℕ) (nodes : List Node) → IsKept nodes → has q (tree_of nodes) ≡ true → suc k ≡ depth q (tree_of nodes) → map row_of (part q nodes) ≡ flat k (only q (tree_of nodes))
 part_is q k nodes kept h at = part_rows q nodes ∙ ap (row_part q) (kept.whole ∙ sym (append-nil (flat 0 (tree_of nodes)))) ∙ part_flat q 0 k (tree_of nodes) [] (tree_distinct (tree_of nodes) kept.once) h tt (omega arith)
 
-pub part_none : (q : ℕ) (nodes : List Node) → IsKept nodes → has q (tree_of nodes) ≡ false → map row_of (part q nodes) ≡ []
+part_none : (q : ℕ) (nodes : List Node) → IsKept nodes → has q (tree_of nodes) ≡ false → map row_of (part q nodes) ≡ []
 part_none q nodes kept h = part_rows q nodes ∙ ap (row_part q) (kept.whole ∙ sym (append-nil (flat 0 (tree_of nodes)))) ∙ part_skip q 0 (tree_of nodes) [] h
+
+-- the node with those below it, or nothing where it isn't there
+pub part_only : (q : ℕ) (nodes : List Node) → IsKept nodes → rows_of (part q nodes) ≡ flat (depth q (tree_of nodes) - 1) (only q (tree_of nodes))
+part_only q nodes k = go (has q (tree_of nodes)) refl
+  where
+    t : Tree
+    t = tree_of nodes
+
+    minus : (m n : ℕ) → suc m ≡ n → m ≡ n - 1
+    minus m n e = omega arith
+
+    go : (b : Bool) → has q t ≡ b → rows_of (part q nodes) ≡ flat (depth q t - 1) (only q t)
+    go true h = let s : (m : ℕ) × (suc m ≡ depth q t) = depth_some q t h in part_is q s.0 nodes k h s.1 ∙ ap (λ n. flat n (only q t)) (minus s.0 (depth q t) s.1)
+    go false h = part_none q nodes k h ∙ sym (ap (flat (depth q t - 1)) (only_absent q t h))

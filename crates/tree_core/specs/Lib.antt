@@ -1,3 +1,3 @@
 pub mod Readers
-pub mod Rows
+pub mod Nodes
 pub mod Codes

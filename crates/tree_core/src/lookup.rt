@@ -1,14 +1,17 @@
-//! Passes over the nodes, each before those in it, that look something up.
+//! Passes over the nodes of a tree, each before those in it, that look something up.
 
-ghost use Rattle.std.specs.Prelude.{◌≡◌, ℕ, ◌≤◌, ◌+◌, length};
-ghost use Rattle.tree_core.specs.Rows.{first_with, group_with, after, kids, kid_at, spot, last_above, deepest, look_of};
+ghost use Rattle.std.specs.Prelude.{◌≡◌, ℕ, ◌≤◌, ◌+◌, ◌==◌, ◌&&◌, not, length};
+ghost use Rattle.std.specs.List.{find, list_any};
+ghost use Rattle.doc_model.specs.Flat.{read};
+ghost use Rattle.doc_model.specs.Forest.{width, parent, depth};
+ghost use Rattle.tree_core.specs.Readers.{side_at};
+ghost use Rattle.tree_core.specs.Nodes.{rows_of, tree_of, nodes_after, nodes_before, greatest_depth, IsKept};
 
 use crate::node::Node;
-use doc_model::Look;
 
-/// The first node with that id.
+/// The node with that id.
 pub fn find(nodes: &[Node], id: u16) -> Option<Node>
-    ensures { result ≡ first_with id nodes.now }
+    ensures { result ≡ find (λ n. n.id == id) nodes.now }
 {
     for n in nodes {
         if n.id == id {
@@ -20,19 +23,14 @@ pub fn find(nodes: &[Node], id: u16) -> Option<Node>
 
 /// Whether a group has that id.
 pub fn group_in(nodes: &[Node], id: u16) -> bool
-    ensures { result ≡ group_with id nodes.now }
+    ensures { result ≡ list_any (λ n. (n.id == id) && not n.paints) nodes.now }
 {
-    for n in nodes {
-        if n.id == id && !n.paints {
-            return true;
-        }
-    }
-    false
+    nodes.iter().any(|n| n.id == id && !n.paints)
 }
 
-/// The nodes after the one with that id.
+/// The nodes after the one with that id; all of them after the root.
 pub fn nodes_after(nodes: &[Node], id: u16) -> &[Node]
-    ensures value { result.now ≡ after id nodes.now }
+    ensures value { result.now ≡ nodes_after id nodes.now }
     ensures within { length result.now ≤ length nodes.now }
 {
     if id == 0 {
@@ -48,7 +46,7 @@ pub fn nodes_after(nodes: &[Node], id: u16) -> &[Node]
 
 /// How many nodes stand at that depth before the first above it.
 pub fn children_at(nodes: &[Node], depth: u8) -> usize
-    ensures value { result ≡ kids depth nodes.now }
+    ensures value { result ≡ width (read depth (rows_of nodes.now)) }
     ensures few { result ≤ length nodes.now }
 {
     let mut count = 0;
@@ -63,9 +61,9 @@ pub fn children_at(nodes: &[Node], depth: u8) -> usize
     count
 }
 
-/// The id of the node at that place among those at the depth before the first above it.
+/// The id of the node at that place among those at the depth, before the first above it.
 pub fn child_at(nodes: &[Node], depth: u8, place: u16) -> Option<u16>
-    ensures { result ≡ kid_at depth place nodes.now }
+    ensures { result ≡ side_at place (read depth (rows_of nodes.now)) }
 {
     let mut left = place;
     for n in nodes {
@@ -82,9 +80,9 @@ pub fn child_at(nodes: &[Node], depth: u8, place: u16) -> Option<u16>
     None
 }
 
-/// Where a new node goes at that depth, after so many of those.
+/// How many nodes stand before that place among those at the depth.
 pub fn place_at(nodes: &[Node], depth: u8, place: u8) -> usize
-    ensures value { result ≡ spot depth place nodes.now }
+    ensures value { result ≡ nodes_before depth place nodes.now }
     ensures within { result ≤ length nodes.now }
 {
     let mut left = place;
@@ -103,16 +101,18 @@ pub fn place_at(nodes: &[Node], depth: u8, place: u8) -> usize
     nodes.len()
 }
 
-/// The last node before that one that stands two levels above the depth.
-pub fn above(nodes: &[Node], id: u16, depth: u8) -> Option<u16>
-    ensures { result ≡ last_above id depth 0 nodes.now }
+/// The group round the node: the last one before it that stands a level above. None where no node has that id.
+pub fn above(nodes: &[Node], id: u16, level: u8) -> Option<u16>
+    requires kept { IsKept nodes.now }
+    requires level { level ≡ depth id (tree_of nodes.now) }
+    ensures { result ≡ parent id 0 (tree_of nodes.now) }
 {
     let mut best = 0;
     for n in nodes {
         if n.id == id {
             return Some(best);
         }
-        best = if n.depth as usize + 2 == depth as usize {
+        best = if n.depth as usize + 2 == level as usize {
             n.id
         } else {
             best
@@ -121,21 +121,13 @@ pub fn above(nodes: &[Node], id: u16, depth: u8) -> Option<u16>
     None
 }
 
+/// The greatest depth of a node.
 pub fn deepest(nodes: &[Node]) -> u8
-    ensures { result ≡ deepest nodes.now }
+    ensures { result ≡ greatest_depth nodes.now }
 {
     let mut most = 0;
     for n in nodes {
         most = n.depth.max(most);
     }
     most
-}
-
-pub fn seen_look(n: Option<Node>) -> Option<Look>
-    ensures { result ≡ look_of n }
-{
-    match n {
-        Some(n) => Some(n.look),
-        None => None,
-    }
 }

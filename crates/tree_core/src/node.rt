@@ -2,7 +2,7 @@
 
 ghost use Rattle.std.specs.Prelude.{◌≡◌, ℕ, ◌≤◌, ◌<◌, ◌+◌};
 ghost use Rattle.doc_model.specs.Changes.{new_look};
-ghost use Rattle.tree_core.specs.Rows.{is_below, relook, relevel};
+ghost use Rattle.tree_core.specs.Nodes.{is_below, node_with_look, moved_node};
 
 use doc_model::Look;
 use pixel_core::Op;
@@ -39,8 +39,8 @@ pub fn new_node(depth: u8, id: u16, paints: bool) -> Node
 }
 
 /// The node, with another look where it has that id.
-pub fn looking(node: Node, id: u16, look: Look) -> Node
-    ensures { result ≡ relook id look node }
+pub fn node_with_look(node: Node, id: u16, look: Look) -> Node
+    ensures { result ≡ node_with_look id look node }
 {
     if node.id == id {
         Node { look, ..node }
@@ -50,8 +50,8 @@ pub fn looking(node: Node, id: u16, look: Look) -> Node
 }
 
 /// A node of a part whose topmost node's children stood at depth `from` and now stand at `to`.
-pub fn relevelled(node: Node, from: u8, to: u8) -> Node
-    ensures { result ≡ relevel from to node }
+pub fn moved_node(node: Node, from: u8, to: u8) -> Node
+    ensures { result ≡ moved_node from to node }
 {
     let depth = (node.depth as usize + 1 + to as usize)
         .saturating_sub(from as usize)

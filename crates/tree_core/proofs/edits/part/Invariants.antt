@@ -1,5 +1,5 @@
 use Rattle.std.proofs.Common.{◌≡◌, [], drop}
-use Rattle.tree_core.specs.Rows.{part}
+use Rattle.tree_core.proofs.Passes.{part}
 use Rattle.tree_core.proofs.edits.part.Given as goal
 
 abbrev pub invariant-loop-i : goal.invariant-loop-i

@@ -1,5 +1,5 @@
 use Rattle.std.proofs.Common.{◌≡◌, ◌≤◌, ◌+◌, ◌++◌, drop, length}
-use Rattle.tree_core.specs.Rows.{deeper}
+use Rattle.tree_core.proofs.Passes.{deeper}
 use Rattle.tree_core.proofs.edits.push_deeper.Given as goal
 
 abbrev pub invariant-loop-n : goal.invariant-loop-n

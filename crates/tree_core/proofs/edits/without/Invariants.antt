@@ -1,5 +1,5 @@
 use Rattle.std.proofs.Common.{◌≡◌, ◌≤◌, ◌++◌, drop, length, None}
-use Rattle.tree_core.specs.Rows.{cut}
+use Rattle.tree_core.proofs.Passes.{cut}
 use Rattle.tree_core.proofs.edits.without.Given as goal
 
 abbrev pub invariant-loop-n : goal.invariant-loop-n

@@ -1,5 +1,5 @@
 use Rattle.std.proofs.Common.{◌≡◌, drop}
-use Rattle.tree_core.specs.Rows.{kid_at}
+use Rattle.tree_core.proofs.Passes.{kid_at}
 use Rattle.tree_core.proofs.lookup.child_at.Given as goal
 
 abbrev pub invariant-loop-n : goal.invariant-loop-n

@@ -1,5 +1,5 @@
 use Rattle.std.proofs.Common.{◌≡◌, ◌≤◌, ◌+◌, drop}
-use Rattle.tree_core.specs.Rows.{kids}
+use Rattle.tree_core.proofs.Passes.{kids}
 use Rattle.tree_core.proofs.lookup.children_at.Given as goal
 
 abbrev pub invariant-loop-n : goal.invariant-loop-n

@@ -1,5 +1,5 @@
 use Rattle.std.proofs.Common.{◌≡◌, drop}
-use Rattle.tree_core.specs.Rows.{first_with}
+use Rattle.tree_core.proofs.Passes.{first_with}
 use Rattle.tree_core.proofs.lookup.find.Given as goal
 
 abbrev pub invariant-loop-n : goal.invariant-loop-n

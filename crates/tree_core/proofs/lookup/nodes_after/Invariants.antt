@@ -1,5 +1,5 @@
 use Rattle.std.proofs.Common.{◌≡◌, drop}
-use Rattle.tree_core.specs.Rows.{after_node}
+use Rattle.tree_core.proofs.Passes.{after_node}
 use Rattle.tree_core.proofs.lookup.nodes_after.Given as goal
 
 abbrev pub invariant-loop-i : goal.invariant-loop-i

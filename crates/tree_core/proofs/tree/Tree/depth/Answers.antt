@@ -1,6 +1,6 @@
-use Rattle.std.proofs.Common.{◌≡◌, ◌≤◌, ◌+◌, ap, ◌∙◌, sym, arith}
-use Rattle.tree_core.specs.Rows.{first_with}
-use Rattle.tree_core.proofs.Places.{depth_found, depth_lost, depth_few}
+use Rattle.std.proofs.Common.{◌≤◌, ◌+◌, ap, ◌∙◌, sym, arith}
+use Rattle.tree_core.proofs.Passes.{first_with}
+use Rattle.tree_core.proofs.Depths.{depth_found, depth_lost, depth_few}
 use Rattle.tree_core.proofs.tree.Tree.depth.Goals as goal
 
 pub overflow_add-result : goal.overflow_add-result

@@ -1,4 +1,4 @@
-use Rattle.tree_core.proofs.Scans.{no_child_is}
+use Rattle.tree_core.proofs.Kids.{no_child_is}
 use Rattle.tree_core.proofs.tree.Tree.lone_child.Goals as goal
 
 pub returns : goal.returns

@@ -1,8 +1,16 @@
-use Rattle.std.proofs.Common.{◌≡◌, ap, ◌∙◌}
-use Rattle.tree_core.specs.Rows.{first_with, look_of}
-use Rattle.tree_core.specs.Readers.{look_in}
-use Rattle.tree_core.proofs.Scans.{look_is}
+use Rattle.std.proofs.Common.{ap, ◌∙◌, sym}
+use Rattle.tree_core.proofs.Passes.{first_with}
+use Rattle.tree_core.proofs.Finding.{look_now, look_absent}
 use Rattle.tree_core.proofs.tree.Tree.look.Goals as goal
 
-pub returns : goal.returns
-returns c = c.seen_look.ensures ∙ ap look_of (c.find.ensures ∙ ap (first_with c.args.id) c.as_slice.ensures.value) ∙ look_is c.args.id c.self.inside.nodes.items c.self.invariant ∙ ap (look_in c.args.id) c.self.view_is
+pub returns-in-Some-clause-value : goal.returns-in-Some-clause-value
+returns-in-Some-clause-value c = look_now c.args.id c.self.inside.nodes.items c.args.self.now c.self.invariant c.self.view_is _ (ap (first_with c.args.id) (sym c.as_slice.ensures.value) ∙ sym c.find.ensures ∙ c.in-Some.is)
+
+pub returns-in-None-clause-value : goal.returns-in-None-clause-value
+returns-in-None-clause-value c = look_now c.args.id c.self.inside.nodes.items c.args.self.now c.self.invariant c.self.view_is _ (ap (first_with c.args.id) (sym c.as_slice.ensures.value) ∙ sym c.find.ensures ∙ c.in-None.is)
+
+pub returns-in-Some-clause-none : goal.returns-in-Some-clause-none
+returns-in-Some-clause-none c = look_absent c.args.id c.args.self.now _ (returns-in-Some-clause-value c)
+
+pub returns-in-None-clause-none : goal.returns-in-None-clause-none
+returns-in-None-clause-none c = look_absent c.args.id c.args.self.now _ (returns-in-None-clause-value c)
