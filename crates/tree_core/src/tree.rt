@@ -380,3 +380,6 @@ impl Tree {
         self.nodes = spliced(left.as_slice(), at, moved.as_slice(), from, to);
     }
 }
+
+#[cfg(test)]
+mod tests;
