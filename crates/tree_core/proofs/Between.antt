@@ -20,6 +20,7 @@ abbrev row_after : ℕ → Rows → Rows
 row_after q [] = []
 row_after q (r ∷ rs) = cond (eqb q r.id) rs (row_after q rs)
 
+-- rows among which q is not are passed over
 row_after_skip : (q d : ℕ) (f : Tree) (rows : Rows) → has q f ≡ false → row_after q (flat d f ++ rows) ≡ row_after q rows
 row_after_skip q d none rows h = refl
 row_after_skip q d (paint id look x rest) rows h = kept (eqb q id) _ _ (none_left (eqb q id) _ h) ∙ row_after_skip q d rest rows (none_right (eqb q id) _ h)
@@ -35,6 +36,7 @@ record Zip (q d e : ℕ) (f : Tree) (rows : Rows) : Type 0 where
   ends : EndsAt e more
   rest : row_after q (flat d f ++ rows) ≡ flat e (children q f) ++ more
 
+-- a group that is there has such a place
 zip : (q d e : ℕ) (f : Tree) (rows : Rows) → Distinct f → is_group q f ≡ true → EndsAt d rows → e ≡ d + depth q f → Zip q d e f rows
 zip q d e none rows dis g ends at = absurd (let t : false ≡ true = g in cc)
 zip q d e (paint id look x rest) rows dis g ends at =
@@ -139,6 +141,7 @@ after_rows q (n ∷ ns) = go (eqb n.id q) (after_rows q ns) ∙ ap (λ b. cond b
     go true e = refl
     go false e = e
 
+-- a test that fails
 not_root : (q : ℕ) → eqb q 0 ≡ false → q ≢ 0
 not_root q e = grind (arith, nat_tests)
 
@@ -154,6 +157,7 @@ pub record Between (q : ℕ) (nodes : List Node) : Type 0 where
   pub rest : map row_of (nodes_after q nodes) ≡ flat (depth q (tree_of nodes)) held ++ more
   pub many : child_count q (tree_of nodes) ≡ width held
 
+-- the root and every group have such a place
 pub between : (q : ℕ) (nodes : List Node) → IsKept nodes → takes q (tree_of nodes) ≡ true → Between q nodes
 between q nodes k t = go (eqb q 0) refl t
   where

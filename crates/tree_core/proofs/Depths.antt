@@ -20,6 +20,7 @@ abbrev up_depth : ℕ → Rows → ℕ
 up_depth q [] = 0
 up_depth q (r ∷ rs) = cond (eqb q r.id) (suc r.depth) (up_depth q rs)
 
+-- it is the depth in the tree, counted from d
 up_depth_flat : (q d : ℕ) (f : Tree) (rows : Rows) → up_depth q (flat d f ++ rows) ≡ cond (has q f) (d + depth q f) (up_depth q rows)
 up_depth_flat q d none rows = refl
 up_depth_flat q d (paint id look x rest) rows = go (eqb q id) (up_depth_flat q d rest rows)
@@ -41,6 +42,7 @@ depth_absent q none h = refl
 depth_absent q (paint id look x rest) h = kept (eqb q id) _ _ (none_left (eqb q id) _ h) ∙ depth_absent q rest (none_right (eqb q id) _ h)
 depth_absent q (group id look nodes rest) h = kept (eqb q id) _ _ (none_left (eqb q id) _ h) ∙ kept (has q nodes) _ _ (none_left (has q nodes) _ (none_right (eqb q id) _ h)) ∙ depth_absent q rest (none_right (has q nodes) _ (none_right (eqb q id) _ h))
 
+-- the same of nodes
 depth_rows : (q : ℕ) (nodes : List Node) → depth_in (first_with q nodes) ≡ up_depth q (map row_of nodes)
 depth_rows q [] = refl
 depth_rows q (n ∷ ns) = go (eqb n.id q) (depth_rows q ns) ∙ ap (λ b. cond b (suc n.depth) (up_depth q (map row_of ns))) (turned n.id q)
@@ -57,6 +59,7 @@ depth_is q nodes k = depth_rows q nodes ∙ ap (up_depth q) (k.whole ∙ sym (ap
     go true e = omega arith
     go false e = sym (depth_absent q (tree_of nodes) e)
 
+-- no node is deeper than the tree is high
 depth_height : (q : ℕ) (f : Tree) → depth q f ≤ height f
 depth_height q none = omega arith
 depth_height q (paint id look x rest) = go (eqb q id) (depth_height q rest)
@@ -81,9 +84,11 @@ pub depth_found : (q : ℕ) (nodes : List Node) (t : Tree) (n : Node) → IsKept
 depth_found q nodes t n k is e =
     let h : suc n.depth ≡ depth q t = ap depth_in (sym e) ∙ depth_is q nodes k ∙ ap (depth q) is in omega arith
 
+-- where no node is found, the depth is 0
 pub depth_lost : (q : ℕ) (nodes : List Node) (t : Tree) → IsKept nodes → tree_of nodes ≡ t → first_with q nodes ≡ None → 0 ≡ depth q t
 depth_lost q nodes t k is e = ap depth_in (sym e) ∙ depth_is q nodes k ∙ ap (depth q) is
 
+-- a found node stands at most at depth 16
 pub depth_few : (q : ℕ) (nodes : List Node) (n : Node) → IsKept nodes → first_with q nodes ≡ Some n → n.depth + 1 ≤ 16
 depth_few q nodes n k e =
     let h : n.depth + 1 ≡ depth q (tree_of nodes) = depth_found q nodes (tree_of nodes) n k refl e in

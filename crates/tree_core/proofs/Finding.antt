@@ -22,6 +22,7 @@ any_flat q d none = refl
 any_flat q d (paint id look x rest) = ap (λ b. eqb q id || b) (any_flat q d rest)
 any_flat q d (group id look nodes rest) = ap (λ b. eqb q id || b) (list_any-append (λ r. eqb q r.id) (flat (suc d) nodes) (flat d rest) ∙ ap (λ b. b || any_row q (flat d rest)) (any_flat q (suc d) nodes) ∙ ap (λ b. has q nodes || b) (any_flat q d rest))
 
+-- a node is found where a row has the id
 pub found_any : (q : ℕ) (nodes : List Node) → is_some (first_with q nodes) ≡ any_row q (map row_of nodes)
 found_any q [] = refl
 found_any q (n ∷ ns) = go (eqb n.id q) (found_any q ns) ∙ ap (λ b. b || any_row q (map row_of ns)) (turned n.id q)
@@ -43,27 +44,33 @@ abbrev is_none' : Option (Unit {0}) → Bool
 is_none' None = true
 is_none' (Some x) = false
 
+-- whether a group's row has the id q
 abbrev group_row : ℕ → Rows → Bool
 group_row q rows = list_any (λ r. eqb q r.id && is_none' r.content) rows
 
+-- a test beside one that holds
 and-true : (b : Bool) → (b && true) ≡ b
 and-true true = refl
 and-true false = refl
 
+-- a test beside one that fails
 and-false : (b : Bool) → (b && false) ≡ false
 and-false true = refl
 and-false false = refl
 
+-- as the tree has
 group_flat : (q d : ℕ) (f : Tree) → group_row q (flat d f) ≡ is_group q f
 group_flat q d none = refl
 group_flat q d (paint id look x rest) = ap (λ b. b || group_row q (flat d rest)) (and-false (eqb q id)) ∙ group_flat q d rest
 group_flat q d (group id look nodes rest) = ap (λ b. b || group_row q (flat (suc d) nodes ++ flat d rest)) (and-true (eqb q id))
     ∙ ap (λ b. eqb q id || b) (list_any-append (λ r. eqb q r.id && is_none' r.content) (flat (suc d) nodes) (flat d rest) ∙ ap (λ b. b || group_row q (flat d rest)) (group_flat q (suc d) nodes) ∙ ap (λ b. is_group q nodes || b) (group_flat q d rest))
 
+-- a node that is no paint layer has no content
 no_paint : (b : Bool) → not b ≡ is_none' (content_of b)
 no_paint true = refl
 no_paint false = refl
 
+-- the same of nodes
 group_rows : (q : ℕ) (nodes : List Node) → group_with q nodes ≡ group_row q (map row_of nodes)
 group_rows q [] = refl
 group_rows q (n ∷ ns) = ap (λ b. (b && not n.paints) || group_with q ns) (turned n.id q) ∙ ap (λ b. (eqb q n.id && b) || group_with q ns) (no_paint n.paints) ∙ ap (λ b. (eqb q n.id && is_none' (content_of n.paints)) || b) (group_rows q ns)
@@ -82,14 +89,17 @@ abbrev row_look : ℕ → List (Row (Unit {0})) → Option Look
 row_look q [] = None
 row_look q (r ∷ rs) = cond (eqb q r.id) (Some r.look) (row_look q rs)
 
+-- a choice whose second is None
 or_else_none : (o : Option Look) → or_else o None ≡ o
 or_else_none None = refl
 or_else_none (Some x) = refl
 
+-- choices in a row
 or_else_assoc : (a b c : Option Look) → or_else a (or_else b c) ≡ or_else (or_else a b) c
 or_else_assoc None b c = refl
 or_else_assoc (Some x) b c = refl
 
+-- the look of a row is the tree's, else that of the rows after it
 row_look_flat : (q d : ℕ) (f : Tree) (rows : List (Row (Unit {0}))) → row_look q (flat d f ++ rows) ≡ or_else (look_in q f) (row_look q rows)
 row_look_flat q d none rows = refl
 row_look_flat q d (paint id look x rest) rows = go (eqb q id) (row_look_flat q d rest rows)
@@ -104,6 +114,7 @@ row_look_flat q d (group id look nodes rest) rows = go (eqb q id) (ap (row_look 
     go true e = refl
     go false e = e
 
+-- the same of nodes
 look_rows : (q : ℕ) (nodes : List Node) → look_of (first_with q nodes) ≡ row_look q (map row_of nodes)
 look_rows q [] = refl
 look_rows q (n ∷ ns) = go (eqb n.id q) (look_rows q ns) ∙ ap (λ b. cond b (Some n.look) (row_look q (map row_of ns))) (turned n.id q)
@@ -120,6 +131,7 @@ look_is q nodes k = look_rows q nodes ∙ ap (row_look q) (k.whole ∙ sym (appe
 pub look_now : (q : ℕ) (nodes : List Node) (t : Tree) → IsKept nodes → tree_of nodes ≡ t → (o : Option Node) → first_with q nodes ≡ o → look_of o ≡ look_in q t
 look_now q nodes t k is o e = ap look_of (sym e) ∙ look_is q nodes k ∙ ap (look_in q) is
 
+-- a node that is there has a look
 looked : (q : ℕ) (f : Tree) → is_some (look_in q f) ≡ has q f
 looked q none = refl
 looked q (paint id look x rest) = go (eqb q id) (looked q rest)

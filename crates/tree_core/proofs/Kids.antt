@@ -26,13 +26,16 @@ child_now q k nodes t kept_nodes is g d rest e h =
     let b : Between q nodes = between q nodes kept_nodes (ap (takes q) is ∙ g) in
     ap (side_at k) (read_held q nodes b t is d rest e h ∙ sym b.held_is) ∙ ap (child_in q k) is
 
+-- what is no group has no children
 children_none : (q : ℕ) (f : Tree) → is_group q f ≡ false → children q f ≡ none
 children_none q none h = refl
 children_none q (paint id look x rest) h = children_none q rest h
 children_none q (group id look nodes rest) h = kept (eqb q id) _ _ (none_left (eqb q id) _ h) ∙ ap (λ a. join a (children q rest)) (children_none q nodes (none_left (is_group q nodes) _ (none_right (eqb q id) _ h))) ∙ children_none q rest (none_right (is_group q nodes) _ (none_right (eqb q id) _ h))
 
+-- none is counted
 pub no_children_are : (q : ℕ) (t : Tree) → takes q t ≡ false → 0 ≡ child_count q t
 no_children_are q t h = sym (kept (eqb q 0) _ _ (none_left (eqb q 0) _ h) ∙ ap width (children_none q t (none_right (eqb q 0) _ h)))
 
+-- none stands at any place
 pub no_child_is : (q k : ℕ) (t : Tree) → takes q t ≡ false → None ≡ child_in q k t
 no_child_is q k t h = sym (ap (side_at k) (kept (eqb q 0) _ _ (none_left (eqb q 0) _ h) ∙ children_none q t (none_right (eqb q 0) _ h)))

@@ -19,6 +19,7 @@ use Rattle.tree_core.proofs.Depths.{depth_some}
 pub stands_is : (inner d q : ℕ) (t : Tree) (moved : List Node) → rows_of moved ≡ flat d (only q t) → is_some (first_with inner moved) ≡ has inner (only q t)
 stands_is inner d q t moved e = found_any inner moved ∙ ap (any_row inner) e ∙ any_flat inner d (only q t)
 
+-- a group outside the part stays one
 pub takes_without : (q c : ℕ) (nodes : List Node) (t : Tree) → IsKept nodes → tree_of nodes ≡ t → has c (only q t) ≡ false → takes c (without q t) ≡ takes c t
 takes_without q c nodes t k is h = ap (λ b. eqb c 0 || b) (group_without q c t (tree_distinct t (subst IsTree is k.once)) h)
 
@@ -27,10 +28,12 @@ abbrev row_deepest : Rows → ℕ
 row_deepest [] = 0
 row_deepest (r ∷ rs) = max r.depth (row_deepest rs)
 
+-- the same of nodes
 deepest_rows : (nodes : List Node) → greatest_depth nodes ≡ row_deepest (map row_of nodes)
 deepest_rows [] = refl
 deepest_rows (n ∷ ns) = ap (max n.depth) (deepest_rows ns)
 
+-- of rows one after another
 deepest_append : (xs ys : Rows) → row_deepest (xs ++ ys) ≡ max (row_deepest xs) (row_deepest ys)
 deepest_append [] ys = omega arith
 deepest_append (x ∷ xs) ys = let h : row_deepest (xs ++ ys) ≡ max (row_deepest xs) (row_deepest ys) = deepest_append xs ys in omega arith
@@ -55,6 +58,7 @@ deepest_flat k (group id look nodes rest) =
       ]
     ])
 
+-- a node stands in its own part
 has_only : (q : ℕ) (f : Tree) → has q f ≡ true → has q (only q f) ≡ true
 has_only q none h = h
 has_only q (paint id look x rest) h = go (λ e. has_only q rest e) (eqb q id) refl h
@@ -68,11 +72,13 @@ has_only q (group id look nodes rest) h = go (λ e. has_only q nodes e) (λ e. h
     go m r true e h = or_left (eqb q id) _ e
     go m r false e h = has_join q (only q nodes) (only q rest) ∙ elim (or_cases (has q nodes) (has q rest) h) [ inl i ↦ or_left (has q (only q nodes)) _ (m i) | inr i ↦ or_right (has q (only q nodes)) _ (r i) ]
 
+-- a tree with a node has a level
 high : (q : ℕ) (f : Tree) → has q f ≡ true → 1 ≤ height f
 high q none h = absurd (let t : false ≡ true = h in cc)
 high q (paint id look x rest) h = omega arith
 high q (group id look nodes rest) h = omega arith
 
+-- the numbers of a height
 height_numbers : (D d k h : ℕ) → suc D ≡ k + h → d ≡ suc k → (D + 2) - d ≡ h
 height_numbers D d k h e f = omega arith
 
@@ -95,13 +101,16 @@ height_is q t moved h m D d e f = height_numbers D d s.0 (height (only q t)) (ap
 abbrev pub relevel_row : ℕ → ℕ → Row (Unit {0}) → Row (Unit {0})
 relevel_row a b r = record r { depth = min ((r.depth + 1 + b) - a) 255 }
 
+-- the same of nodes
 pub relevel_rows : (a b : ℕ) (nodes : List Node) → map row_of (map (moved_node a b) nodes) ≡ map (relevel_row a b) (map row_of nodes)
 relevel_rows a b [] = refl
 relevel_rows a b (n ∷ ns) = ap (λ rs. relevel_row a b (row_of n) ∷ rs) (relevel_rows a b ns)
 
+-- the numbers of a new depth
 new_depth : (k e j h : ℕ) → 1 ≤ h → e + j + h ≤ 255 → min (((k + j) + 1 + e) - suc k) 255 ≡ e + j
 new_depth k e j h low fits = omega arith
 
+-- the rows of a part at its new depth
 pub relevel_flat : (k e j : ℕ) (f : Tree) → e + j + height f ≤ 255 → map (relevel_row (suc k) e) (flat (k + j) f) ≡ flat (e + j) f
 relevel_flat k e j none fits = refl
 relevel_flat k e j (paint id look x rest) fits =

@@ -11,10 +11,12 @@ use Rattle.tree_core.proofs.Kept.{Rows}
 use Rattle.tree_core.proofs.Passes.{last_above}
 use Rattle.tree_core.proofs.Depths.{depth_some}
 
+-- the id of the last row before q that stands two levels above the depth d, or best
 abbrev row_last : ℕ → ℕ → ℕ → Rows → Option ℕ
 row_last q d best [] = None
 row_last q d best (r ∷ rs) = cond (eqb q r.id) (Some best) (row_last q d (cond (eqb (r.depth + 2) d) r.id best) rs)
 
+-- a row so high isn't the one
 not_two : (e d : ℕ) → d ≤ suc e → eqb (e + 2) d ≡ false
 not_two e d h = grind (arith, nat_tests)
 
@@ -49,6 +51,7 @@ parent_deep q a b (group id look nodes rest) h = go (λ l. parent_deep q a b res
     go r false true h = refl
     go r false false h = r h
 
+-- a row just so high is
 two_same : (e d : ℕ) → d ≡ e + 2 → eqb (e + 2) d ≡ true
 two_same e d h = grind (arith, nat_tests)
 
@@ -63,6 +66,7 @@ remembered q a b d e f h at same = go k.0 refl
     go zero z = let one : depth q f ≡ 1 = sym k.1 ∙ ap suc z in let l : d ≤ suc e = omega arith in ap (λ n. parent q n f) (same l)
     go (suc n) z = let two : depth q f ≡ suc (suc n) = sym k.1 ∙ ap suc z in parent_deep q a b f (omega arith)
 
+-- it is the group round q
 last_flat : (q d best e : ℕ) (f : Tree) (rows : Rows) → has q f ≡ true → d ≡ e + depth q f → row_last q d best (flat e f ++ rows) ≡ parent q best f
 last_flat q d best e none rows h at = absurd (let t : false ≡ true = h in cc)
 last_flat q d best e (paint id look x rest) rows h at = go (λ b g a. last_flat q d b e rest rows g a) (eqb q id) h at
@@ -97,15 +101,18 @@ last_flat q d best e (group id look nodes rest) rows h at = go (λ b g a. last_f
         let s : (best' : ℕ) × (row_last q d mid (flat (suc e) nodes ++ (flat e rest ++ rows)) ≡ row_last q d best' (flat e rest ++ rows)) × (d ≤ suc (suc e) → best' ≡ mid) = skip q d mid (suc e) nodes (flat e rest ++ rows) i in
         ap (row_last q d mid) assoc ∙ s.1 ∙ r s.0 h at ∙ remembered q s.0 best d e rest h at (λ l. s.2 (omega arith) ∙ kept (eqb (e + 2) d) id best (not_two e d l))
 
+-- what is not there has no parent
 parent_absent : (q a : ℕ) (f : Tree) → has q f ≡ false → parent q a f ≡ None
 parent_absent q a none h = refl
 parent_absent q a (paint id look x rest) h = kept (eqb q id) _ _ (none_left (eqb q id) _ h) ∙ parent_absent q a rest (none_right (eqb q id) _ h)
 parent_absent q a (group id look nodes rest) h = kept (eqb q id) _ _ (none_left (eqb q id) _ h) ∙ kept (has q nodes) _ _ (none_left (has q nodes) _ (none_right (eqb q id) _ h)) ∙ parent_absent q a rest (none_right (has q nodes) _ (none_right (eqb q id) _ h))
 
+-- the same of nodes
 last_rows : (q d best : ℕ) (nodes : List Node) → last_above q d best nodes ≡ row_last q d best (map row_of nodes)
 last_rows q d best [] = refl
 last_rows q d best (n ∷ ns) = ap (cond (eqb n.id q) (Some best)) (last_rows q d (cond (eqb (n.depth + 2) d) n.id best) ns) ∙ ap (λ b. cond b (Some best) (row_last q d (cond (eqb (n.depth + 2) d) n.id best) (map row_of ns))) (turned n.id q)
 
+-- the last node above is the parent
 pub parent_is : (q d : ℕ) (nodes : List Node) (t : Tree) → IsKept nodes → tree_of nodes ≡ t → d ≡ depth q t → last_above q d 0 nodes ≡ parent q 0 t
 parent_is q d nodes t k is e = last_rows q d 0 nodes ∙ ap (row_last q d 0) (k.whole ∙ sym (append-nil (flat 0 (tree_of nodes)))) ∙ go (has q (tree_of nodes)) refl ∙ ap (parent q 0) is
   where
@@ -113,6 +120,7 @@ parent_is q d nodes t k is e = last_rows q d 0 nodes ∙ ap (row_last q d 0) (k.
     go true h = let at : d ≡ depth q (tree_of nodes) = e ∙ ap (depth q) (sym is) in last_flat q d 0 0 (tree_of nodes) [] h (omega arith)
     go false h = (skip q d 0 0 (tree_of nodes) [] h).1 ∙ sym (parent_absent q 0 (tree_of nodes) h)
 
+-- a node that is there has a parent
 parented : (q a : ℕ) (f : Tree) → is_some (parent q a f) ≡ has q f
 parented q a none = refl
 parented q a (paint id look x rest) = go (eqb q id) (parented q a rest)

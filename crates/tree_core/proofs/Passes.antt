@@ -52,6 +52,7 @@ abbrev pub last_above : ℕ → ℕ → ℕ → List Node → Option ℕ
 last_above q d best [] = None
 last_above q d best (n ∷ ns) = cond (eqb n.id q) (Some best) (last_above q d (cond (eqb (n.depth + 2) d) n.id best) ns)
 
+-- one more
 one_more : (m : ℕ) → suc m ≡ 1 + m
 one_more m = omega arith
 
@@ -64,6 +65,7 @@ after_node_is q (n ∷ ns) = go (eqb n.id q) (after_node_is q ns)
     go true e = refl
     go false e = e ∙ ap (λ m. drop m ns) (one_more (position_or_len (λ n. eqb n.id q) ns))
 
+-- the nodes after a group
 pub after_nodes : (q : ℕ) (nodes : List Node) → q ≢ 0 → after_node q nodes ≡ nodes_after q nodes
 after_nodes q nodes other = after_node_is q nodes ∙ sym (kept (eqb q 0) nodes (drop (suc (position_or_len (λ n. eqb n.id q) nodes)) nodes) (grind (arith, nat_tests)))
 
@@ -77,9 +79,11 @@ width-node : (c : Option (Unit {0})) (id : ℕ) (look : Look) (nodes rest : Tree
 width-node None id look nodes rest = refl
 width-node (Some x) id look nodes rest = refl
 
+-- the tests of a depth above
 not_less : (d k : ℕ) → ltb k d ≡ true → (ltb d k ≡ false) × (eqb k d ≡ false)
 not_less d k h = (grind (arith, nat_tests), grind (arith, nat_tests))
 
+-- the test of a depth below
 is_less : (d k : ℕ) → ltb k d ≡ false → eqb k d ≡ false → ltb d k ≡ true
 is_less d k h e = grind (arith, nat_tests)
 
@@ -100,6 +104,7 @@ kids_is d (n ∷ ns) = go (ltb n.depth d) refl (eqb n.depth d) refl (kids_is d n
     go false h true e i = ap suc i ∙ sym (width-node (content_of n.paints) n.id n.look inner rest)
     go false h false e i = i ∙ ap (λ x. width (cond x rest none)) (sym (is_less d n.depth h e))
 
+-- a node that is read stands at one place
 side_at-node : (k : ℕ) (c : Option (Unit {0})) (id : ℕ) (look : Look) (nodes rest : Tree) → side_at k (node c id look nodes rest) ≡ cond (eqb k 0) (Some id) (side_at (k - 1) rest)
 side_at-node k None id look nodes rest = refl
 side_at-node k (Some x) id look nodes rest = refl
@@ -125,6 +130,7 @@ kid_at_is d k (n ∷ ns) = go (ltb n.depth d) refl (eqb n.depth d) refl (kid_at_
 next_node : (nodes : List Node) (i : ℕ) (d : Node) → i < length nodes → drop i nodes ≡ get_or nodes i d ∷ drop (i + 1) nodes
 next_node nodes i d h = rw (add-one, drop-cons nodes i d) refl
 
+-- a slice to the end
 whole_rest : (nodes : List Node) (i : ℕ) → take (length nodes - i) (drop i nodes) ≡ drop i nodes
 whole_rest nodes i = grind (arith, common_steps)
 

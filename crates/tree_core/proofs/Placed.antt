@@ -17,16 +17,20 @@ use Rattle.tree_core.proofs.Depths.{depth_some}
 use Rattle.tree_core.proofs.Spots.{at_place, set_rows, place_now}
 use Rattle.tree_core.proofs.Moved.{takes_without, relevel_row, relevel_rows, relevel_flat}
 
+-- the node is there
 there_is : (a b : Bool) → (not a || b) ≡ false → a ≡ true
 there_is true b e = refl
 there_is false b e = cc
 
+-- a test that fails
 not_below : (n : ℕ) → ltb 16 n ≡ false → n ≤ 16
 not_below n e = grind (arith, nat_tests)
 
+-- nothing more
 zero_more : (k : ℕ) → k + 0 ≡ k
 zero_more k = omega arith
 
+-- one less
 minus : (m n : ℕ) → suc m ≡ n → n - 1 ≡ m
 minus m n e = omega arith
 

@@ -30,6 +30,7 @@ cut_rows q skip (n ∷ ns) = by_skip skip (λ s. cut_rows q s ns)
     by_skip None ih = below None ih (eqb n.id q) refl
     by_skip (Some k) ih = deeper k ih (ltb k n.depth)
 
+-- they are those of the tree without the node
 cut_flat : (q : ℕ) (nodes : List Node) → IsKept nodes → map row_of (cut q None nodes) ≡ flat 0 (without q (tree_of nodes))
 cut_flat q nodes k = cut_rows q None nodes ∙ ap (removed q None) (k.whole ∙ sym (append-nil (flat 0 (tree_of nodes)))) ∙ flat_without q 0 (tree_of nodes) [] tt ∙ append-nil (flat 0 (without q (tree_of nodes)))
 

@@ -18,22 +18,28 @@ abbrev row_spot : ℕ → ℕ → Rows → ℕ
 row_spot d k [] = 0
 row_spot d k (r ∷ rs) = cond (ltb r.depth d) 0 (cond (eqb r.depth d) (cond (eqb k 0) 0 (suc (row_spot d (k - 1) rs))) (suc (row_spot d k rs)))
 
+-- the test of a row at the depth
 not_above : (d : ℕ) → ltb d d ≡ false
 not_above d = grind (arith, nat_tests)
 
+-- the test of a deeper row
 not_less : (d j : ℕ) → d < j → ltb j d ≡ false
 not_less d j h = grind (arith, nat_tests)
 
+-- so is this one
 not_same : (d j : ℕ) → d < j → eqb j d ≡ false
 not_same d j h = grind (arith, nat_tests)
 
+-- the test of a row above
 less : (d j : ℕ) → j < d → ltb j d ≡ true
 less d j h = grind (arith, nat_tests)
 
+-- a row above ends the count
 spot_ends : (e k : ℕ) (more : Rows) → EndsAt e more → row_spot e k more ≡ 0
 spot_ends e k [] h = refl
 spot_ends e k (r ∷ rs) h = taken (ltb r.depth e) _ _ (less e r.depth h)
 
+-- deeper rows are counted
 spot_deeper : (d k j : ℕ) (f : Tree) (rows : Rows) → d < j → row_spot d k (flat j f ++ rows) ≡ length (flat j f) + row_spot d k rows
 spot_deeper d k j none rows h = omega arith
 spot_deeper d k j (paint id look x rest) rows h =
@@ -45,12 +51,15 @@ spot_deeper d k j (group id look nodes rest) rows h =
     let c : length (flat (suc j) nodes ++ flat j rest) ≡ length (flat (suc j) nodes) + length (flat j rest) = length-append (flat (suc j) nodes) (flat j rest) in
     kept (ltb j d) _ _ (not_less d j h) ∙ kept (eqb j d) _ _ (not_same d j h) ∙ ap (λ rs. suc (row_spot d k rs)) (append_assoc (flat (suc j) nodes) (flat j rest) rows) ∙ omega arith
 
+-- one less
 pred_is : (k : ℕ) → suc k - 1 ≡ k
 pred_is k = omega arith
 
+-- a test that fails
 not_zero : (k : ℕ) → eqb (suc k) 0 ≡ false
 not_zero k = grind (arith, nat_tests)
 
+-- so many rows have the nodes below the place
 spot_is : (e k : ℕ) (g : Tree) (more : Rows) → EndsAt e more → row_spot e k (flat e g ++ more) ≡ length (flat e (lower k g))
 spot_is e zero none more h = spot_ends e zero more h
 spot_is e (suc k) none more h = spot_ends e (suc k) more h
@@ -65,10 +74,12 @@ spot_is e (suc k) (group id look nodes rest) more h =
     kept (ltb e e) _ _ (not_above e) ∙ taken (eqb e e) _ _ (same e) ∙ kept (eqb (suc k) 0) _ _ (not_zero k)
     ∙ ap (λ n. suc (row_spot e n ((flat (suc e) nodes ++ flat e rest) ++ more))) (pred_is k) ∙ ap (λ rs. suc (row_spot e k rs)) (append_assoc (flat (suc e) nodes) (flat e rest) more) ∙ omega arith
 
+-- the same of nodes
 spot_rows : (d k : ℕ) (nodes : List Node) → nodes_before d k nodes ≡ row_spot d k (map row_of nodes)
 spot_rows d k [] = refl
 spot_rows d k (n ∷ ns) = same_choice (ltb n.depth d) refl (same_choice (eqb n.depth d) (same_choice (eqb k 0) refl (ap suc (spot_rows d (k - 1) ns))) (ap suc (spot_rows d k ns)))
 
+-- rows set in at a seam
 set_seam : (rows front back new : Rows) (i : ℕ) → rows ≡ front ++ back → i ≡ length front → take i rows ++ (new ++ drop i rows) ≡ front ++ (new ++ back)
 set_seam rows front back new i e h = ap (λ rs. take i rs ++ (new ++ drop i rs)) e ∙ ap (λ n. take n (front ++ back) ++ (new ++ drop n (front ++ back))) h
     ∙ ap (λ xs. xs ++ (new ++ drop (length front) (front ++ back))) (take-append_seam front back) ∙ ap (λ xs. front ++ (new ++ xs)) (drop-append_seam front back)
@@ -77,6 +88,7 @@ set_seam rows front back new i e h = ap (λ rs. take i rs ++ (new ++ drop i rs))
 abbrev pub at_place : ℕ → ℕ → List Node → ℕ
 at_place q place nodes = (length nodes - length (nodes_after q nodes)) + nodes_before (depth q (tree_of nodes)) place (nodes_after q nodes)
 
+-- a difference
 minus_is : (a b c : ℕ) → a ≡ b + c → a - c ≡ b
 minus_is a b c e = omega arith
 
@@ -124,5 +136,6 @@ pub place_now : (q place : ℕ) (nodes : List Node) (t : Tree) → tree_of nodes
 place_now q place nodes t is all rest d s a r e h =
     ap (λ x. all - length rest + x) (h ∙ ap (λ x. nodes_before x place rest) (e ∙ ap (depth q) (sym is)) ∙ ap (nodes_before (depth q (tree_of nodes)) place) r) ∙ ap (λ x. x - length rest + nodes_before (depth q (tree_of nodes)) place (nodes_after q nodes)) a ∙ ap (λ x. length nodes - length x + nodes_before (depth q (tree_of nodes)) place (nodes_after q nodes)) r
 
+-- the place lies within
 pub place_low : (q place : ℕ) (nodes : List Node) (all s : ℕ) (rest : List Node) → all ≡ length nodes → length rest ≤ length nodes → s ≤ length rest → all - length rest + s ≤ length nodes
 place_low q place nodes all s rest a r h = omega arith

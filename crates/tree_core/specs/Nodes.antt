@@ -11,6 +11,11 @@ use Rattle.tree_core.specs.declared.node.Node.{Node}
 abbrev pub Tree : Type 0
 Tree = Forest (Unit {0})
 
+-- no id stands twice or is 0, and no node is deeper than 16
+pub record IsLimited (tree : Tree) : Type 0 where
+  pub once : IsTree tree
+  pub low : height tree ≤ 16
+
 -- a paint layer has an empty content, a group has none
 abbrev pub content_of : Bool → Option (Unit {0})
 content_of true = Some tt
@@ -28,7 +33,7 @@ rows_of nodes = map row_of nodes
 abbrev pub tree_of : List Node → Tree
 tree_of nodes = read 0 (rows_of nodes)
 
--- the nodes are those of a tree: nothing is lost, no id stands twice or is 0, and none is deeper than 16
+-- the nodes are those of a tree of the limits: nothing is lost, no id stands twice or is 0, and none is deeper than 16
 pub record IsKept (nodes : List Node) : Type 0 where
   pub whole : rows_of nodes ≡ flat 0 (tree_of nodes)
   pub once : IsTree (tree_of nodes)
@@ -43,7 +48,7 @@ is_below (Some k) d = nat_lt k d
 abbrev pub node_with_look : ℕ → Look → Node → Node
 node_with_look q look n = if n.id == q then record n { look = look } else n
 
--- a node of a part that is moved: the depth a belonged to the part's first node's children, b to those of its new group
+-- a node of a part at its new depth: the children of the part's first node stood at a, and that node now stands at b
 abbrev pub moved_node : ℕ → ℕ → Node → Node
 moved_node a b n = record n { depth = min ((n.depth + 1 + b) - a) 255 }
 

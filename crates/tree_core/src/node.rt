@@ -49,7 +49,7 @@ pub fn node_with_look(node: Node, id: u16, look: Look) -> Node
     }
 }
 
-/// A node of a part whose topmost node's children stood at depth `from` and now stand at `to`.
+/// A node of a part at its new depth: the children of the part's first node stood at `from`, and that node now stands at `to`.
 pub fn moved_node(node: Node, from: u8, to: u8) -> Node
     ensures { result ≡ moved_node from to node }
 {

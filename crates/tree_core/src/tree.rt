@@ -5,7 +5,7 @@ ghost use Rattle.doc_model.specs.Changes.{changed, there, takes, child_count, no
 ghost use Rattle.doc_model.specs.Flat.{node};
 ghost use Rattle.doc_model.specs.Forest.{none, has, is_group, count, depth, height, only, without, parent};
 ghost use Rattle.doc_model.specs.declared.tree.Change.TheVariants as change;
-ghost use Rattle.tree_core.specs.Nodes.{content_of};
+ghost use Rattle.tree_core.specs.Nodes.{IsLimited, content_of};
 ghost use Rattle.tree_core.specs.Readers.{look_in, child_in};
 
 use crate::edits::{part, push_all, spliced, with_look, without};
@@ -63,10 +63,11 @@ impl Tree {
         Tree { nodes }
     }
 
-    /// How many nodes there are beside the root.
+    /// How many nodes there are beside the root. It tells the limits that every tree keeps to.
     pub fn node_count(&self) -> u16
         ensures value { result ≡ count self.now }
         ensures few { result ≤ 256 }
+        ensures limits { IsLimited self.now }
     {
         self.nodes.len() as u16
     }

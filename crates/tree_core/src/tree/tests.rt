@@ -15,6 +15,9 @@ fn group(id: u16, parent: u16, place: u8) -> Change {
     Change::Group { id, parent, place }
 }
 
+/// Takes what threads may share and send.
+fn crosses_threads<T: Send + Sync>(_value: &T) {}
+
 #[test]
 fn each_refusal_comes_first_in_its_order(rt: HostRuntime) {
     let mut tree = Tree::new();
@@ -73,6 +76,7 @@ fn readers_tell_the_tree(rt: HostRuntime) {
         assert_eq!(rt; tree.change(&change), Ok(()), "at {change:?}");
     }
     let copy = tree.copy();
+    crosses_threads(&copy);
     assert_eq!(rt; tree.change(&Change::Remove { id: 5 }), Ok(()));
     assert_eq!(rt; tree.child(0, 1), Some(8));
     assert_eq!(rt; copy.node_count(), 4);
