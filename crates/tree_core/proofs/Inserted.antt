@@ -7,7 +7,7 @@ use Rattle.doc_model.specs.declared.tree.Change.TheVariants as change
 use Rattle.doc_model.specs.Forest.{none, count, height, depth}
 use Rattle.doc_model.specs.Flat.{flat, node}
 use Rattle.doc_model.specs.Changes.{answer, set_in, no_new, new_look}
-use Rattle.doc_model.proofs.Weights.{IsTree}
+use Rattle.doc_model.specs.Ids.{IsTree}
 use Rattle.doc_model.proofs.TreeChanges.{tree_changed, new_may}
 use Rattle.doc_model.proofs.Heights.{height_changed}
 use Rattle.tree_core.specs.declared.node.Node.{Node}

@@ -3,7 +3,7 @@ use Rattle.std.proofs.Common.{◌≡◌, ℕ, suc, zero, ◌+◌, ◌≤◌, Som
 use Rattle.std.proofs.lemmas.List.{length-map}
 use Rattle.doc_model.specs.Forest.{none, paint, group, count, height, join, lower, upper}
 use Rattle.doc_model.specs.Flat.{Row, flat, read, read-flat}
-use Rattle.doc_model.proofs.Weights.{IsTree}
+use Rattle.doc_model.specs.Ids.{IsTree}
 use Rattle.tree_core.specs.declared.node.Node.{Node}
 use Rattle.tree_core.specs.Nodes.{Tree, row_of, tree_of, IsKept}
 

@@ -6,7 +6,8 @@ use Rattle.geom_core.proofs.Tests.{or_cases, or_left, or_right}
 use Rattle.doc_model.specs.Forest.{none, paint, group, has, height, depth, join, only, without}
 use Rattle.doc_model.specs.Flat.{Row, flat}
 use Rattle.doc_model.specs.Changes.{takes}
-use Rattle.doc_model.proofs.Weights.{IsTree, tree_distinct}
+use Rattle.doc_model.specs.Ids.{IsTree}
+use Rattle.doc_model.proofs.Weights.{tree_distinct}
 use Rattle.doc_model.proofs.Heights.{group_without, has_join}
 use Rattle.tree_core.specs.declared.node.Node.{Node}
 use Rattle.tree_core.specs.Nodes.{Tree, rows_of, row_of, tree_of, IsKept, greatest_depth, moved_node}

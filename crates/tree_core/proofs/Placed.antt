@@ -6,7 +6,8 @@ use Rattle.doc_model.specs.declared.tree.Change.TheVariants as change
 use Rattle.doc_model.specs.Forest.{has, count, height, depth, only, without}
 use Rattle.doc_model.specs.Flat.{flat}
 use Rattle.doc_model.specs.Changes.{takes, child_count, set_in, no_place, answer, there as there_in}
-use Rattle.doc_model.proofs.Weights.{tree_distinct, weight, weight_parts, weight_count}
+use Rattle.doc_model.specs.Ids.{weight}
+use Rattle.doc_model.proofs.Weights.{tree_distinct, weight_parts, weight_count}
 use Rattle.doc_model.proofs.TreeChanges.{tree_changed, place_may}
 use Rattle.doc_model.proofs.Heights.{height_changed, depth_without}
 use Rattle.tree_core.specs.declared.node.Node.{Node}

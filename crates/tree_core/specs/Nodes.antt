@@ -4,17 +4,12 @@ use Rattle.std.specs.List.{position_or_len}
 use Rattle.doc_model.specs.declared.tree.Look.{Look}
 use Rattle.doc_model.specs.Forest.{Forest, height}
 use Rattle.doc_model.specs.Flat.{Row, flat, read}
-use Rattle.doc_model.proofs.Weights.{IsTree}
+use Rattle.doc_model.specs.Ids.{IsTree}
 use Rattle.tree_core.specs.declared.node.Node.{Node}
 
 -- the tree of a document without its layers' pixels
 abbrev pub Tree : Type 0
 Tree = Forest (Unit {0})
-
--- no id stands twice or is 0, and no node is deeper than 16
-pub record IsLimited (tree : Tree) : Type 0 where
-  pub once : IsTree tree
-  pub low : height tree ≤ 16
 
 -- a paint layer has an empty content, a group has none
 abbrev pub content_of : Bool → Option (Unit {0})

@@ -4,7 +4,7 @@ ghost use Rattle.std.specs.Prelude.{◌≡◌, ℕ, ◌≤◌, ◌+◌, ◌==◌
 ghost use Rattle.std.specs.List.{find, list_any};
 ghost use Rattle.doc_model.specs.Flat.{read};
 ghost use Rattle.doc_model.specs.Forest.{width, parent, depth};
-ghost use Rattle.tree_core.specs.Readers.{side_at};
+ghost use Rattle.doc_model.specs.Readers.{side_at};
 ghost use Rattle.tree_core.specs.Nodes.{rows_of, tree_of, nodes_after, nodes_before, greatest_depth, IsKept};
 
 use crate::node::Node;

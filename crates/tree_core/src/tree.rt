@@ -5,8 +5,9 @@ ghost use Rattle.doc_model.specs.Changes.{changed, there, takes, child_count, no
 ghost use Rattle.doc_model.specs.Flat.{node};
 ghost use Rattle.doc_model.specs.Forest.{none, has, is_group, count, depth, height, only, without, parent};
 ghost use Rattle.doc_model.specs.declared.tree.Change.TheVariants as change;
-ghost use Rattle.tree_core.specs.Nodes.{IsLimited, content_of};
-ghost use Rattle.tree_core.specs.Readers.{look_in, child_in};
+ghost use Rattle.tree_core.specs.Nodes.{content_of};
+ghost use Rattle.doc_model.specs.Laws.{IsDocument};
+ghost use Rattle.doc_model.specs.Readers.{look_in, child_in};
 
 use crate::edits::{part, push_all, spliced, with_look, without};
 use crate::lookup::{above, child_at, children_at, deepest, find, group_in, nodes_after, place_at};
@@ -67,7 +68,7 @@ impl Tree {
     pub fn node_count(&self) -> u16
         ensures value { result ≡ count self.now }
         ensures few { result ≤ 256 }
-        ensures limits { IsLimited self.now }
+        ensures limits { IsDocument self.now }
     {
         self.nodes.len() as u16
     }
