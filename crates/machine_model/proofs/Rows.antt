@@ -1,0 +1,123 @@
+-- A whole run: a layer comes, a stroke fills it, and all is walked.
+use Rattle.std.proofs.Common.{◌≡◌, ℕ, Bool, true, false, ◌&&◌, ◌||◌, List, [], ◌∷◌, refl, pos}
+use Rattle.pixel_core.specs.Rgba.{rgba, clear}
+use Rattle.pixel_core.specs.declared.blending.Op.TheVariants.{Over}
+use Rattle.geom_core.specs.Areas.{area}
+use Rattle.geom_core.specs.Grid.{Key, key, cells}
+use Rattle.doc_model.specs.declared.canvas.Canvas.{Canvas}
+use Rattle.doc_model.specs.declared.job.Job.{Job}
+use Rattle.doc_model.specs.declared.job.Job.TheVariants.{Fill}
+use Rattle.doc_model.specs.declared.job.Kind.TheVariants.{Seq}
+use Rattle.doc_model.specs.declared.command.Command.TheVariants as command
+use Rattle.doc_model.specs.declared.tree.Change.TheVariants as change
+use Rattle.doc_model.specs.declared.canvas.Walk.TheVariants.{Up, All}
+use Rattle.doc_model.specs.Updates.{queued, refreshed}
+use Rattle.doc_model.specs.Strokes.{conflict}
+use Rattle.machine_model.specs.State.{State, new_state, IsSettled}
+use Rattle.machine_model.specs.Event.{Event, Feed, Init, Start, Publish, End, Finish, Act, WalkStart, WalkPublish, WalkEnd}
+use Rattle.machine_model.specs.Step.{Run}
+
+white : Canvas
+white = record { w = 1; h = 1; paper = rgba 255 255 255 255 }
+
+fill : Job
+fill = Fill (area (pos 0) (pos 0) 1 1) (rgba 255 0 0 255) Over 255
+
+one : List Event
+one = Feed (command.Change (change.Layer 1 0 0 clear))
+    ∷ Act
+    ∷ WalkStart 0 (record { walk = All; rect = area (pos 0) (pos 0) 1 1 })
+    ∷ WalkPublish 0 0 (key (pos 0) (pos 0))
+    ∷ WalkEnd 0
+    ∷ Feed (command.Stroke 1 1 false)
+    ∷ Init
+    ∷ Feed (command.Add 1 Seq fill)
+    ∷ Start 0
+    ∷ Publish 0 (key (pos 0) (pos 0))
+    ∷ End 0
+    ∷ Feed (command.End 1)
+    ∷ WalkStart 0 (record { walk = Up 0; rect = area (pos 0) (pos 0) 1 1 })
+    ∷ WalkPublish 0 0 (key (pos 0) (pos 0))
+    ∷ WalkEnd 0
+    ∷ Finish
+    ∷ []
+
+all_walked : (g : ℕ) (k : Key) → (Rattle.std.specs.Prelude.nat_eq 0 g || false) ≡ true → (Rattle.geom_core.specs.Grid.same_key k (key (pos 0) (pos 0)) || false) ≡ true → ((Rattle.std.specs.Prelude.nat_eq 0 g && Rattle.geom_core.specs.Grid.same_key k (key (pos 0) (pos 0))) || false) ≡ true
+all_walked g k h i = go (Rattle.std.specs.Prelude.nat_eq 0 g) (Rattle.geom_core.specs.Grid.same_key k (key (pos 0) (pos 0))) h i
+  where
+    go : (a b : Bool) → (a || false) ≡ true → (b || false) ≡ true → ((a && b) || false) ≡ true
+    go true b h i = i
+    go false b h i = h
+
+-- the run may happen, and leaves a settled state
+one_runs : (s : State) × Run (new_state white 1) one s × IsSettled s
+unfolding one white fill conflict queued refreshed cells
+one_runs = (
+  _,
+  (
+    _,
+    (refl, refl),
+    (
+      _,
+      record { entry = _; at_head = refl; no_stroke = refl; no_walks = refl; clean = λ e. cc; new_is = refl },
+      (
+        _,
+        record { i = 0; waits = refl; free = refl; not_exclusive = refl; avoids = refl; new_is = refl },
+        (
+          _,
+          record { walker = _; runs = refl; on_path = refl; in_patch = refl; fresh = refl; new_is = refl },
+          (
+            _,
+            record { walker = _; runs = refl; all = all_walked; new_is = refl },
+            (
+              _,
+              (refl, refl),
+              (
+                _,
+                record { stroke = _; at_head = refl; not_begun = refl; not_cancelled = refl; no_overlap = refl; on_paint = refl; alone = λ e. refl; new_is = refl },
+                (
+                  _,
+                  (refl, refl),
+                  (
+                    _,
+                    record { stroke = _; at_head = refl; next = 0; begun = refl; not_cancelled = refl; no_overlap = refl; free = refl; job = (Seq, fill); is_next = refl; unblocked = refl; barrier = λ e f. (refl, refl); new_is = refl },
+                    (
+                      _,
+                      record { painter = _; runs = refl; in_job = refl; fresh = refl; stroke = _; at_head = refl; new_is = refl },
+                      (
+                        _,
+                        record { painter = _; runs = refl; all = λ k h. h; stroke = _; at_head = refl; new_is = refl },
+                        (
+                          _,
+                          (refl, refl),
+                          (
+                            _,
+                            record { i = 0; waits = refl; free = refl; not_exclusive = refl; avoids = refl; new_is = refl },
+                            (
+                              _,
+                              record { walker = _; runs = refl; on_path = refl; in_patch = refl; fresh = refl; new_is = refl },
+                              (
+                                _,
+                                record { walker = _; runs = refl; all = all_walked; new_is = refl },
+                                (
+                                  _,
+                                  record { stroke = _; at_head = refl; ended = refl; no_overlap = refl; all_ended = λ e. (refl, refl); new_is = refl },
+                                  refl,
+                                ),
+                              ),
+                            ),
+                          ),
+                        ),
+                      ),
+                    ),
+                  ),
+                ),
+              ),
+            ),
+          ),
+        ),
+      ),
+    ),
+  ),
+  record { entries = refl; slots = refl; updates = refl },
+)
