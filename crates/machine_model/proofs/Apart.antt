@@ -12,7 +12,8 @@ use Rattle.doc_model.proofs.Conflicts.{apart_unless_meet}
 use Rattle.doc_model.proofs.JobLaws.{laws_of_jobs}
 use Rattle.machine_model.specs.UnderWay.{both_uni, writes_at}
 
-no_disturb : (jobs : Jobs) (i j : ℕ) (a b : Kind × Job) → slice_get jobs i ≡ Some a → slice_get jobs j ≡ Some b → one_run jobs i j ≡ true → both_uni jobs i j ≡ false → conflicting jobs i j ≡ false → disturb a.1 b.1 ≡ false
+-- jobs of one run that aren't both uniquely concurrent and don't conflict
+pub no_disturb : (jobs : Jobs) (i j : ℕ) (a b : Kind × Job) → slice_get jobs i ≡ Some a → slice_get jobs j ≡ Some b → one_run jobs i j ≡ true → both_uni jobs i j ≡ false → conflicting jobs i j ≡ false → disturb a.1 b.1 ≡ false
 no_disturb jobs i j a b e f run uni clear = go (disturb a.1 b.1) (is_uni a.0 && is_uni b.0) fact (rw (e, f) at uni)
   where
     fact : (disturb a.1 b.1 && not (is_uni a.0 && is_uni b.0)) ≡ false

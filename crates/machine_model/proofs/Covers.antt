@@ -58,17 +58,17 @@ slot_is s g p Free = refl
 slot_is s g p (Paints w) = refl
 slot_is s g p (Walks w) = refl
 
-patches_are : (s : State) (g : ℕ) (p : Point) → list_any (patch_covers s g p) s.updates ≡ queued_for (λ w. on g (path_of w s.present)) s.updates p
-patches_are s g p = any_same (patch_covers s g p) (λ (q : Patch). on g (path_of q.walk s.present) && holds q.rect p) s.updates (λ q. and_turned (holds q.rect p) (on g (path_of q.walk s.present)))
+pub patches_are : (doc : Doc) (patches : List Patch) (g : ℕ) (p : Point) → list_any (patch_covers doc g p) patches ≡ queued_for (λ w. on g (path_of w doc)) patches p
+patches_are doc patches g p = any_same (patch_covers doc g p) (λ (q : Patch). on g (path_of q.walk doc) && holds q.rect p) patches (λ q. and_turned (holds q.rect p) (on g (path_of q.walk doc)))
 
 both_same : (a a' b b' : Bool) → a ≡ a' → b ≡ b' → (a || b) ≡ (a' || b')
 both_same a a' b b' e h = rw (e, h) refl
 
 pub covered_is : (s : State) (g : ℕ) (p : Point) → covered s g p ≡ cov anyone s.present (up_of s) s.updates s.slots g p
-covered_is s g p = both_same _ _ _ _ (patches_are s g p) (any_same (slot_covers s g p) (λ slot. anyone slot && slot_on (up_of s) g p slot) s.slots (λ slot. slot_is s g p slot))
+covered_is s g p = both_same _ _ _ _ (patches_are s.present s.updates g p) (any_same (slot_covers s g p) (λ slot. anyone slot && slot_on (up_of s) g p slot) s.slots (λ slot. slot_is s g p slot))
 
 pub others_is : (s : State) (g : ℕ) (p : Point) → covered_by_others s g p ≡ cov is_painter s.present (up_of s) s.updates s.slots g p
-others_is s g p = both_same _ _ _ _ (patches_are s g p) (any_same (λ slot. is_painter slot && slot_covers s g p slot) (λ slot. is_painter slot && slot_on (up_of s) g p slot) s.slots (λ slot. ap (λ b. is_painter slot && b) (slot_is s g p slot)))
+others_is s g p = both_same _ _ _ _ (patches_are s.present s.updates g p) (any_same (λ slot. is_painter slot && slot_covers s g p slot) (λ slot. is_painter slot && slot_on (up_of s) g p slot) s.slots (λ slot. ap (λ b. is_painter slot && b) (slot_is s g p slot)))
 
 -- part 7 at one point of one group
 pub record FoldsAt (caches : FinMap nat_cmp Layer) (doc : Doc) (up : List ℕ) (updates : List Patch) (slots : List Slot) (g : ℕ) (p : Point) : Type 0 where

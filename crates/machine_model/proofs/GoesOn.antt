@@ -17,7 +17,7 @@ use Rattle.machine_model.specs.Groups.{on}
 use Rattle.machine_model.specs.Guards.{kept_jobs, is_cancelled, is_ended, is_closed, overlaps, is_paint, is_exclusive, is_bar, blocks, same_pair, meets_walker}
 use Rattle.machine_model.specs.UnderWay.{UnderWay, IsOnWay}
 use Rattle.machine_model.specs.Sound.{IsOrderly}
-use Rattle.machine_model.specs.Laws.{MayGoOn, NoDeadEnd, waits_for_commands}
+use Rattle.machine_model.specs.MeaningLaws.{MayGoOn, NoDeadEnd, waits_for_commands}
 use Rattle.machine_model.proofs.PaintEvents.{painting}
 use Rattle.machine_model.proofs.Searching.{search_keys, search_pairs, search_slots}
 

@@ -13,7 +13,7 @@ abbrev pub jobs_of : Entry → ℕ
 jobs_of (Strokes stroke) = length stroke.jobs
 jobs_of e = 0
 
-jobs_in_one : (e : Entry) (es : List Entry) → jobs_in (e ∷ es) ≡ jobs_of e + jobs_in es
+pub jobs_in_one : (e : Entry) (es : List Entry) → jobs_in (e ∷ es) ≡ jobs_of e + jobs_in es
 jobs_in_one (Strokes s) es = refl
 jobs_in_one (Changes c) es = omega arith
 jobs_in_one Undoes es = omega arith
@@ -21,7 +21,7 @@ jobs_in_one Redoes es = omega arith
 jobs_in_one (Purges n) es = omega arith
 jobs_in_one Exports es = omega arith
 
-jobs_in_last : (es : List Entry) (e : Entry) → jobs_in (es ++ e ∷ []) ≡ jobs_in es + jobs_of e
+pub jobs_in_last : (es : List Entry) (e : Entry) → jobs_in (es ++ e ∷ []) ≡ jobs_in es + jobs_of e
 jobs_in_last [] e = let h : jobs_in (e ∷ []) ≡ jobs_of e + 0 = jobs_in_one e [] in omega arith
 jobs_in_last (x ∷ es) e =
     let a : jobs_in (x ∷ (es ++ e ∷ [])) ≡ jobs_of x + jobs_in (es ++ e ∷ []) = jobs_in_one x (es ++ e ∷ []) in

@@ -23,6 +23,8 @@ use Rattle.machine_model.specs.Counted.{Counted}
 use Rattle.doc_model.specs.Forest.{content}
 use Rattle.doc_model.specs.Strokes.{Stroke}
 use Rattle.doc_model.proofs.Contents.{content-with_content}
+use Rattle.machine_model.proofs.Trees.{trees, base_tree, present_tree}
+use Rattle.machine_model.proofs.CanvasPoints.{canvas_grid}
 use Rattle.machine_model.proofs.PaintEvents.{painting}
 use Rattle.machine_model.proofs.Walkways.{grouped, path_grouped}
 use Rattle.machine_model.specs.Walking.{WalkInside}
@@ -35,33 +37,12 @@ use Rattle.machine_model.proofs.WalkCaches.{caches_walk_start, walks_walk_start}
 use Rattle.machine_model.proofs.WalkPublishes.{caches_walk_publish, walks_walk_publish}
 use Rattle.machine_model.proofs.WalkEnds.{caches_walk_end, walks_walk_end}
 
--- a canvas point is one of the largest canvas's
-in_axis : (p : ℤ) (n : ℕ) → n ≤ 2048 → (int_le (pos 0) p && int_lt p (pos 0 +ℤ pos n)) ≡ true → (int_le (pos 0) p && int_lt p (pos 0 +ℤ pos 2048)) ≡ true
-in_axis p n few h = grind (arith, ints)
-
-pub canvas_grid : (s : State) → Counted s → (p : Point) → holds (canvas_area s.canvas) p ≡ true → in_grid p ≡ true
-canvas_grid s counted p h = both_true _ _ (in_axis p.x s.canvas.w counted.canvas.w.1 (Rattle.machine_model.proofs.CachesKeep.and_left _ _ h)) (in_axis p.y s.canvas.h counted.canvas.h.1 (Rattle.machine_model.proofs.CachesKeep.and_right _ _ h))
-
--- the documents of a sound state have each id once
-pub sound_story : (s : State) → IsSound s → TreeStory (story s)
-sound_story s sound = subst TreeStory sound.orderly.told.means (tree_meaning s.canvas (take (length s.outcomes) (entries s.fed)))
-
-pub sound_base : (s : State) → IsSound s → IsTree s.base
-sound_base s sound = (sound_story s sound).document
-
-pub sound_present : (s : State) → IsSound s → IsTree s.present
-sound_present s sound = go s.way sound.orderly.on_way
-  where
-    go : (o : Option ℕ) → IsOnWay s o → IsTree s.present
-    go None rest = subst IsTree (sym rest.same) (sound_base s sound)
-    go (Some n) u = subst IsTree (sym u.is) (tree_with_content u.stroke.layer u.layer s.base (sound_base s sound))
-
 all_unmapped : (es : List (Doc × Reach)) → AllByRecursion IsTree (map (λ (e : Doc × Reach). e.0) es) → AllTrees es
 all_unmapped [] all = tt
 all_unmapped (e ∷ es) all = (all.0, all_unmapped es all.1)
 
 pub sound_past : (s : State) → IsSound s → AllTrees s.past
-sound_past s sound = all_unmapped s.past (sound_story s sound).past
+sound_past s sound = all_unmapped s.past (trees s sound.orderly.told).past
 
 abbrev pub WalksInside : State → Type 0
 WalksInside s = AllByRecursion (WalkInside (canvas_area s.canvas)) s.slots
@@ -75,10 +56,10 @@ pub seven_eight : (old : State) (event : Event) (new : State) → Step old event
 seven_eight old event new step sound inside = by_event event step
   where
     tree : IsTree old.present
-    tree = sound_present old sound
+    tree = present_tree old sound.orderly
 
     grid : (p : Point) → holds (canvas_area old.canvas) p ≡ true → in_grid p ≡ true
-    grid = canvas_grid old sound.orderly.counted
+    grid = canvas_grid old.canvas sound.orderly.counted.canvas
 
     groups : (w : Walk) (g : ℕ) → IsGroupOf old.present w → on g (path_of w old.present) ≡ true → grouped g old.present ≡ true
     groups w g is on' = path_grouped w g old.present (tree_distinct old.present tree) is on'
@@ -105,8 +86,8 @@ seven_eight old event new step sound inside = by_event event step
             ap (λ (t : Stroke). content t.layer old.present) one ∙ ap (content way.stroke.layer) way.is ∙ content-with_content way.stroke.layer way.layer way.base_layer old.base way.was
     by_event (End place) step = record { caches = caches_end old new place grid step sound.caches; walks = walks_end old new place grid groups step sound.orderly.walking.walks inside sound.walks }
     by_event Finish step = record { caches = caches_finish old new step sound.orderly.on_way sound.caches; walks = walks_finish old new step sound.orderly.on_way sound.orderly.walking.walks inside sound.walks }
-    by_event Cancel step = record { caches = caches_cancel old new (sound_base old sound) tree sound.orderly.on_way step grid sound.caches; walks = walks_cancel old new (sound_base old sound) tree sound.orderly.on_way step grid groups sound.orderly.walking.walks inside sound.walks }
-    by_event Act step = record { caches = caches_act old new step sound.orderly.on_way grid (sound_base old sound) (sound_past old sound) sound.orderly.reached.past sound.orderly.reached.future sound.caches; walks = walks_act old new step }
+    by_event Cancel step = record { caches = caches_cancel old new (base_tree old sound.orderly) tree sound.orderly.on_way step grid sound.caches; walks = walks_cancel old new (base_tree old sound.orderly) tree sound.orderly.on_way step grid groups sound.orderly.walking.walks inside sound.walks }
+    by_event Act step = record { caches = caches_act old new step sound.orderly.on_way grid (base_tree old sound.orderly) (sound_past old sound) sound.orderly.reached.past sound.orderly.reached.future sound.caches; walks = walks_act old new step }
     by_event (WalkStart place patch) step = record { caches = caches_walk_start old new place patch step sound.caches; walks = walks_walk_start old new place patch step sound.orderly.walking.walks inside sound.walks }
     by_event (WalkPublish place g key) step = record { caches = caches_walk_publish old new place g key step tree sound.orderly.walking.walks sound.caches; walks = walks_walk_publish old new place g key step sound.orderly.walking.apart sound.orderly.walking.walks sound.walks }
     by_event (WalkEnd place) step = record { caches = caches_walk_end old new place step tree sound.orderly.walking.walks sound.walks sound.caches; walks = walks_walk_end old new place step sound.orderly.walking.walks inside sound.walks }

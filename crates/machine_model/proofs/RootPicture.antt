@@ -22,7 +22,7 @@ use Rattle.doc_model.proofs.Paths.{KidsIn, or_cases, or_left, or_right, kids_res
 use Rattle.machine_model.specs.State.{Slot, Free, Paints, Walks, State, head_stroke}
 use Rattle.machine_model.specs.Groups.{cache, with_pixels, nodes_in, children_of, path_of, on, folded, covered, painted_group}
 use Rattle.machine_model.specs.Slots.{is_painter, is_walker}
-use Rattle.machine_model.specs.Slots.{no_walker}
+use Rattle.machine_model.specs.Slots.{no_painter, no_walker}
 use Rattle.machine_model.specs.Sound.{IsSound}
 use Rattle.machine_model.specs.Walking.{WalkStands}
 use Rattle.machine_model.specs.UnderWay.{AtRest}
@@ -30,7 +30,8 @@ use Rattle.machine_model.proofs.Walkways.{grouped, path_root}
 use Rattle.machine_model.proofs.Covers.{groups_of, slot_on, anyone, up_of, covered_is}
 use Rattle.machine_model.proofs.CachesKeep.{both_true, and_left, and_right, either_covers, not_true}
 use Rattle.machine_model.proofs.ActCaches.{at_rest}
-use Rattle.machine_model.proofs.PartsSevenEight.{sound_present}
+use Rattle.machine_model.proofs.Trees.{present_tree}
+use Rattle.machine_model.specs.PictureLaws.{CleanIsPicture}
 
 kept : {B : Type 0} (b : Bool) (x y : B) → b ≡ false → cond b x y ≡ y
 kept b x y e = rw e refl
@@ -77,11 +78,11 @@ root_covered s stands g p h = covered_is s 0 p ∙ either_covers _ _ _ (λ e. or
     ]
 
 -- a sound state whose root isn't covered at a point of the canvas has the picture there
-pub root_picture : (s : State) → IsSound s → (p : Point) → holds (canvas_area s.canvas) p ≡ true → covered s 0 p ≡ false → at (cache s.caches 0) p ≡ picture s.present p
-root_picture s sound p inside clean = fold 0 refl ∙ folded_laid s.caches (λ g. nodes_in g s.present) s.present p clear clear refl (tree_distinct s.present tree) kids (λ g h. fold g (or_right (eqb g 0) _ h))
+pub clean_is_picture : CleanIsPicture
+clean_is_picture s sound p inside clean = fold 0 refl ∙ folded_laid s.caches (λ g. nodes_in g s.present) s.present p clear clear refl (tree_distinct s.present tree) kids (λ g h. fold g (or_right (eqb g 0) _ h))
   where
     tree : IsTree s.present
-    tree = sound_present s sound
+    tree = present_tree s sound.orderly
 
     kids : KidsIn (λ g. nodes_in g s.present) s.present
     kids g there = kept (eqb g 0) _ _ (not_root (eqb g 0) refl)
@@ -96,17 +97,14 @@ root_picture s sound p inside clean = fold 0 refl ∙ folded_laid s.caches (λ g
       | inr e ↦ absurd (let t : covered s 0 p ≡ true = root_covered s sound.orderly.walking.walks g p e in cc)
     ]
 
-nothing_covers : (s : State) → s.updates ≡ [] → list_any is_painter s.slots ≡ false → list_any is_walker s.slots ≡ false → (g : ℕ) (p : Point) → covered s g p ≡ false
-nothing_covers s updates painters walkers g p = covered_is s g p ∙ ap (λ q. queued_for (λ w. on g (path_of w s.present)) q p || list_any (λ slot. anyone slot && slot_on (up_of s) g p slot) s.slots) updates ∙ slots s.slots painters walkers
+-- where nothing is at work and nothing waits, nothing is covered
+pub still_is_clean : (s : State) → s.updates ≡ [] → no_painter s ≡ true → no_walker s ≡ true → (g : ℕ) (p : Point) → covered s g p ≡ false
+still_is_clean s updates painters walkers g p = covered_is s g p
+    ∙ ap (λ q. queued_for (λ w. on g (path_of w s.present)) q p || list_any (λ slot. anyone slot && slot_on (up_of s) g p slot) s.slots) updates
+    ∙ slots s.slots (not_true _ painters) (not_true _ walkers)
   where
     slots : (xs : List Slot) → list_any is_painter xs ≡ false → list_any is_walker xs ≡ false → list_any (λ slot. anyone slot && slot_on (up_of s) g p slot) xs ≡ false
     slots [] a b = refl
     slots (Free ∷ xs) a b = slots xs a b
     slots (Paints w ∷ xs) a b = absurd (let t : true ≡ false = a in cc)
     slots (Walks w ∷ xs) a b = absurd (let t : true ≡ false = b in cc)
-
--- where an export may act, the root's cache is the picture of the document on the whole canvas
-pub export_picture : (s : State) → IsSound s → head_stroke s ≡ None → s.updates ≡ [] → no_walker s ≡ true → (p : Point) → holds (canvas_area s.canvas) p ≡ true → at (cache s.caches 0) p ≡ picture s.base p
-export_picture s sound head updates walkers p inside =
-    let rest : AtRest s = at_rest s head sound.orderly.on_way in
-    root_picture s sound p inside (nothing_covers s updates (not_true _ rest.idle) (not_true _ walkers) 0 p) ∙ ap (λ d. picture d p) rest.same

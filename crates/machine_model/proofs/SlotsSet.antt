@@ -66,7 +66,7 @@ clear_unless_walks y (z ∷ slots) h = both_true _ _ (one y z h) (clear_unless_w
     one (Paints w) (Walks v) h = refl
     one (Walks w) z h = cc
 
-meets_swapped : (a b : Area) → meets a b ≡ meets b a
+pub meets_swapped : (a b : Area) → meets a b ≡ meets b a
 meets_swapped a b = (λ i. swap (Rattle.std.specs.Prelude.int_lt a.x (right b)) (Rattle.std.specs.Prelude.int_lt b.x (right a)) i && swap (Rattle.std.specs.Prelude.int_lt a.y (bottom b)) (Rattle.std.specs.Prelude.int_lt b.y (bottom a)) i)
   where
     swap : (s t : Bool) → (s && t) ≡ (t && s)

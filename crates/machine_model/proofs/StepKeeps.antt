@@ -12,7 +12,8 @@ use Rattle.machine_model.specs.UnderWay.{IsOnWay}
 use Rattle.machine_model.specs.Walking.{WalkStands, all_apart}
 use Rattle.machine_model.specs.Counted.{IsOfLimits, SerialBelow, SerialsDiffer, PublishedOwn}
 use Rattle.machine_model.specs.Sound.{IsOrderly}
-use Rattle.machine_model.specs.Laws.{StepKeepsOrder, RunsAreOrderly, HasMeaning, SettledHasMeaning}
+use Rattle.machine_model.specs.SoundnessLaws.{IsNew, StepKeepsOrder, RunsAreOrderly}
+use Rattle.machine_model.specs.MeaningLaws.{HasMeaning, SettledHasMeaning, RunsHaveMeaning}
 use Rattle.machine_model.proofs.Lists.{take_all}
 use Rattle.machine_model.proofs.FeedKeeps.{feed_keeps}
 use Rattle.machine_model.proofs.InitKeeps.{init_keeps}
@@ -97,7 +98,10 @@ run_keeps old [] new sound run = subst IsOrderly (sym run) sound
 run_keeps old (e ∷ events) new sound run = run_keeps run.0 events new (step_keeps old run.0 e sound run.1) run.2
 
 pub runs_are_orderly : RunsAreOrderly
-runs_are_orderly events s reached = run_keeps _ events s (new_orderly reached.canvas reached.slots reached.of_limits reached.some_slot reached.few_slots) reached.run
+runs_are_orderly events s reached = run_keeps reached.start events s (subst IsOrderly (sym new.is) (new_orderly new.canvas new.slots new.of_limits new.some_slot new.few_slots)) reached.run
+  where
+    new : IsNew reached.start
+    new = reached.new
 
 nothing_left : (n : ℕ) (es : List Entry) → n ≡ length es → first (drop n es) ≡ None
 nothing_left zero [] e = refl
@@ -106,8 +110,8 @@ nothing_left (suc n) [] e = absurd (omega arith)
 nothing_left (suc n) (x ∷ es) e = nothing_left n es (omega arith)
 
 -- an orderly state that is settled is what was fed means
-pub settled_means : (s : State) → IsOrderly s → IsSettled s → HasMeaning s
-settled_means s sound settled = record {
+pub settled_has_meaning : SettledHasMeaning
+settled_has_meaning s sound settled = record {
   means = ap (meaning s.canvas) (sym (take_all (entries s.fed)) ∙ ap (λ n. take n (entries s.fed)) (sym settled.entries)) ∙ sound.told.means;
   present = go s.way sound.on_way;
 }
@@ -118,5 +122,5 @@ settled_means s sound settled = record {
         let none : head_stroke s ≡ None = ap stroke_of (nothing_left (length s.outcomes) (entries s.fed) settled.entries) in
         absurd (let f : None ≡ Some way.stroke = sym none ∙ way.at_head in cc)
 
-pub settled_has_meaning : SettledHasMeaning
-settled_has_meaning events s reached settled = settled_means s (runs_are_orderly events s reached) settled
+pub runs_have_meaning : RunsHaveMeaning
+runs_have_meaning events s reached settled = settled_has_meaning s (runs_are_orderly events s reached) settled

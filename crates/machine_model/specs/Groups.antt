@@ -66,9 +66,9 @@ slot_covers s g p (Paints w) = any_holds (writes w.job) p && on g (path_of (Up (
 slot_covers s g p (Walks w) = holds w.patch.rect p && on g (map (λ (e : ℕ × List Child). e.0) w.shot)
 
 -- whether a queued patch will compose the group at the point again
-abbrev pub patch_covers : State → ℕ → Point → Patch → Bool
-patch_covers s g p patch = holds patch.rect p && on g (path_of patch.walk s.present)
+abbrev pub patch_covers : Doc → ℕ → Point → Patch → Bool
+patch_covers doc g p patch = holds patch.rect p && on g (path_of patch.walk doc)
 
 -- whether something will compose the group at the point again
 abbrev pub covered : State → ℕ → Point → Bool
-covered s g p = list_any (patch_covers s g p) s.updates || list_any (slot_covers s g p) s.slots
+covered s g p = list_any (patch_covers s.present g p) s.updates || list_any (slot_covers s g p) s.slots
