@@ -20,7 +20,8 @@ use Rattle.doc_model.proofs.Contents.{with_content-with_content, content-with_co
 use Rattle.doc_model.proofs.Weights.{IsTree, tree_distinct}
 use Rattle.doc_model.proofs.QueueLaws.{queued_for, in_grid}
 use Rattle.doc_model.proofs.QueueWhole.{refreshed_takes}
-use Rattle.doc_model.proofs.Paths.{or_left, or_right, content_put_back}
+use Rattle.doc_model.proofs.Paths.{content_put_back}
+use Rattle.geom_core.proofs.Tests.{or_left, or_right}
 use Rattle.machine_model.specs.State.{Reach, Whole, Part, Painter, Walker, Slot, Free, Paints, Walks, State, head_stroke, head}
 use Rattle.machine_model.specs.Groups.{path_of, on, parent_of}
 use Rattle.machine_model.specs.Slots.{is_walker}
@@ -29,12 +30,13 @@ use Rattle.machine_model.specs.Effects.{queue_bound, bound_of, acts, acts_change
 use Rattle.machine_model.specs.Caches.{CachesFold, WalkIsRight}
 use Rattle.machine_model.specs.UnderWay.{IsOnWay, AtRest}
 use Rattle.machine_model.specs.Reached.{Reaches, ReachesOneLayer, PastReaches, FutureReaches, DifferWithin}
-use Rattle.machine_model.proofs.Walkways.{grouped, grouped_with, path_here, path_all, parent_of_with}
+use Rattle.machine_model.proofs.WalkPaths.{grouped, grouped_with, path_here, path_all, parent_of_with}
 use Rattle.machine_model.proofs.Covers.{anyone, cov, up_of, FoldsAt, caches_by, fold_covers, fold_out}
-use Rattle.machine_model.proofs.CachesKeep.{not_true, cov_idle, either_covers}
-use Rattle.machine_model.proofs.Moves.{moved_from, fold_moves, fold_new, cov_with, queue_bound_stays, queue_bound_takes}
-use Rattle.machine_model.proofs.Tiles.{set_holds}
-use Rattle.machine_model.proofs.BackCaches.{fold_at}
+use Rattle.machine_model.proofs.JobCaches.{cov_idle, either_covers}
+use Rattle.geom_core.proofs.Tests.{not_true}
+use Rattle.machine_model.proofs.OtherPixels.{moved_from, fold_moves, fold_new, cov_with, queue_bound_stays, queue_bound_takes}
+use Rattle.machine_model.proofs.TileBounds.{set_holds}
+use Rattle.machine_model.proofs.CancelCaches.{fold_at}
 
 -- where the head is no stroke, none is under way
 pub at_rest : (s : State) → head_stroke s ≡ None → IsOnWay s s.way → AtRest s

@@ -37,12 +37,12 @@ use Rattle.machine_model.specs.Walking.{IsGroupOf}
 use Rattle.machine_model.specs.Counted.{IsOfLimits, painters, ended_jobs}
 use Rattle.machine_model.specs.Sound.{IsOrderly}
 use Rattle.machine_model.proofs.Lists.{all_map}
-use Rattle.machine_model.proofs.Trees.{trees}
+use Rattle.machine_model.proofs.StateTrees.{trees}
 use Rattle.machine_model.proofs.FeedKeeps.{not_begun}
-use Rattle.machine_model.proofs.StoryKeeps.{IsPlain, story_acts, told_more, one_outcome}
-use Rattle.machine_model.proofs.Stands.{none_stand, group_with}
-use Rattle.machine_model.proofs.Leaving.{jobs_of, jobs_left_any}
-use Rattle.machine_model.proofs.PaintEvents.{parent_stands}
+use Rattle.machine_model.proofs.Stories.{IsPlain, story_acts, told_more, one_outcome}
+use Rattle.machine_model.proofs.WalksStand.{none_stand, group_with}
+use Rattle.machine_model.proofs.LeavingCounts.{jobs_of, jobs_left_any}
+use Rattle.machine_model.proofs.JobKeeps.{parent_stands}
 use Rattle.machine_model.proofs.CancelKeeps.{bound_right, bound_groups}
 
 abbrev GroupsOf : Doc → List Patch → Type 0

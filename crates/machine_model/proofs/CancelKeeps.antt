@@ -24,13 +24,13 @@ use Rattle.machine_model.specs.Walking.{IsGroupOf}
 use Rattle.machine_model.specs.Counted.{painters, ended, ended_jobs}
 use Rattle.machine_model.specs.Sound.{IsOrderly}
 use Rattle.machine_model.proofs.Lists.{length_last}
-use Rattle.machine_model.proofs.Trees.{base_distinct}
+use Rattle.machine_model.proofs.StateTrees.{base_distinct}
 use Rattle.machine_model.proofs.FeedKeeps.{head_is, not_begun}
-use Rattle.machine_model.proofs.StoryKeeps.{told_more}
-use Rattle.machine_model.proofs.Stands.{SameShape, shape_same, shape_with, all_stand, groups_stand}
-use Rattle.machine_model.proofs.SlotsSet.{ended_few}
-use Rattle.machine_model.proofs.Leaving.{jobs_left, kept_few}
-use Rattle.machine_model.proofs.PaintEvents.{parent_stands}
+use Rattle.machine_model.proofs.Stories.{told_more}
+use Rattle.machine_model.proofs.WalksStand.{SameShape, shape_same, shape_with, all_stand, groups_stand}
+use Rattle.machine_model.proofs.SlotChanges.{ended_few}
+use Rattle.machine_model.proofs.LeavingCounts.{jobs_left, kept_few}
+use Rattle.machine_model.proofs.JobKeeps.{parent_stands}
 
 -- one rectangle or none is queued
 pub bound_right : (s : State) (g : ℕ) (o : Option Area) → IsQueue (canvas_area s.canvas) s.updates → IsQueue (canvas_area s.canvas) (queue_bound s g o)

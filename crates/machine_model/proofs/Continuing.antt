@@ -1,6 +1,5 @@
 -- A run goes on from what was there.
-use Rattle.std.proofs.Common.{◌≡◌, ℕ, Bool, true, false, List, [], ◌∷◌, ◌++◌, Result, Ok, Err, length, refl, sym, ap, ◌∙◌, subst, append_assoc, append-nil}
-use Rattle.doc_model.specs.declared.command.Command.{Command}
+use Rattle.std.proofs.Common.{◌≡◌, Bool, true, false, List, [], ◌∷◌, ◌++◌, Result, Ok, Err, length, refl, sym, ap, ◌∙◌, subst, append_assoc, append-nil}
 use Rattle.doc_model.specs.declared.command.Outcome.TheVariants.{Done}
 use Rattle.doc_model.specs.declared.tree.TreeFault.{TreeFault}
 use Rattle.doc_model.specs.Layers.{plain}
@@ -11,9 +10,9 @@ use Rattle.machine_model.specs.State.{Reach, Whole, Part, State}
 use Rattle.machine_model.specs.Event.{Event, Feed, Init, Start, Publish, End, Finish, Cancel, Act, WalkStart, WalkPublish, WalkEnd}
 use Rattle.machine_model.specs.Guards.{is_paint}
 use Rattle.machine_model.specs.Effects.{acts, acts_change, acts_undo, acts_redo, moved_to, tells, finished}
-use Rattle.machine_model.specs.Step.{Step, Run, FinishStep}
+use Rattle.machine_model.specs.Step.{Step, FinishStep}
 use Rattle.machine_model.specs.SoundnessLaws.{Continues, RunsContinue, fed_by}
-use Rattle.machine_model.proofs.SlotsSet.{length_set}
+use Rattle.machine_model.proofs.SlotChanges.{length_set}
 
 -- what tells nothing
 still : (old new : State) → new.canvas ≡ old.canvas → length new.slots ≡ length old.slots → new.fed ≡ old.fed → new.outcomes ≡ old.outcomes → new.frames ≡ old.frames → Continues [] old new

@@ -1,4 +1,5 @@
 -- Parts 7 and 8 of what is sound, point by point and part by part of a state.
+use Rattle.machine_model.proofs.Choices.{and_turned}
 use Rattle.std.proofs.Common.{◌≡◌, ℕ, suc, zero, Bool, true, false, ◌&&◌, ◌||◌, List, [], ◌∷◌, Some, map, refl, sym, ap, ◌∙◌, arith, eqb, subst, ◌⊎◌, inl, inr}
 use Rattle.std.specs.Prelude.{slice_get, slice_set}
 use Rattle.std.specs.Ordering.{nat_cmp}
@@ -14,7 +15,7 @@ use Rattle.doc_model.specs.Layers.{Layer, at}
 use Rattle.doc_model.specs.Jobs.{writes}
 use Rattle.doc_model.specs.Picture.{Doc, canvas_area}
 use Rattle.doc_model.proofs.QueueLaws.{queued_for}
-use Rattle.doc_model.proofs.Paths.{or_cases, or_left, or_right}
+use Rattle.geom_core.proofs.Tests.{or_cases, or_left, or_right}
 use Rattle.machine_model.specs.State.{Child, Walker, Slot, Free, Paints, Walks, State, head_stroke}
 use Rattle.machine_model.specs.Groups.{cache, with_pixels, nodes_in, children_of, folded, path_of, on, painted_group, covered, patch_covers, slot_covers}
 use Rattle.machine_model.specs.Slots.{is_painter}
@@ -22,7 +23,7 @@ use Rattle.machine_model.specs.Guards.{same_pair}
 use Rattle.machine_model.specs.Walks.{walk_value}
 use Rattle.machine_model.specs.Caches.{CachesFold, WalkReads, WalkIsRight, SamePixels, covered_by_others}
 use Rattle.machine_model.specs.Walking.{WalkInside, WalkStands, SameChildren, IsGroupOf}
-use Rattle.machine_model.proofs.Walkways.{grouped}
+use Rattle.machine_model.proofs.WalkPaths.{grouped}
 
 abbrev pub groups_of : Walker → List ℕ
 groups_of w = map (λ (e : ℕ × List Child). e.0) w.shot
@@ -46,12 +47,6 @@ up_of s = path_of (Up (painted_group s (head_stroke s))) s.present
 pub any_same : {A : Type 0} (f g : A → Bool) (xs : List A) → ((x : A) → f x ≡ g x) → list_any f xs ≡ list_any g xs
 any_same f g [] same = refl
 any_same f g (x ∷ xs) same = rw (same x, any_same f g xs same) refl
-
-and_turned : (a b : Bool) → (a && b) ≡ (b && a)
-and_turned true true = refl
-and_turned true false = refl
-and_turned false true = refl
-and_turned false false = refl
 
 slot_is : (s : State) (g : ℕ) (p : Point) (slot : Slot) → slot_covers s g p slot ≡ slot_on (up_of s) g p slot
 slot_is s g p Free = refl

@@ -1,5 +1,7 @@
 -- A command that is fed keeps parts 7 and 8.
-use Rattle.std.proofs.Common.{◌≡◌, ℕ, suc, zero, Bool, true, false, cond, List, [], ◌∷◌, ◌++◌, Option, Some, None, map, refl, sym, ap, ◌∙◌, eqb, subst, ◌⊎◌, inl, inr, length, drop}
+use Rattle.doc_model.proofs.Feeding.{entries_last}
+use Rattle.machine_model.proofs.FeedKeeps.{first_last, first_map, head_is}
+use Rattle.std.proofs.Common.{◌≡◌, ℕ, Bool, true, false, cond, List, [], ◌∷◌, ◌++◌, Option, Some, None, refl, sym, ap, ◌∙◌, eqb, subst, ◌⊎◌, inl, inr, length, drop}
 use Rattle.std.specs.List.{list_any, AllByRecursion}
 use Rattle.geom_core.specs.Points.{Point}
 use Rattle.doc_model.specs.declared.job.Job.{Job}
@@ -8,7 +10,7 @@ use Rattle.doc_model.specs.declared.command.Command.{Command}
 use Rattle.doc_model.specs.declared.command.Command.TheVariants as command
 use Rattle.doc_model.specs.declared.canvas.Walk.TheVariants.{Up}
 use Rattle.doc_model.specs.Picture.{canvas_area}
-use Rattle.doc_model.specs.Strokes.{Stroke, Entry, Strokes, Changes, Undoes, Redoes, Purges, Exports, entries, all_fed, fed, with_job, with_fate, Fate, Ended, Cancelled}
+use Rattle.doc_model.specs.Strokes.{Stroke, Entry, Strokes, entries, fed, with_job, with_fate, Fate, Ended, Cancelled}
 use Rattle.machine_model.specs.State.{Slot, State, head_stroke, head, stroke_of, first}
 use Rattle.machine_model.specs.Groups.{path_of, parent_of, painted_group}
 use Rattle.machine_model.specs.Slots.{is_painter}
@@ -17,27 +19,11 @@ use Rattle.machine_model.specs.Step.{Step}
 use Rattle.machine_model.specs.Caches.{CachesFold, WalkIsRight}
 use Rattle.machine_model.specs.Walking.{WalkStands}
 use Rattle.machine_model.specs.UnderWay.{IsOnWay}
-use Rattle.machine_model.proofs.Walkways.{grouped}
+use Rattle.machine_model.proofs.WalkPaths.{grouped}
 use Rattle.machine_model.proofs.Covers.{anyone, cov, up_of, IsFold, IsRead, caches_by, walks_by, fold_covers, read_covers}
 use Rattle.machine_model.specs.Walking.{WalkInside}
-use Rattle.machine_model.proofs.CachesKeep.{not_true, cov_idle}
-
-all_fed_last : (es : List Entry) (cs : List Command) (c : Command) → all_fed es (cs ++ c ∷ []) ≡ fed (all_fed es cs) c
-all_fed_last es [] c = refl
-all_fed_last es (d ∷ cs) c = all_fed_last (fed es d) cs c
-
--- the head after one more entry, or after entries were changed
-first_more : (n : ℕ) (es more : List Entry) (e : Entry) → first (drop n es) ≡ Some e → first (drop n (es ++ more)) ≡ Some e
-first_more zero [] more e h = cc
-first_more zero (x ∷ es) more e h = h
-first_more (suc n) [] more e h = cc
-first_more (suc n) (x ∷ es) more e h = first_more n es more e h
-
-first_mapped : (f : Entry → Entry) (n : ℕ) (es : List Entry) (e : Entry) → first (drop n es) ≡ Some e → first (drop n (map f es)) ≡ Some (f e)
-first_mapped f zero [] e h = cc
-first_mapped f zero (x ∷ es) e h = let is : x ≡ e = cc in ap (λ y. Some (f y)) is
-first_mapped f (suc n) [] e h = cc
-first_mapped f (suc n) (x ∷ es) e h = first_mapped f n es e h
+use Rattle.machine_model.proofs.JobCaches.{cov_idle}
+use Rattle.geom_core.proofs.Tests.{not_true}
 
 -- a stroke at the head stays one for its layer
 abbrev pub StaysFor : ℕ → Option Entry → Type 0
@@ -58,24 +44,15 @@ fate_stays number fate s = go (eqb s.no number)
     go false = (s, refl, refl)
 
 pub fed_stays : (n : ℕ) (es : List Entry) (c : Command) (s : Stroke) → first (drop n es) ≡ Some (Strokes s) → StaysFor s.layer (first (drop n (fed es c)))
-fed_stays n es (command.Change change) s h = (s, first_more n es _ (Strokes s) h, refl)
-fed_stays n es (command.Stroke number layer exclusive) s h = (s, first_more n es _ (Strokes s) h, refl)
-fed_stays n es (command.Add number kind job) s h = subst (StaysFor s.layer) (sym (first_mapped (with_job number kind job) n es (Strokes s) h)) (job_stays number kind job s)
-fed_stays n es (command.End number) s h = subst (StaysFor s.layer) (sym (first_mapped (with_fate number Ended) n es (Strokes s) h)) (fate_stays number Ended s)
-fed_stays n es (command.Cancel number) s h = subst (StaysFor s.layer) (sym (first_mapped (with_fate number Cancelled) n es (Strokes s) h)) (fate_stays number Cancelled s)
-fed_stays n es command.Undo s h = (s, first_more n es _ (Strokes s) h, refl)
-fed_stays n es command.Redo s h = (s, first_more n es _ (Strokes s) h, refl)
-fed_stays n es (command.Purge keep) s h = (s, first_more n es _ (Strokes s) h, refl)
-fed_stays n es command.Export s h = (s, first_more n es _ (Strokes s) h, refl)
-
-head_is : (o : Option Entry) (t : Stroke) → stroke_of o ≡ Some t → o ≡ Some (Strokes t)
-head_is None t e = cc
-head_is (Some (Strokes s)) t e = let is : s ≡ t = cc in ap (λ u. Some (Strokes u)) is
-head_is (Some (Changes c)) t e = cc
-head_is (Some Undoes) t e = cc
-head_is (Some Redoes) t e = cc
-head_is (Some (Purges n)) t e = cc
-head_is (Some Exports) t e = cc
+fed_stays n es (command.Change change) s h = (s, first_last n es _ (Strokes s) h, refl)
+fed_stays n es (command.Stroke number layer exclusive) s h = (s, first_last n es _ (Strokes s) h, refl)
+fed_stays n es (command.Add number kind job) s h = subst (StaysFor s.layer) (sym (first_map n (with_job number kind job) es (Strokes s) h)) (job_stays number kind job s)
+fed_stays n es (command.End number) s h = subst (StaysFor s.layer) (sym (first_map n (with_fate number Ended) es (Strokes s) h)) (fate_stays number Ended s)
+fed_stays n es (command.Cancel number) s h = subst (StaysFor s.layer) (sym (first_map n (with_fate number Cancelled) es (Strokes s) h)) (fate_stays number Cancelled s)
+fed_stays n es command.Undo s h = (s, first_last n es _ (Strokes s) h, refl)
+fed_stays n es command.Redo s h = (s, first_last n es _ (Strokes s) h, refl)
+fed_stays n es (command.Purge keep) s h = (s, first_last n es _ (Strokes s) h, refl)
+fed_stays n es command.Export s h = (s, first_last n es _ (Strokes s) h, refl)
 
 module _ (old new : State) (c : Command) (step : Step old (Feed c) new) (way : IsOnWay old old.way) where
   abbrev next : State
@@ -89,7 +66,7 @@ module _ (old new : State) (c : Command) (step : Step old (Feed c) new) (way : I
       go None rest = inl (not_true _ rest.idle)
       go (Some n) u =
           let before : head old ≡ Some (Strokes u.stroke) = head_is (head old) u.stroke u.at_head in
-          let stays : StaysFor u.stroke.layer (head next) = subst (λ es. StaysFor u.stroke.layer (first (drop (length old.outcomes) es))) (sym (all_fed_last [] old.fed c)) (fed_stays (length old.outcomes) (entries old.fed) c u.stroke before) in
+          let stays : StaysFor u.stroke.layer (head next) = subst (λ es. StaysFor u.stroke.layer (first (drop (length old.outcomes) es))) (sym (entries_last old.fed c)) (fed_stays (length old.outcomes) (entries old.fed) c u.stroke before) in
           let after : head_stroke next ≡ Some stays.0 = ap stroke_of stays.1 in
           inr (ap (λ o. path_of (Up (painted_group old o)) old.present) after ∙ ap (λ l. path_of (Up (parent_of l old.present)) old.present) stays.2 ∙ sym (ap (λ o. path_of (Up (painted_group old o)) old.present) u.at_head))
 

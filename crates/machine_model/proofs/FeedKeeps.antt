@@ -15,7 +15,7 @@ use Rattle.machine_model.specs.Guards.{is_exclusive, kept_jobs}
 use Rattle.machine_model.specs.Told.{Told}
 use Rattle.machine_model.specs.UnderWay.{UnderWay, IsOnWay, MayOverlap, PixelsAre}
 use Rattle.machine_model.specs.Sound.{IsOrderly}
-use Rattle.machine_model.proofs.Grown.{length_front, started_grown, overlap_grown, pixels_grown}
+use Rattle.machine_model.proofs.GrownStroke.{length_front, started_grown, overlap_grown, pixels_grown}
 
 -- a stroke that was fed a command: at most one more job, or a fate
 pub record Grows (old new : Stroke) : Type 0 where
@@ -27,13 +27,13 @@ append_none : (jobs : Jobs) → jobs ++ [] ≡ jobs
 append_none [] = refl
 append_none (j ∷ jobs) = ap (λ js. j ∷ js) (append_none jobs)
 
-first_last : (k : ℕ) (es : List Entry) (e x : Entry) → first (drop k es) ≡ Some x → first (drop k (es ++ e ∷ [])) ≡ Some x
+pub first_last : (k : ℕ) (es : List Entry) (e x : Entry) → first (drop k es) ≡ Some x → first (drop k (es ++ e ∷ [])) ≡ Some x
 first_last zero [] e x h = cc
 first_last zero (y ∷ es) e x h = h
 first_last (suc k) [] e x h = cc
 first_last (suc k) (y ∷ es) e x h = first_last k es e x h
 
-first_map : (k : ℕ) (change : Entry → Entry) (es : List Entry) (x : Entry) → first (drop k es) ≡ Some x → first (drop k (map change es)) ≡ Some (change x)
+pub first_map : (k : ℕ) (change : Entry → Entry) (es : List Entry) (x : Entry) → first (drop k es) ≡ Some x → first (drop k (map change es)) ≡ Some (change x)
 first_map zero change [] x h = cc
 first_map zero change (y ∷ es) x h = let same : y ≡ x = cc in ap (λ e. Some (change e)) same
 first_map (suc k) change [] x h = cc

@@ -27,11 +27,11 @@ use Rattle.machine_model.specs.Counted.{painters, ended, ended_jobs}
 use Rattle.machine_model.specs.Sound.{IsOrderly}
 use Rattle.machine_model.proofs.Lists.{length_last}
 use Rattle.machine_model.proofs.FeedKeeps.{head_is, not_begun}
-use Rattle.machine_model.proofs.FinishMeans.{whole_layer}
-use Rattle.machine_model.proofs.StoryKeeps.{told_more}
-use Rattle.machine_model.proofs.Stands.{shape_same, all_stand}
-use Rattle.machine_model.proofs.SlotsSet.{ended_few}
-use Rattle.machine_model.proofs.Leaving.{jobs_left}
+use Rattle.machine_model.proofs.FinishedLayer.{whole_layer}
+use Rattle.machine_model.proofs.Stories.{told_more}
+use Rattle.machine_model.proofs.WalksStand.{shape_same, all_stand}
+use Rattle.machine_model.proofs.SlotChanges.{ended_few}
+use Rattle.machine_model.proofs.LeavingCounts.{jobs_left}
 
 ended_closed : (stroke : Stroke) → is_ended stroke ≡ true → is_closed_entry (Strokes stroke) ≡ true
 ended_closed stroke e = go stroke.fate refl

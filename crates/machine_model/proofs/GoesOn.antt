@@ -18,8 +18,8 @@ use Rattle.machine_model.specs.Guards.{kept_jobs, is_cancelled, is_ended, is_clo
 use Rattle.machine_model.specs.UnderWay.{UnderWay, IsOnWay}
 use Rattle.machine_model.specs.Sound.{IsOrderly}
 use Rattle.machine_model.specs.MeaningLaws.{MayGoOn, NoDeadEnd, waits_for_commands}
-use Rattle.machine_model.proofs.PaintEvents.{painting}
-use Rattle.machine_model.proofs.Searching.{search_keys, search_pairs, search_slots}
+use Rattle.machine_model.proofs.JobKeeps.{painting}
+use Rattle.machine_model.proofs.SlotSearch.{search_keys, search_pairs, search_slots}
 
 -- a job at work goes on
 painter_goes : (s : State) (place : ℕ) (w : Painter) → IsOrderly s → slice_get s.slots place ≡ Some (Paints w) → MayGoOn s

@@ -1,6 +1,7 @@
 -- What each event asks for and leaves alone, in the machine's own words.
-use Rattle.std.proofs.Common.{◌≡◌, ◌≢◌, ℕ, suc, Bool, true, false, ◌&&◌, not, cond, List, [], ◌∷◌, Option, Some, None, refl, sym, ap, ◌∙◌, arith}
-use Rattle.std.specs.Prelude.{slice_get, slice_set}
+use Rattle.machine_model.proofs.Choices.{and_none}
+use Rattle.std.proofs.Common.{◌≡◌, ◌≢◌, ℕ, true, ◌&&◌, not, cond, [], Option, Some, None, refl, sym, ap, ◌∙◌}
+use Rattle.std.specs.Prelude.{slice_get}
 use Rattle.geom_core.specs.Points.{Point}
 use Rattle.geom_core.specs.Areas.{any_holds}
 use Rattle.geom_core.proofs.Tests.{taken, kept, both_true}
@@ -24,9 +25,9 @@ use Rattle.machine_model.specs.Step.{StartStep}
 use Rattle.machine_model.specs.UnderWay.{AtRest, UnderWay}
 use Rattle.machine_model.specs.GuardLaws.{BarrierStartsClean, JobsStartInOrder, ExclusiveHasNoWalk, PublishStaysInTile, PublishesTile, CancelPutsBack, ExportWaits}
 use Rattle.machine_model.proofs.Lists.{get_set}
-use Rattle.machine_model.proofs.SlotsSet.{any_beside}
-use Rattle.machine_model.proofs.Trees.{present_tree}
-use Rattle.machine_model.proofs.PaintEvents.{painting}
+use Rattle.machine_model.proofs.SlotChanges.{any_beside}
+use Rattle.machine_model.proofs.StateTrees.{present_tree}
+use Rattle.machine_model.proofs.JobKeeps.{painting}
 use Rattle.machine_model.proofs.ActCaches.{at_rest}
 
 -- the job that starts
@@ -87,7 +88,7 @@ publish_stays_in_tile old new place key sound step = go (painting old place step
       is = ap (λ (s : State). s.present) step.new_is ∙ adjusted_is step.stroke.layer (published step.painter.job step.painter.shot key) way.layer old.present (tree_distinct old.present (present_tree old sound)) was;
       default_pixel = default-published step.painter.job step.painter.shot key way.layer;
       inside = λ p written hit. shows p ∙ taken (any_holds (writes step.painter.job) p && in_tile key p) _ _ (both_true _ _ written hit);
-      out_of_tile = λ p out. shows p ∙ kept (any_holds (writes step.painter.job) p && in_tile key p) _ _ (and_false (any_holds (writes step.painter.job) p) _ out);
+      out_of_tile = λ p out. shows p ∙ kept (any_holds (writes step.painter.job) p && in_tile key p) _ _ (and_none (any_holds (writes step.painter.job) p) _ out);
       out_of_writes = λ p out. shows p ∙ kept (any_holds (writes step.painter.job) p && in_tile key p) _ _ (ap (λ b. b && in_tile key p) out);
     }
       where
@@ -102,9 +103,6 @@ publish_stays_in_tile old new place key sound step = go (painting old place step
 
         shows : (p : Point) → at (published step.painter.job step.painter.shot key way.layer) p ≡ cond (any_holds (writes step.painter.job) p && in_tile key p) (at (apply step.painter.job step.painter.shot) p) (at way.layer p)
         shows p = at-published step.painter.job step.painter.shot key way.layer p
-
-        and_false : (a b : Bool) → b ≡ false → (a && b) ≡ false
-        and_false a b e = grind arith
 
 pub cancel_puts_back : CancelPutsBack
 cancel_puts_back old new step = record {

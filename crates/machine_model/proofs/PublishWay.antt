@@ -1,4 +1,5 @@
 -- A job that publishes a tile keeps what holds of the stroke under way. Of jobs only their laws are used.
+use Rattle.machine_model.proofs.Choices.{same_and}
 use Rattle.std.proofs.Common.{◌≡◌, ℕ, suc, ◌<◌, Bool, true, false, ◌&&◌, ◌||◌, cond, List, ◌∷◌, Some, refl, sym, ap, ◌∙◌, arith, eqb, subst}
 use Rattle.std.specs.Prelude.{slice_get, slice_set}
 use Rattle.std.proofs.lemmas.Bool.Decides.{nat_tests}
@@ -22,9 +23,9 @@ use Rattle.machine_model.specs.Guards.{kept_jobs}
 use Rattle.machine_model.specs.Step.{PublishStep}
 use Rattle.machine_model.specs.UnderWay.{after_jobs, writes_at, shown, Once, SlotIsStarted, ShotIsRight, PixelsAre, UnderWay, both_uni}
 use Rattle.machine_model.proofs.Lists.{all_set, all_get}
-use Rattle.machine_model.proofs.Painters.{painter_found, painter-set, once-set, runs-set, runs_found}
-use Rattle.machine_model.proofs.Shown.{after_suc, shown_last, shown_same}
-use Rattle.machine_model.proofs.Apart.{later_apart}
+use Rattle.machine_model.proofs.SlotPainters.{painter_found, painter-set, once-set, runs-set, runs_found}
+use Rattle.machine_model.proofs.ShownPixels.{after_suc, shown_last, shown_same}
+use Rattle.machine_model.proofs.RunsApart.{later_apart}
 
 -- the writes of the job with an index
 writes_there : (jobs : Jobs) (i : ℕ) (k : Kind) (job : Job) → slice_get jobs i ≡ Some (k, job) → writes_at jobs i ≡ writes job
@@ -37,10 +38,6 @@ value_on_shot jobs layer w k p e shot h =
     ap (λ l. at (apply w.job l) p) shot
     ∙ laws_of_jobs.inside w.job _ _ p (shot_same (reads w.job) (after_jobs jobs layer w.index)) h
     ∙ ap (λ l. at l p) (sym (after_suc jobs layer w.index (k, w.job) e))
-
-same_and : (a b c : Bool) → (a ≡ true → b ≡ c) → (a && b) ≡ (a && c)
-same_and true b c e = e refl
-same_and false b c e = refl
 
 not_this : (a t : Bool) (rest : Bool) → (a && t) ≡ false → a ≡ true → (t || rest) ≡ rest
 not_this true true rest e h = cc

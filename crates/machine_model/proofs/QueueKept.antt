@@ -16,7 +16,7 @@ use Rattle.machine_model.specs.Groups.{path_of, on}
 use Rattle.machine_model.specs.UpdateLaws.{IsPlace, is_queued, QueueKeepsPlaces, RefreshKeepsPlaces, QueuedStays, AddedIsQueued, RefreshStays, RefreshedIsQueued}
 use Rattle.machine_model.proofs.CanvasPoints.{canvas_grid}
 use Rattle.machine_model.proofs.Covers.{patches_are}
-use Rattle.machine_model.proofs.Walkways.{path_all}
+use Rattle.machine_model.proofs.WalkPaths.{path_all}
 
 pub queue_keeps_places : QueueKeepsPlaces
 queue_keeps_places canvas patches walk rect queue = queued_right canvas patches walk rect queue

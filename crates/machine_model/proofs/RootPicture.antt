@@ -1,5 +1,7 @@
 -- Where nothing covers the root, its cache is the picture.
-use Rattle.std.proofs.Common.{◌≡◌, ℕ, Bool, true, false, ◌&&◌, ◌||◌, cond, List, [], ◌∷◌, None, refl, sym, ap, ◌∙◌, arith, eqb, inl, inr}
+use Rattle.machine_model.proofs.Choices.{same_laid}
+use Rattle.geom_core.proofs.Tests.{kept}
+use Rattle.std.proofs.Common.{◌≡◌, ℕ, Bool, true, false, ◌&&◌, ◌||◌, List, [], ◌∷◌, refl, sym, ap, ◌∙◌, arith, eqb, inl, inr}
 use Rattle.std.specs.Ordering.{nat_cmp}
 use Rattle.std.specs.FinMap.{FinMap}
 use Rattle.std.specs.List.{list_any, AllByRecursion}
@@ -7,45 +9,36 @@ use Rattle.std.proofs.lemmas.Bool.Decides.{nat_tests}
 use Rattle.pixel_core.specs.Rgba.{Rgba, clear}
 use Rattle.geom_core.specs.Points.{Point}
 use Rattle.geom_core.specs.Areas.{holds, any_holds}
-use Rattle.doc_model.specs.declared.tree.Look.{Look}
 use Rattle.doc_model.specs.declared.canvas.Walk.TheVariants.{Up}
 use Rattle.doc_model.specs.declared.canvas.Patch.{Patch}
 use Rattle.doc_model.specs.Layers.{Layer, at}
 use Rattle.doc_model.specs.Jobs.{writes}
 use Rattle.doc_model.specs.Forest.{none, paint, group, has, is_group}
-use Rattle.doc_model.specs.Picture.{Doc, laid, picture, canvas_area}
-use Rattle.doc_model.specs.Picture.{with_look}
+use Rattle.doc_model.specs.Picture.{Doc, laid}
 use Rattle.doc_model.proofs.Parents.{Distinct}
 use Rattle.doc_model.proofs.Weights.{IsTree, tree_distinct, tree_root}
 use Rattle.doc_model.proofs.QueueLaws.{queued_for}
-use Rattle.doc_model.proofs.Paths.{KidsIn, or_cases, or_left, or_right, kids_rest, kids_nodes, kids_other, kids_here}
+use Rattle.doc_model.proofs.Paths.{KidsIn, kids_rest, kids_nodes, kids_other, kids_here}
+use Rattle.geom_core.proofs.Tests.{or_cases, or_left, or_right}
 use Rattle.machine_model.specs.State.{Slot, Free, Paints, Walks, State, head_stroke}
 use Rattle.machine_model.specs.Groups.{cache, with_pixels, nodes_in, children_of, path_of, on, folded, covered, painted_group}
 use Rattle.machine_model.specs.Slots.{is_painter, is_walker}
 use Rattle.machine_model.specs.Slots.{no_painter, no_walker}
-use Rattle.machine_model.specs.Sound.{IsSound}
 use Rattle.machine_model.specs.Walking.{WalkStands}
-use Rattle.machine_model.specs.UnderWay.{AtRest}
-use Rattle.machine_model.proofs.Walkways.{grouped, path_root}
+use Rattle.machine_model.proofs.WalkPaths.{grouped, path_root}
 use Rattle.machine_model.proofs.Covers.{groups_of, slot_on, anyone, up_of, covered_is}
-use Rattle.machine_model.proofs.CachesKeep.{both_true, and_left, and_right, either_covers, not_true}
-use Rattle.machine_model.proofs.ActCaches.{at_rest}
-use Rattle.machine_model.proofs.Trees.{present_tree}
+use Rattle.machine_model.proofs.JobCaches.{either_covers}
+use Rattle.geom_core.proofs.Tests.{both_true, and_left, and_right, not_true}
+use Rattle.machine_model.proofs.StateTrees.{present_tree}
 use Rattle.machine_model.specs.PictureLaws.{CleanIsPicture}
-
-kept : {B : Type 0} (b : Bool) (x y : B) → b ≡ false → cond b x y ≡ y
-kept b x y e = rw e refl
-
-same_laid : (look : Look) {x y b c : Rgba} → x ≡ y → b ≡ c → with_look look x b ≡ with_look look y c
-same_laid look q r i = with_look look (q i) (r i)
 
 -- where each cache is the fold of the children, the fold is the picture
 folded_laid : (caches : FinMap nat_cmp Layer) (kids : ℕ → Doc) (f : Doc) (p : Point) (b c : Rgba) → b ≡ c → Distinct f → KidsIn kids f → ((g : ℕ) → is_group g f ≡ true → at (cache caches g) p ≡ folded (with_pixels caches (kids g)) p clear)
     → folded (with_pixels caches f) p b ≡ laid f p c
 folded_laid caches kids none p b c e d k fold = e
-folded_laid caches kids (paint id look x rest) p b c e d k fold = folded_laid caches kids rest p _ _ (same_laid look refl e) d.1 (kids_rest kids id look x rest d.0 k) (λ g h. fold g h)
+folded_laid caches kids (paint id look x rest) p b c e d k fold = folded_laid caches kids rest p _ _ (same_laid (λ _. look) refl e) d.1 (kids_rest kids id look x rest d.0 k) (λ g h. fold g h)
 folded_laid caches kids (group id look nodes rest) p b c e d k fold =
-    folded_laid caches kids rest p _ _ (same_laid look (here (folded_laid caches kids nodes p clear clear refl d.3 (kids_nodes kids id look nodes rest d k) (λ g h. fold g (or_right (eqb g id) _ (or_left (is_group g nodes) _ h))))) e)
+    folded_laid caches kids rest p _ _ (same_laid (λ _. look) (here (folded_laid caches kids nodes p clear clear refl d.3 (kids_nodes kids id look nodes rest d k) (λ g h. fold g (or_right (eqb g id) _ (or_left (is_group g nodes) _ h))))) e)
     d.4 (kids_other kids id look nodes rest d k) (λ g h. fold g (or_right (eqb g id) _ (or_right (is_group g nodes) _ h)))
   where
     equal_test : (d : ℕ) → eqb d d ≡ true

@@ -1,5 +1,5 @@
 -- Jobs that may be at work side by side commute.
-use Rattle.std.proofs.Common.{◌≡◌, false, ap, sym, ◌∙◌}
+use Rattle.std.proofs.Common.{◌≡◌, false}
 use Rattle.geom_core.proofs.Tests.{none_left, none_right}
 use Rattle.doc_model.specs.declared.job.Job.{Job}
 use Rattle.doc_model.specs.declared.job.Kind.{Kind}
@@ -11,7 +11,7 @@ use Rattle.doc_model.proofs.Commuting.{jobs_commute, tiles_commute}
 use Rattle.machine_model.specs.UnderWay.{both_uni}
 use Rattle.machine_model.specs.CommutingLaws.{AreOfOneRun, RunCommutes, RunTilesCommute}
 use Rattle.machine_model.proofs.Lists.{length_above}
-use Rattle.machine_model.proofs.Apart.{no_disturb}
+use Rattle.machine_model.proofs.RunsApart.{no_disturb}
 
 -- neither writes what the other reads
 no_clash : (jobs : Jobs) (a b : Kind × Job) → AreOfOneRun jobs a b → disturb a.1 b.1 ≡ false

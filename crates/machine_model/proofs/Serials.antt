@@ -1,25 +1,24 @@
 -- How many serials are used.
-use Rattle.std.proofs.Common.{◌≡◌, ℕ, suc, zero, ◌+◌, ◌*◌, ◌≤◌, Bool, true, false, ◌&&◌, ◌||◌, cond, List, [], ◌∷◌, ◌++◌, Option, Some, None, length, take, drop, map, refl, sym, ap, ◌∙◌, arith, eqb, subst, ◌⊎◌, inl, inr, append_assoc, append-nil}
+use Rattle.std.proofs.Common.{◌≡◌, ℕ, suc, zero, ◌+◌, ◌*◌, ◌≤◌, Bool, true, false, cond, List, [], ◌∷◌, ◌++◌, Option, Some, None, length, take, drop, map, refl, sym, ap, ◌∙◌, arith, eqb, ◌⊎◌, inl, inr, append_assoc, append-nil}
 use Rattle.std.specs.List.{list_any}
 use Rattle.geom_core.proofs.Tests.{and_left, and_right, both_true, none_left, none_right, true_or_false}
 use Rattle.doc_model.specs.declared.job.Job.{Job}
 use Rattle.doc_model.specs.declared.job.Kind.{Kind}
 use Rattle.doc_model.specs.declared.command.Command.{Command}
 use Rattle.doc_model.specs.declared.command.Command.TheVariants as command
-use Rattle.doc_model.specs.Strokes.{Stroke, Fate, Ended, Cancelled, Entry, Strokes, Changes, Undoes, Redoes, Purges, Exports, with_job, with_fate, fed, entries}
+use Rattle.doc_model.specs.Strokes.{Fate, Ended, Cancelled, Entry, Strokes, Changes, Undoes, Redoes, Purges, Exports, with_job, with_fate, fed, entries}
 use Rattle.doc_model.specs.Lawful.{is_stroke, lawful_after, lawful, may_follow}
 use Rattle.doc_model.proofs.Feeding.{NumbersDiffer, Touches, with_job_touches, lawful_differ, entries_last}
 use Rattle.machine_model.specs.State.{State, Slot, Free, Paints, Walks, head, first}
 use Rattle.machine_model.specs.Guards.{kept_jobs}
-use Rattle.machine_model.specs.UnderWay.{UnderWay, IsOnWay}
+use Rattle.machine_model.specs.UnderWay.{IsOnWay}
 use Rattle.machine_model.specs.Counted.{jobs_in, painters, ended, ended_jobs}
-use Rattle.machine_model.specs.Sound.{IsOrderly}
 use Rattle.machine_model.specs.CountLaws.{SerialsAreFew, SerialsFit}
 use Rattle.machine_model.proofs.Lists.{length_map, length_last}
-use Rattle.machine_model.proofs.SlotsSet.{ended_few}
+use Rattle.machine_model.proofs.SlotChanges.{ended_few}
 use Rattle.machine_model.proofs.FeedKeeps.{head_is}
-use Rattle.machine_model.proofs.StoryKeeps.{take_one_more}
-use Rattle.machine_model.proofs.Leaving.{jobs_of, jobs_in_one, jobs_in_last, kept_few}
+use Rattle.machine_model.proofs.Stories.{take_one_more}
+use Rattle.machine_model.proofs.LeavingCounts.{jobs_of, jobs_in_one, jobs_in_last, kept_few}
 
 -- the number of entries and of their jobs
 abbrev total : List Entry → ℕ

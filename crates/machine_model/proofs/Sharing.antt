@@ -1,5 +1,5 @@
 -- Who may be at work beside whom.
-use Rattle.std.proofs.Common.{◌≡◌, ◌≢◌, ℕ, suc, zero, ◌-◌, ◌<◌, ◌≤◌, Bool, true, false, ◌&&◌, not, List, [], ◌∷◌, Option, Some, None, refl, sym, ap, ◌∙◌, arith, subst, inl, inr}
+use Rattle.std.proofs.Common.{◌≡◌, ◌≢◌, ℕ, suc, zero, ◌-◌, ◌<◌, Bool, true, false, ◌&&◌, List, [], ◌∷◌, Option, Some, None, refl, sym, ap, ◌∙◌, arith, inl, inr}
 use Rattle.std.specs.Prelude.{slice_get, nat_lt}
 use Rattle.std.specs.List.{list_all}
 use Rattle.std.proofs.lemmas.Bool.Decides.{nat_tests}
@@ -10,15 +10,15 @@ use Rattle.doc_model.specs.declared.job.Kind.{Kind}
 use Rattle.doc_model.specs.Strokes.{Jobs, Stroke, runs, runs_at, passes, one_run, is_uni}
 use Rattle.doc_model.proofs.Conflicts.{all_from_at}
 use Rattle.machine_model.specs.State.{Painter, Walker, Slot, Free, Paints, Walks, State}
-use Rattle.machine_model.specs.Slots.{painter_in, runs_in}
+use Rattle.machine_model.specs.Slots.{painter_in}
 use Rattle.machine_model.specs.Guards.{kept_jobs}
 use Rattle.machine_model.specs.UnderWay.{Once, SlotIsStarted, UnderWay, both_uni}
 use Rattle.machine_model.specs.Walking.{walks_apart, all_apart}
 use Rattle.machine_model.specs.GuardLaws.{RunsAs, MayShare, OnlyRunsShare, WalksNeverMeet}
 use Rattle.machine_model.proofs.Lists.{all_get, each_get}
-use Rattle.machine_model.proofs.Painters.{painter_found, runs_found}
-use Rattle.machine_model.proofs.PaintEvents.{painting}
-use Rattle.machine_model.proofs.SlotsSet.{meets_swapped}
+use Rattle.machine_model.proofs.SlotPainters.{painter_found, runs_found}
+use Rattle.machine_model.proofs.JobKeeps.{painting}
+use Rattle.machine_model.proofs.SlotChanges.{meets_swapped}
 
 once_rest : (slot : Slot) (slots : List Slot) → Once (slot ∷ slots) → Once slots
 once_rest Free slots once = once

@@ -1,4 +1,5 @@
 -- A job that starts keeps what holds of the stroke under way. Of jobs only their laws are used.
+use Rattle.machine_model.proofs.Choices.{and_none}
 use Rattle.std.proofs.Common.{◌≡◌, ◌≢◌, ℕ, suc, zero, ◌-◌, ◌<◌, ◌≤◌, Bool, true, false, ◌&&◌, cond, List, [], ◌∷◌, Option, Some, None, is_some, refl, sym, ap, ◌∙◌, arith, eqb, subst}
 use Rattle.std.specs.Prelude.{slice_get, slice_set}
 use Rattle.std.specs.Option.{unwrap_or}
@@ -26,9 +27,9 @@ use Rattle.machine_model.specs.Effects.{layer_in}
 use Rattle.machine_model.specs.Step.{StartStep}
 use Rattle.machine_model.specs.UnderWay.{writes_at, after_jobs, shown, SlotIsStarted, MayOverlap, ShotIsRight, UnderWay, both_uni}
 use Rattle.machine_model.proofs.Lists.{all_set, length_above}
-use Rattle.machine_model.proofs.Painters.{painter-filled, once-filled}
-use Rattle.machine_model.proofs.Shown.{shown_all, shown_same, default-after}
-use Rattle.machine_model.proofs.Apart.{earlier_apart}
+use Rattle.machine_model.proofs.SlotPainters.{painter-filled, once-filled}
+use Rattle.machine_model.proofs.ShownPixels.{shown_all, shown_same, default-after}
+use Rattle.machine_model.proofs.RunsApart.{earlier_apart}
 
 -- nothing of a job that wasn't started runs
 pub not_started : (jobs : Jobs) (n : ℕ) (slots : List Slot) → AllByRecursion (SlotIsStarted jobs n) slots → painter_in n slots ≡ None
@@ -150,12 +151,7 @@ way_after_start old new place n step begun way = subst (λ s. UnderWay s (suc n)
     done_new q = ap (λ o. is_done o q) (painters n ∙ taken (eqb step.next n) _ _ (grind (arith, nat_tests, same_next)))
 
     unpainted : (p : Point) → shown jobs way.base_layer (done slots') (suc n) p ≡ shown jobs way.base_layer (done slots') n p
-    unpainted p = kept (any_holds (writes_at jobs n) p && done slots' n (key_of p)) _ _ (and_false (any_holds (writes_at jobs n) p) _ (done_new (key_of p)))
-      where
-        and_false : (a b : Bool) → b ≡ false → (a && b) ≡ false
-        and_false true b e = e
-        and_false false b e = refl
-
+    unpainted p = kept (any_holds (writes_at jobs n) p && done slots' n (key_of p)) _ _ (and_none (any_holds (writes_at jobs n) p) _ (done_new (key_of p)))
     same_layer : layer_in step.stroke.layer old.present ≡ way.layer
     same_layer = ap (λ (t : Stroke). layer_in t.layer old.present) same_stroke
         ∙ ap (λ o. unwrap_or o (plain clear)) (ap (content way.stroke.layer) way.is ∙ content-with_content way.stroke.layer way.layer way.base_layer old.base way.was)

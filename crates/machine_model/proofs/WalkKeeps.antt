@@ -1,125 +1,163 @@
--- What a walk that ends leaves: the cache of each group on its path is the fold of the group's children, unless something else covers it.
-use Rattle.std.proofs.Common.{◌≡◌, ℕ, Bool, true, false, ◌||◌, cond, List, [], ◌∷◌, map, refl, sym, ap, ◌∙◌, arith, eqb}
-use Rattle.std.specs.List.{AllByRecursion}
-use Rattle.std.proofs.lemmas.Bool.Decides.{nat_tests}
-use Rattle.pixel_core.specs.Rgba.{Rgba, clear}
-use Rattle.geom_core.specs.Points.{Point}
-use Rattle.doc_model.specs.declared.tree.Look.{Look}
-use Rattle.doc_model.specs.Layers.{at}
-use Rattle.doc_model.specs.Picture.{with_look}
-use Rattle.machine_model.specs.State.{Child}
-use Rattle.machine_model.specs.Groups.{folded, on}
-use Rattle.machine_model.specs.Walks.{walk_values, walk_folded, value_in, looked_up}
-use Rattle.machine_model.specs.Walking.{SameChildren}
-use Rattle.machine_model.specs.Caches.{SamePixels}
+-- A walk that starts, publishes or ends keeps the machine orderly.
+use Rattle.std.proofs.Common.{◌≡◌, ℕ, suc, zero, ◌+◌, ◌*◌, ◌≤◌, Bool, true, false, not, List, [], ◌∷◌, Some, length, refl, sym, ap, ◌∙◌, arith, subst}
+use Rattle.std.specs.Prelude.{slice_get, slice_set}
+use Rattle.std.specs.List.{list_any, list_all, AllByRecursion}
+use Rattle.geom_core.proofs.Tests.{and_left, and_right, both_true, not_true}
+use Rattle.geom_core.specs.Areas.{Area}
+use Rattle.std.specs.FinMap as map
+use Rattle.doc_model.specs.Layers.{painted}
+use Rattle.doc_model.specs.Jobs.{in_tile}
+use Rattle.machine_model.specs.Walks.{walk_value}
+use Rattle.machine_model.specs.Groups.{cache}
+use Rattle.geom_core.specs.Grid.{Key}
+use Rattle.doc_model.specs.declared.canvas.Patch.{Patch}
+use Rattle.doc_model.specs.Picture.{canvas_area}
+use Rattle.doc_model.specs.Updates.{IsQueue, in_place, alike, all_unlike}
+use Rattle.machine_model.specs.State.{State, Free, Walks, Walker, head_stroke}
+use Rattle.machine_model.specs.Slots.{is_walker}
+use Rattle.machine_model.specs.Groups.{path_of}
+use Rattle.machine_model.specs.Guards.{is_exclusive}
+use Rattle.machine_model.specs.Walks.{walk_shot}
+use Rattle.machine_model.specs.Effects.{without_nth}
+use Rattle.machine_model.specs.Step.{WalkStartStep, WalkPublishStep, WalkEndStep}
+use Rattle.machine_model.specs.Walking.{IsGroupOf, WalkStands}
+use Rattle.machine_model.specs.Counted.{SerialBelow, PublishedOwn}
+use Rattle.machine_model.specs.Sound.{IsOrderly}
+use Rattle.machine_model.proofs.Lists.{all_set, all_get}
+use Rattle.machine_model.proofs.SlotChanges.{length_set, no_walkers_freed, nobody_walks, apart_set, apart_same, clear_unless_walks, clear_where_avoids, differ_set, differ_same, other_free, other_new, below_more}
+use Rattle.machine_model.proofs.WalksStand.{shape_same, all_stand, shot_groups, shot_children}
+use Rattle.machine_model.proofs.BesideStroke.{Beside, on_way_beside, same_count, same_ended}
 
--- the value of each child as the walk reads it is the child's pixel now
-abbrev Reads : List (ℕ × Rgba) → List Child → List Child → Point → Type 0
-Reads values [] [] p = Unit {0}
-Reads values (a ∷ xs) (b ∷ ys) p = (value_in values a p ≡ at b.pixels p) × Reads values xs ys p
-Reads values [] (b ∷ ys) p = ⊥
-Reads values (a ∷ xs) [] p = ⊥
+-- one item less
+all_less : {A : Type 0} (P : A → Type 0) (xs : List A) (i : ℕ) → AllByRecursion P xs → AllByRecursion P (without_nth xs i)
+all_less P [] zero h = tt
+all_less P [] (suc i) h = tt
+all_less P (x ∷ xs) zero h = h.1
+all_less P (x ∷ xs) (suc i) h = (h.0, all_less P xs i h.1)
 
-same_laid : {l m : Look} {x y b c : Rgba} → l ≡ m → x ≡ y → b ≡ c → with_look l x b ≡ with_look m y c
-same_laid p q r i = with_look (p i) (q i) (r i)
+each_less : {A : Type 0} (test : A → Bool) (xs : List A) (i : ℕ) → list_all test xs ≡ true → list_all test (without_nth xs i) ≡ true
+each_less test [] zero h = refl
+each_less test [] (suc i) h = refl
+each_less test (x ∷ xs) zero h = and_right (test x) _ h
+each_less test (x ∷ xs) (suc i) h = both_true _ _ (and_left (test x) _ h) (each_less test xs i (and_right (test x) _ h))
 
--- then the walk's fold is the fold of the children now
-pub walk_folded_now : (values : List (ℕ × Rgba)) (xs ys : List Child) (p : Point) (b c : Rgba) → SameChildren xs ys → Reads values xs ys p → b ≡ c → walk_folded values xs p b ≡ folded ys p c
-walk_folded_now values [] [] p b c same reads e = e
-walk_folded_now values (x ∷ xs) (y ∷ ys) p b c same reads e = walk_folded_now values xs ys p _ _ same.2 reads.1 (same_laid same.1 reads.0 e)
-walk_folded_now values [] (y ∷ ys) p b c same reads e = absurd same
-walk_folded_now values (x ∷ xs) [] p b c same reads e = absurd same
+unlike_less : (ps : List Patch) (i : ℕ) → all_unlike ps ≡ true → all_unlike (without_nth ps i) ≡ true
+unlike_less [] zero h = refl
+unlike_less [] (suc i) h = refl
+unlike_less (p ∷ ps) zero h = and_right (list_all (λ q. not (alike p q)) ps) _ h
+unlike_less (p ∷ ps) (suc i) h = both_true _ _ (each_less (λ q. not (alike p q)) ps i (and_left (list_all (λ q. not (alike p q)) ps) _ h)) (unlike_less ps i (and_right (list_all (λ q. not (alike p q)) ps) _ h))
 
--- values that the walk has computed so far are those in the caches
-abbrev Cached : (ℕ → Rgba) → List (ℕ × Rgba) → Type 0
-Cached caches [] = Unit {0}
-Cached caches (v ∷ vs) = (v.1 ≡ caches v.0) × Cached caches vs
+length_less : {A : Type 0} (xs : List A) (i : ℕ) (x : A) → slice_get xs i ≡ Some x → suc (length (without_nth xs i)) ≡ length xs
+length_less [] i x h = cc
+length_less (y ∷ xs) zero x h = refl
+length_less (y ∷ xs) (suc i) x h = ap suc (length_less xs i x h)
 
-abbrev keys_of_values : List (ℕ × Rgba) → List ℕ
-keys_of_values values = map (λ (v : ℕ × Rgba). v.0) values
+queue_less : (canvas : Area) (ps : List Patch) (i : ℕ) (p : Patch) → slice_get ps i ≡ Some p → IsQueue canvas ps → IsQueue canvas (without_nth ps i)
+queue_less canvas ps i p h q = record {
+  places = each_less (in_place canvas) ps i q.places;
+  unlike = unlike_less ps i q.unlike;
+  few = (let e : suc (length (without_nth ps i)) ≡ length ps = length_less ps i p h in let f : length ps ≤ 64 = q.few in omega arith);
+}
 
--- a child that was computed counts with its cache, every other one with the pixel that was read
-value_in_cached : (caches : ℕ → Rgba) (values : List (ℕ × Rgba)) (c : Child) (p : Point) → Cached caches values → value_in values c p ≡ cond (on c.id (keys_of_values values)) (caches c.id) (at c.pixels p)
-value_in_cached caches [] c p cached = refl
-value_in_cached caches (v ∷ vs) c p cached = go (value_in_cached caches vs c p cached.1) (eqb v.0 c.id) refl
+pub walk_start_keeps : (old new : State) (place : ℕ) (patch : Patch) → IsOrderly old → WalkStartStep old place patch new → IsOrderly new
+walk_start_keeps old new place patch sound step = subst IsOrderly (sym step.new_is) (record {
+  told = record { lawful = sound.told.lawful; closed = sound.told.closed; few = sound.told.few; means = sound.told.means };
+  reached = record { past = sound.reached.past; future = sound.reached.future };
+  on_way = on_way_beside old next old.way beside sound.on_way;
+  walking = record {
+    queue = queue_less (canvas_area old.canvas) old.updates step.i patch step.waits sound.walking.queue;
+    apart = apart_set old.slots place (Walks walker) (clear_where_avoids walker old.slots step.avoids) sound.walking.apart;
+    groups = all_less (λ (p : Patch). IsGroupOf old.present p.walk) old.updates step.i sound.walking.groups;
+    walks = all_set (WalkStands next) old.slots place (Walks walker) (all_stand old next (shape_same old next refl) old.slots sound.walking.walks)
+        (all_get (λ (p : Patch). IsGroupOf old.present p.walk) old.updates step.i patch sound.walking.groups step.waits, shot_groups old patch.rect (path_of patch.walk old.present), shot_children old patch.rect (path_of patch.walk old.present));
+    alone = λ e. (let f : is_exclusive (head_stroke old) old.way ≡ false = step.not_exclusive in cc);
+  };
+  counted = record {
+    canvas = sound.counted.canvas;
+    slots = subst (λ n. (1 ≤ n) × (n ≤ 17)) (sym (length_set old.slots place (Walks walker))) sound.counted.slots;
+    below = all_set (SerialBelow (suc old.next)) old.slots place (Walks walker) (below_more old.next old.slots sound.counted.below) (omega arith);
+    differ = differ_set old.slots place (Walks walker) (other_new old.next (Walks walker) old.slots refl sound.counted.below) sound.counted.differ;
+    own = all_set PublishedOwn old.slots place (Walks walker) sound.counted.own (refl, tt);
+    budget = (let e : suc (length (without_nth old.updates step.i)) ≡ length old.updates = length_less old.updates step.i patch step.waits in budget old.next (length old.updates) _ _ _ _ _ _ e sound.counted.budget (same_ended old next old.way beside) (same_count old next beside));
+  };
+})
   where
-    go : value_in vs c p ≡ cond (on c.id (keys_of_values vs)) (caches c.id) (at c.pixels p) → (b : Bool) → eqb v.0 c.id ≡ b → cond b v.1 (value_in vs c p) ≡ cond (b || on c.id (keys_of_values vs)) (caches c.id) (at c.pixels p)
-    go rest true e = let same : v.0 ≡ c.id = grind (arith, nat_tests) in cached.0 ∙ ap caches same
-    go rest false e = rest
+    walker : Walker
+    walker = record { serial = old.next; patch = patch; shot = walk_shot old patch; published = [] }
 
-abbrev groups_of : List (ℕ × List Child) → List ℕ
-groups_of shots = map (λ (e : ℕ × List Child). e.0) shots
+    next : State
+    next = record old { updates = without_nth old.updates step.i; next = suc old.next; slots = slice_set old.slots place (Walks walker) }
 
--- a child that the walk composes was composed before its group
-abbrev pub ComposedBefore : List ℕ → List ℕ → List Child → Type 0
-ComposedBefore path before [] = Unit {0}
-ComposedBefore path before (c ∷ cs) = (on c.id before ≡ on c.id path) × ComposedBefore path before cs
+    beside : Beside old next
+    beside = record { head = refl; base = refl; present = refl; place = place; was = Free; now = Walks walker; stood = step.free; slots = refl; idle = refl; idle_now = refl }
 
-abbrev pub Ordered : List ℕ → List ℕ → List (ℕ × List Child) → Type 0
-Ordered path before [] = Unit {0}
-Ordered path before (e ∷ more) = ComposedBefore path before e.1 × Ordered path (e.0 ∷ before) more
+    budget : (n l m j e e' p p' : ℕ) → suc m ≡ l → n + l ≤ ((65 * j + 65 * e) + p) + 64 * length old.outcomes → e' ≡ e → p' ≡ p → suc n + m ≤ ((65 * j + 65 * e') + p') + 64 * length old.outcomes
+    budget n l m j e e' p p' h b f g = omega arith
 
--- no group stands twice
-abbrev pub Distinct : List (ℕ × List Child) → Type 0
-Distinct [] = Unit {0}
-Distinct (e ∷ more) = (on e.0 (groups_of more) ≡ false) × Distinct more
-
--- a child on the path is a group, whose pixels are its cache
-abbrev pub OnPathCached : List ℕ → (ℕ → Rgba) → List Child → Point → Type 0
-OnPathCached path caches [] p = Unit {0}
-OnPathCached path caches (c ∷ cs) p = (on c.id path ≡ true → caches c.id ≡ at c.pixels p) × OnPathCached path caches cs p
-
--- what is computed later changes no value of another group
-looked_up_later : (shots : List (ℕ × List Child)) (values : List (ℕ × Rgba)) (g : ℕ) (p : Point) → on g (groups_of shots) ≡ false → looked_up (walk_values shots values p) g ≡ looked_up values g
-looked_up_later [] values g p out = refl
-looked_up_later (e ∷ more) values g p out =
-    looked_up_later more ((e.0, walk_folded values e.1 p clear) ∷ values) g p (or_false' (eqb e.0 g) _ out)
-    ∙ kept (eqb e.0 g) _ _ (or_false (eqb e.0 g) _ out)
+pub walk_publish_keeps : (old new : State) (place g : ℕ) (key : Key) → IsOrderly old → WalkPublishStep old place g key new → IsOrderly new
+walk_publish_keeps old new place g key sound step = subst IsOrderly (sym step.new_is) (record {
+  told = record { lawful = sound.told.lawful; closed = sound.told.closed; few = sound.told.few; means = sound.told.means };
+  reached = record { past = sound.reached.past; future = sound.reached.future };
+  on_way = on_way_beside old next old.way beside sound.on_way;
+  walking = record {
+    queue = sound.walking.queue;
+    apart = apart_same old.slots place step.walker walker step.runs refl ∙ sound.walking.apart;
+    groups = sound.walking.groups;
+    walks = all_set (WalkStands next) old.slots place (Walks walker) (all_stand old next (shape_same old next refl) old.slots sound.walking.walks) here;
+    alone = λ e. absurd (nobody_walks old.slots place step.walker (not_true (list_any is_walker old.slots) (sound.walking.alone e)) step.runs);
+  };
+  counted = record {
+    canvas = sound.counted.canvas;
+    slots = subst (λ n. (1 ≤ n) × (n ≤ 17)) (sym (length_set old.slots place (Walks walker))) sound.counted.slots;
+    below = all_set (SerialBelow old.next) old.slots place (Walks walker) sound.counted.below (all_get (SerialBelow old.next) old.slots place (Walks step.walker) sound.counted.below step.runs);
+    differ = differ_same old.slots place (Walks step.walker) (Walks walker) step.runs refl sound.counted.differ;
+    own = all_set PublishedOwn old.slots place (Walks walker) sound.counted.own (both_true _ _ (ap not step.fresh) own.0, ((step.on_path, step.in_patch), own.1));
+    budget = rw (same_ended old next old.way beside, same_count old next beside) sound.counted.budget;
+  };
+})
   where
-    or_false : (a b : Bool) → (a || b) ≡ false → a ≡ false
-    or_false a b h = grind arith
+    walker : Walker
+    walker = record step.walker { published = (g, key) ∷ step.walker.published }
 
-    or_false' : (a b : Bool) → (a || b) ≡ false → b ≡ false
-    or_false' true b h = cc
-    or_false' false b h = h
+    next : State
+    next = record old {
+      caches = map.insert old.caches g (painted (step.walker.patch.rect ∷ []) (in_tile key) (walk_value step.walker.shot g) (cache old.caches g));
+      slots = slice_set old.slots place (Walks walker);
+    }
 
-    kept : {B : Type 0} (b : Bool) (x y : B) → b ≡ false → cond b x y ≡ y
-    kept b x y h = rw h refl
+    beside : Beside old next
+    beside = record { head = refl; base = refl; present = refl; place = place; was = Walks step.walker; now = Walks walker; stood = step.runs; slots = refl; idle = refl; idle_now = refl }
 
-looked_up_here : (values : List (ℕ × Rgba)) (g : ℕ) (v : Rgba) → looked_up ((g, v) ∷ values) g ≡ v
-looked_up_here values g v = taken (eqb g g) _ _ (grind (arith, nat_tests))
+    own : PublishedOwn (Walks step.walker)
+    own = all_get PublishedOwn old.slots place (Walks step.walker) sound.counted.own step.runs
+
+    here : WalkStands next (Walks walker)
+    here = all_get (WalkStands next) old.slots place (Walks step.walker) (all_stand old next (shape_same old next refl) old.slots sound.walking.walks) step.runs
+
+pub walk_end_keeps : (old new : State) (place : ℕ) → IsOrderly old → WalkEndStep old place new → IsOrderly new
+walk_end_keeps old new place sound step = subst IsOrderly (sym step.new_is) (record {
+  told = record { lawful = sound.told.lawful; closed = sound.told.closed; few = sound.told.few; means = sound.told.means };
+  reached = record { past = sound.reached.past; future = sound.reached.future };
+  on_way = on_way_beside old next old.way beside sound.on_way;
+  walking = record {
+    queue = sound.walking.queue;
+    apart = apart_set old.slots place Free (clear_unless_walks Free old.slots refl) sound.walking.apart;
+    groups = sound.walking.groups;
+    walks = all_set (WalkStands next) old.slots place Free (all_stand old next (shape_same old next refl) old.slots sound.walking.walks) tt;
+    alone = λ e. ap not (no_walkers_freed old.slots place (not_true (list_any is_walker old.slots) (sound.walking.alone e)));
+  };
+  counted = record {
+    canvas = sound.counted.canvas;
+    slots = subst (λ n. (1 ≤ n) × (n ≤ 17)) (sym (length_set old.slots place Free)) sound.counted.slots;
+    below = all_set (SerialBelow old.next) old.slots place Free sound.counted.below tt;
+    differ = differ_set old.slots place Free (other_free old.slots) sound.counted.differ;
+    own = all_set PublishedOwn old.slots place Free sound.counted.own tt;
+    budget = rw (same_ended old next old.way beside, same_count old next beside) sound.counted.budget;
+  };
+})
   where
-    taken : {B : Type 0} (b : Bool) (x y : B) → b ≡ true → cond b x y ≡ x
-    taken b x y h = rw h refl
+    next : State
+    next = record old { slots = slice_set old.slots place Free }
 
-either_way : (b : Bool) (x y z : Rgba) → (b ≡ true → x ≡ z) → (b ≡ false → y ≡ z) → cond b x y ≡ z
-either_way true x y z e h = e refl
-either_way false x y z e h = h refl
-
-reads_now : (path : List ℕ) (caches : ℕ → Rgba) (values : List (ℕ × Rgba)) (xs ys : List Child) (p : Point) → Cached caches values → ComposedBefore path (keys_of_values values) xs → SameChildren xs ys → OnPathCached path caches ys p → SamePixels path xs ys p → Reads values xs ys p
-reads_now path caches values [] [] p cached before same groups pixels = tt
-reads_now path caches values (x ∷ xs) (y ∷ ys) p cached before same groups pixels = (
-  value_in_cached caches values x p cached
-      ∙ either_way (on x.id (keys_of_values values)) _ _ _
-      (λ e. ap caches same.0 ∙ groups.0 (ap (λ i. on i path) (sym same.0) ∙ sym before.0 ∙ e))
-      (λ e. pixels.0 (sym before.0 ∙ e)),
-  reads_now path caches values xs ys p cached before.1 same.2 groups.1 pixels.1,
-)
-reads_now path caches values [] (y ∷ ys) p cached before same groups pixels = absurd same
-reads_now path caches values (x ∷ xs) [] p cached before same groups pixels = absurd same
-
--- where a walk has published all, the cache of each group whose other children haven't changed since is the fold of its children
-pub walk_settles : (caches : ℕ → Rgba) (kids : ℕ → List Child) (path : List ℕ) (p : Point) (shots : List (ℕ × List Child)) (values : List (ℕ × Rgba))
-    → Cached caches values → Ordered path (keys_of_values values) shots → Distinct shots
-    → AllByRecursion (λ (e : ℕ × List Child). SameChildren e.1 (kids e.0)) shots
-    → AllByRecursion (λ (e : ℕ × List Child). OnPathCached path caches (kids e.0) p) shots
-    → AllByRecursion (λ (e : ℕ × List Child). caches e.0 ≡ looked_up (walk_values shots values p) e.0) shots
-    → AllByRecursion (λ (e : ℕ × List Child). SamePixels path e.1 (kids e.0) p → caches e.0 ≡ folded (kids e.0) p clear) shots
-walk_settles caches kids path p [] values cached ordered distinct same groups published = tt
-walk_settles caches kids path p (e ∷ more) values cached ordered distinct same groups published = (
-  (λ pixels. here ∙ walk_folded_now values e.1 (kids e.0) p clear clear same.0 (reads_now path caches values e.1 (kids e.0) p cached ordered.0 same.0 groups.0 pixels) refl),
-  walk_settles caches kids path p more ((e.0, walk_folded values e.1 p clear) ∷ values) (sym here, cached) ordered.1 distinct.1 same.1 groups.1 published.1,
-)
-  where
-    here : caches e.0 ≡ walk_folded values e.1 p clear
-    here = published.0 ∙ looked_up_later more ((e.0, walk_folded values e.1 p clear) ∷ values) e.0 p distinct.0 ∙ looked_up_here values e.0 (walk_folded values e.1 p clear)
+    beside : Beside old next
+    beside = record { head = refl; base = refl; present = refl; place = place; was = Walks step.walker; now = Free; stood = step.runs; slots = refl; idle = refl; idle_now = refl }

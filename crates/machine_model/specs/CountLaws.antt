@@ -1,5 +1,5 @@
 -- How many serials are used.
-use Rattle.std.specs.Prelude.{ℕ, ◌+◌, ◌*◌, ◌^◌, ◌<◌, ◌≤◌, length}
+use Rattle.std.specs.Prelude.{◌+◌, ◌*◌, ◌^◌, ◌<◌, ◌≤◌, length}
 use Rattle.machine_model.specs.State.{State}
 use Rattle.machine_model.specs.Sound.{IsOrderly}
 

@@ -1,5 +1,5 @@
 -- Who is never at work beside whom, and what the events leave alone.
-use Rattle.std.specs.Prelude.{◌≡◌, ◌≢◌, ℕ, suc, Bool, true, false, ◌&&◌, Some, None, List, [], ◌∷◌, ◌++◌, slice_get}
+use Rattle.std.specs.Prelude.{◌≡◌, ◌≢◌, ℕ, suc, true, false, ◌&&◌, Some, None, [], ◌∷◌, ◌++◌, slice_get}
 use Rattle.geom_core.specs.Points.{Point}
 use Rattle.geom_core.specs.Areas.{any_holds, meets}
 use Rattle.geom_core.specs.Grid.{Key}

@@ -1,4 +1,4 @@
-use Rattle.machine_model.proofs.Frames.{export_is_frame}
+use Rattle.machine_model.proofs.ExportedFrames.{export_is_frame}
 use Rattle.machine_model.proofs.pictures.export_is_frame.Goals as goal
 
 pub returns : goal.returns

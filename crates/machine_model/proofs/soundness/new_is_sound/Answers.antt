@@ -1,4 +1,4 @@
-use Rattle.machine_model.proofs.SoundKeeps.{new_sound}
+use Rattle.machine_model.proofs.RunsSound.{new_sound}
 use Rattle.machine_model.proofs.soundness.new_is_sound.Goals as goal
 
 pub returns : goal.returns

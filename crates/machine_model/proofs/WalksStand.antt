@@ -1,5 +1,6 @@
 -- Walks at work still stand where groups, paths and children are as they were.
-use Rattle.std.proofs.Common.{◌≡◌, ℕ, false, ◌||◌, cond, List, [], ◌∷◌, ◌++◌, map, refl, sym, ap, ◌∙◌, eqb, subst}
+use Rattle.machine_model.proofs.WalkPaths.{path_of_with}
+use Rattle.std.proofs.Common.{◌≡◌, ℕ, false, ◌||◌, List, [], ◌∷◌, map, refl, sym, ap, ◌∙◌, eqb, subst}
 use Rattle.std.specs.Ordering.{nat_cmp}
 use Rattle.std.specs.FinMap.{FinMap}
 use Rattle.std.specs.List.{AllByRecursion}
@@ -10,12 +11,12 @@ use Rattle.doc_model.specs.declared.canvas.Patch.{Patch}
 use Rattle.doc_model.specs.Layers.{Layer}
 use Rattle.doc_model.specs.Forest.{none, paint, group, with_content}
 use Rattle.doc_model.specs.Picture.{Doc}
-use Rattle.doc_model.proofs.Shapes.{is_group_with, order_with, path_with}
+use Rattle.doc_model.proofs.Shapes.{is_group_with}
 use Rattle.machine_model.specs.State.{Child, Slot, Free, Paints, Walks, State}
 use Rattle.machine_model.specs.Groups.{with_pixels, nodes_in, children_of, path_of}
 use Rattle.machine_model.specs.Walks.{cut_child, shots_of}
 use Rattle.machine_model.specs.Walking.{IsGroupOf, SameChildren, WalkStands}
-use Rattle.machine_model.proofs.Children.{nodes_with}
+use Rattle.machine_model.proofs.GroupChildren.{nodes_with}
 use Rattle.machine_model.proofs.Lists.{all_map}
 
 -- other caches
@@ -35,10 +36,6 @@ like_with c d q a b [] (paint id look y rest) h = absurd h
 like_with c d q a b (x ∷ xs) (paint id look y rest) h = (h.0, h.1, like_with c d q a b xs rest h.2)
 like_with c d q a b [] (group id look nodes rest) h = absurd h
 like_with c d q a b (x ∷ xs) (group id look nodes rest) h = (h.0, h.1, like_with c d q a b xs rest h.2)
-
-path_of_with : (w : Walk) (q : ℕ) (x : Layer) (doc : Doc) → path_of w (with_content q x doc) ≡ path_of w doc
-path_of_with (Up g) q x doc = ap (λ gs. cond (eqb g 0) (0 ∷ []) (gs ++ 0 ∷ [])) (path_with g q x doc)
-path_of_with All q x doc = ap (λ gs. gs ++ 0 ∷ []) (order_with q x doc)
 
 -- groups, paths and children are those that were there
 pub record SameShape (s t : State) : Type 0 where

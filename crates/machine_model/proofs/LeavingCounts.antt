@@ -6,7 +6,7 @@ use Rattle.doc_model.specs.Strokes as strokes
 use Rattle.machine_model.specs.State.{State, head}
 use Rattle.machine_model.specs.Counted.{jobs_in}
 use Rattle.machine_model.proofs.Lists.{length_last}
-use Rattle.machine_model.proofs.StoryKeeps.{take_one_more}
+use Rattle.machine_model.proofs.Stories.{take_one_more}
 
 -- the number of jobs of one entry
 abbrev pub jobs_of : Entry → ℕ

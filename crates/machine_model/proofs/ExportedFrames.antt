@@ -1,15 +1,12 @@
 -- The frame that an export takes from the root's cache is that of the document.
-use Rattle.std.proofs.Common.{◌≡◌, ℕ, true, false, List, [], ◌∷◌, ◌++◌, Some, sym, ap, ◌∙◌, refl}
+use Rattle.std.proofs.Common.{◌≡◌, [], ◌∷◌, ◌++◌, Some, sym, ap, ◌∙◌}
 use Rattle.pixel_core.specs.Compose.{on_paper}
-use Rattle.geom_core.specs.Points.{Point}
-use Rattle.geom_core.specs.Areas.{holds}
-use Rattle.doc_model.specs.Strokes.{Entry, Exports}
+use Rattle.doc_model.specs.Strokes.{Exports}
 use Rattle.doc_model.specs.Layers.{at}
 use Rattle.doc_model.specs.Picture.{picture, frame, canvas_area}
-use Rattle.machine_model.specs.State.{State, head}
+use Rattle.machine_model.specs.State.{State}
 use Rattle.machine_model.specs.Groups.{cache}
 use Rattle.machine_model.specs.Effects.{acts}
-use Rattle.machine_model.specs.Sound.{IsSound}
 use Rattle.machine_model.specs.PictureLaws.{CachesAreFolds, CleanIsFrame, ExportIsFrame, IsClean, cached_frame}
 use Rattle.machine_model.specs.UnderWay.{AtRest}
 use Rattle.machine_model.proofs.ActCaches.{at_rest}

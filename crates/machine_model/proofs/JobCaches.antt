@@ -1,5 +1,7 @@
 -- The events that change no pixel and no cache keep parts 7 and 8.
-use Rattle.std.proofs.Common.{◌≡◌, ℕ, Bool, true, false, ◌&&◌, ◌||◌, not, List, [], ◌∷◌, Option, Some, None, refl, sym, ap, ◌∙◌, arith, subst, inl, inr}
+use Rattle.machine_model.proofs.Choices.{and-false}
+use Rattle.geom_core.proofs.Tests.{and_left, and_right, not_true}
+use Rattle.std.proofs.Common.{◌≡◌, ℕ, Bool, true, false, ◌&&◌, ◌||◌, List, [], ◌∷◌, Option, Some, None, refl, sym, ap, ◌∙◌, subst, inl, inr}
 use Rattle.std.specs.Prelude.{slice_get, slice_set}
 use Rattle.std.specs.List.{list_any, AllByRecursion}
 use Rattle.geom_core.specs.Points.{Point}
@@ -14,7 +16,7 @@ use Rattle.doc_model.specs.Strokes.{Stroke}
 use Rattle.doc_model.specs.Updates.{queued}
 use Rattle.doc_model.proofs.QueueLaws.{queued_for, in_grid}
 use Rattle.doc_model.proofs.QueueWhole.{queued_stays, queued_takes}
-use Rattle.doc_model.proofs.Paths.{or_cases, or_left, or_right}
+use Rattle.geom_core.proofs.Tests.{or_cases, or_left, or_right}
 use Rattle.machine_model.specs.State.{Painter, Slot, Free, Paints, Walks, State, head_stroke}
 use Rattle.geom_core.proofs.Tests.{is_some-None}
 use Rattle.machine_model.specs.Guards.{is_paint}
@@ -27,26 +29,9 @@ use Rattle.machine_model.specs.Caches.{CachesFold, WalkIsRight}
 use Rattle.machine_model.specs.Walking.{WalkStands, IsGroupOf}
 use Rattle.machine_model.specs.UnderWay.{IsOnWay, UnderWay}
 use Rattle.machine_model.proofs.Lists.{all_set}
-use Rattle.machine_model.proofs.Walkways.{grouped, path_all}
+use Rattle.machine_model.proofs.WalkPaths.{grouped, path_all}
 use Rattle.machine_model.proofs.Covers.{groups_of, slot_on, anyone, cov, up_of, IsFold, IsRead, caches_by, walks_by, fold_covers, read_covers, any_set_grow, any_set_or}
 use Rattle.machine_model.specs.Walking.{WalkInside}
-
-and-false : (b : Bool) → (b && false) ≡ false
-and-false true = refl
-and-false false = refl
-
-pub and_left : (a b : Bool) → (a && b) ≡ true → a ≡ true
-and_left a b e = grind arith
-
-pub and_right : (a b : Bool) → (a && b) ≡ true → b ≡ true
-and_right a b e = grind arith
-
-pub both_true : (a b : Bool) → a ≡ true → b ≡ true → (a && b) ≡ true
-both_true a b e h = rw (e, h) refl
-
-pub not_true : (b : Bool) → not b ≡ true → b ≡ false
-not_true true e = sym e
-not_true false e = refl
 
 pub either_covers : (a b : Bool) (c : Bool) → (a ≡ true → c ≡ true) → (b ≡ true → c ≡ true) → (a || b) ≡ true → c ≡ true
 either_covers a b c f g h = elim (or_cases a b h) [ inl e ↦ f e | inr e ↦ g e ]

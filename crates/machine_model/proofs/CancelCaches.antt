@@ -1,5 +1,7 @@
 -- Cancel and the acts of other entries keep parts 7 and 8.
-use Rattle.std.proofs.Common.{◌≡◌, ℕ, suc, zero, ◌<◌, Bool, true, false, ◌&&◌, ◌||◌, cond, List, [], ◌∷◌, Option, Some, None, refl, sym, ap, ◌∙◌, arith, subst, ◌⊎◌, inl, inr, take}
+use Rattle.machine_model.proofs.Choices.{none_and}
+use Rattle.geom_core.proofs.Tests.{kept}
+use Rattle.std.proofs.Common.{◌≡◌, ℕ, suc, zero, ◌<◌, Bool, true, false, ◌&&◌, ◌||◌, List, [], ◌∷◌, Option, Some, None, refl, sym, ap, ◌∙◌, arith, subst, ◌⊎◌, inl, inr, take}
 use Rattle.std.specs.Ordering.{nat_cmp}
 use Rattle.std.specs.FinMap.{FinMap}
 use Rattle.std.specs.FinSet as set
@@ -19,7 +21,8 @@ use Rattle.doc_model.specs.Strokes.{Jobs, Stroke}
 use Rattle.doc_model.proofs.Contents.{with_content-with_content, content-with_content}
 use Rattle.doc_model.proofs.Weights.{IsTree, tree_distinct}
 use Rattle.doc_model.proofs.QueueLaws.{queued_for, in_grid}
-use Rattle.doc_model.proofs.Paths.{or_left, or_right, or_false, or_false', content_put_back}
+use Rattle.doc_model.proofs.Paths.{content_put_back}
+use Rattle.geom_core.proofs.Tests.{or_left, or_right, none_left, none_right}
 use Rattle.machine_model.specs.State.{Child, Walker, Slot, State}
 use Rattle.machine_model.specs.Groups.{with_pixels, nodes_in, path_of, on, parent_of}
 use Rattle.machine_model.specs.Slots.{is_painter, done}
@@ -29,12 +32,13 @@ use Rattle.machine_model.specs.Guards.{kept_jobs}
 use Rattle.machine_model.specs.Caches.{CachesFold, WalkIsRight}
 use Rattle.machine_model.specs.Walking.{WalkStands, IsGroupOf}
 use Rattle.machine_model.specs.UnderWay.{IsOnWay, shown, writes_at}
-use Rattle.machine_model.proofs.Walkways.{grouped, grouped_with, SameAt, same_at_refl, path_here, path_all, path_of_with}
+use Rattle.machine_model.proofs.WalkPaths.{grouped, grouped_with, SameAt, same_at_refl, path_here, path_all, path_of_with}
 use Rattle.machine_model.proofs.Covers.{slot_on, anyone, cov, up_of, IsFold, IsRead, FoldsAt, ReadsAt, caches_by, walks_by, any_same}
 use Rattle.machine_model.specs.Walking.{WalkInside}
-use Rattle.machine_model.proofs.CachesKeep.{not_true, cov_idle, either_covers}
-use Rattle.machine_model.proofs.Moves.{moved_from, fold_moves, read_moves, fold_new, read_new, queue_bound_stays, queue_bound_takes}
-use Rattle.machine_model.proofs.Tiles.{areas_hold}
+use Rattle.machine_model.proofs.JobCaches.{cov_idle, either_covers}
+use Rattle.geom_core.proofs.Tests.{not_true}
+use Rattle.machine_model.proofs.OtherPixels.{moved_from, fold_moves, read_moves, fold_new, read_new, queue_bound_stays, queue_bound_takes}
+use Rattle.machine_model.proofs.TileBounds.{areas_hold}
 
 -- a part of a state that is what another part is
 pub fold_at : (new : State) {caches : FinMap nat_cmp Layer} {doc : Doc} {updates : List Patch} {slots : List Slot} {g : ℕ} {p : Point} → new.caches ≡ caches → new.present ≡ doc → new.updates ≡ updates → new.slots ≡ slots
@@ -69,19 +73,12 @@ base_grouped s way g = go s.way way
 areas_outside : (jobs : Jobs) (n j : ℕ) (p : Point) → any_holds (writes_of (take n jobs)) p ≡ false → j < n → any_holds (writes_at jobs j) p ≡ false
 areas_outside [] n j p out h = refl
 areas_outside (k ∷ jobs) zero j p out h = absurd (omega arith)
-areas_outside (k ∷ jobs) (suc n) zero p out h = or_false (any_holds (writes k.1) p) _ (sym (list_any-append (λ a. holds a p) (writes k.1) (writes_of (take n jobs))) ∙ out)
-areas_outside (k ∷ jobs) (suc n) (suc j) p out h = areas_outside jobs n j p (or_false' (any_holds (writes k.1) p) _ (sym (list_any-append (λ a. holds a p) (writes k.1) (writes_of (take n jobs))) ∙ out)) (omega arith)
+areas_outside (k ∷ jobs) (suc n) zero p out h = none_left (any_holds (writes k.1) p) _ (sym (list_any-append (λ a. holds a p) (writes k.1) (writes_of (take n jobs))) ∙ out)
+areas_outside (k ∷ jobs) (suc n) (suc j) p out h = areas_outside jobs n j p (none_right (any_holds (writes k.1) p) _ (sym (list_any-append (λ a. holds a p) (writes k.1) (writes_of (take n jobs))) ∙ out)) (omega arith)
 
 shown_outside : (jobs : Jobs) (layer : Layer) (d : ℕ → Key → Bool) (n : ℕ) (p : Point) → ((j : ℕ) → j < n → any_holds (writes_at jobs j) p ≡ false) → shown jobs layer d n p ≡ at layer p
 shown_outside jobs layer d zero p out = refl
-shown_outside jobs layer d (suc n) p out = kept _ _ _ (gone _ _ (out n (omega arith))) ∙ shown_outside jobs layer d n p (λ j h. out j (omega arith))
-  where
-    kept : {B : Type 0} (b : Bool) (x y : B) → b ≡ false → cond b x y ≡ y
-    kept b x y e = rw e refl
-
-    gone : (a b : Bool) → a ≡ false → (a && b) ≡ false
-    gone a b e = rw e refl
-
+shown_outside jobs layer d (suc n) p out = kept _ _ _ (none_and _ _ (out n (omega arith))) ∙ shown_outside jobs layer d n p (λ j h. out j (omega arith))
 module _ (old new : State) (tree : IsTree old.base) (present_tree : IsTree old.present) (way : IsOnWay old old.way) (step : CancelStep old new) where
   abbrev q : ℕ
   q = step.stroke.layer

@@ -7,13 +7,13 @@ use Rattle.machine_model.specs.Event.{Event}
 use Rattle.machine_model.specs.Step.{Run}
 use Rattle.machine_model.specs.Sound.{IsSound}
 use Rattle.machine_model.specs.SoundnessLaws.{NewIsSound, StepKeepsSound, RunsAreSound}
-use Rattle.machine_model.proofs.StepKeeps.{step_keeps, new_orderly}
-use Rattle.machine_model.proofs.PartsSevenEight.{PartsSevenEight, seven_eight}
-use Rattle.machine_model.proofs.InsideKeeps.{inside_keeps, start_inside, start_parts}
+use Rattle.machine_model.proofs.RunsOrderly.{step_keeps, new_orderly}
+use Rattle.machine_model.proofs.EventCaches.{CachesRight, seven_eight}
+use Rattle.machine_model.proofs.WalksInside.{inside_keeps, start_inside, start_parts}
 
 pub step_keeps_sound : StepKeepsSound
 step_keeps_sound old new event sound step =
-    let parts : PartsSevenEight new = seven_eight old event new step sound sound.inside in
+    let parts : CachesRight new = seven_eight old event new step sound sound.inside in
     record {
       orderly = step_keeps old new event sound.orderly step;
       caches = parts.caches;
@@ -39,7 +39,7 @@ new_sound s new = subst IsSound (sym new.is) (record {
     free : list_all is_free start.slots ≡ true
     free = all_free new.canvas new.slots
 
-    parts : PartsSevenEight start
+    parts : CachesRight start
     parts = start_parts start free refl refl
 
 run_keeps_sound : (old : State) (events : List Event) (new : State) → IsSound old → Run old events new → IsSound new

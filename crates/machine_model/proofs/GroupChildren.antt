@@ -1,17 +1,15 @@
 -- The children of a group in a document whose layer q has other pixels.
-use Rattle.std.proofs.Common.{◌≡◌, ℕ, Bool, true, false, ◌||◌, cond, List, ◌∷◌, refl, ap, ◌∙◌, arith, eqb}
+use Rattle.geom_core.proofs.Tests.{none_left, none_right}
+use Rattle.geom_core.proofs.Tests.{kept}
+use Rattle.std.proofs.Common.{◌≡◌, ℕ, Bool, true, false, cond, List, ◌∷◌, refl, ap, ◌∙◌, eqb}
 use Rattle.std.specs.Ordering.{nat_cmp}
 use Rattle.std.specs.FinMap.{FinMap}
 use Rattle.std.specs.List.{list_any}
-use Rattle.doc_model.specs.declared.tree.Look.{Look}
 use Rattle.doc_model.specs.Layers.{Layer}
 use Rattle.doc_model.specs.Forest.{Forest, none, paint, group, join, children, with_content}
 use Rattle.doc_model.specs.Picture.{Doc}
 use Rattle.machine_model.specs.State.{Child}
 use Rattle.machine_model.specs.Groups.{cache, with_pixels, nodes_in}
-
-same_group : {A : Type 0} (id : ℕ) (look : Look) {a a' b b' : Forest A} → a ≡ a' → b ≡ b' → group id look a b ≡ group id look a' b'
-same_group id look e h i = group id look (e i) (h i)
 
 join_with : {A : Type 0} (q : ℕ) (x : A) (a b : Forest A) → join (with_content q x a) (with_content q x b) ≡ with_content q x (join a b)
 join_with q x none b = refl
@@ -40,23 +38,13 @@ nodes_with g q x doc = same_cond (eqb g 0) refl (children_with g q x doc) ∙ ch
 abbrev pub is_child : ℕ → List Child → Bool
 is_child q cs = list_any (λ (c : Child). eqb q c.id) cs
 
-or_false : (a b : Bool) → (a || b) ≡ false → a ≡ false
-or_false a b h = grind arith
-
-or_false' : (a b : Bool) → (a || b) ≡ false → b ≡ false
-or_false' true b h = cc
-or_false' false b h = h
-
-kept : {B : Type 0} (b : Bool) (x y : B) → b ≡ false → cond b x y ≡ y
-kept b x y h = rw h refl
-
 -- where q is no child, the children are the same
 pub with_pixels_same : (caches : FinMap nat_cmp Layer) (q : ℕ) (x : Layer) (f : Doc) → is_child q (with_pixels caches f) ≡ false → with_pixels caches (with_content q x f) ≡ with_pixels caches f
 with_pixels_same caches q x none h = refl
 with_pixels_same caches q x (paint id look y rest) h =
-    ap (λ l. record { id = id; look = look; pixels = l } ∷ with_pixels caches (with_content q x rest)) (kept (eqb q id) x y (or_false _ _ h))
-    ∙ ap (λ cs. record { id = id; look = look; pixels = y } ∷ cs) (with_pixels_same caches q x rest (or_false' _ _ h))
-with_pixels_same caches q x (group id look nodes rest) h = ap (λ cs. record { id = id; look = look; pixels = cache caches id } ∷ cs) (with_pixels_same caches q x rest (or_false' _ _ h))
+    ap (λ l. record { id = id; look = look; pixels = l } ∷ with_pixels caches (with_content q x rest)) (kept (eqb q id) x y (none_left _ _ h))
+    ∙ ap (λ cs. record { id = id; look = look; pixels = y } ∷ cs) (with_pixels_same caches q x rest (none_right _ _ h))
+with_pixels_same caches q x (group id look nodes rest) h = ap (λ cs. record { id = id; look = look; pixels = cache caches id } ∷ cs) (with_pixels_same caches q x rest (none_right _ _ h))
 
 pub children_same : (caches : FinMap nat_cmp Layer) (g q : ℕ) (x : Layer) (doc : Doc) → is_child q (with_pixels caches (nodes_in g doc)) ≡ false → with_pixels caches (nodes_in g (with_content q x doc)) ≡ with_pixels caches (nodes_in g doc)
 children_same caches g q x doc h = ap (with_pixels caches) (nodes_with g q x doc) ∙ with_pixels_same caches q x (nodes_in g doc) h

@@ -1,41 +1,36 @@
 -- Every event keeps parts 7 and 8.
-use Rattle.std.proofs.Common.{◌≡◌, ℕ, ◌≤◌, true, ◌&&◌, List, [], ◌∷◌, Option, Some, None, map, sym, ap, ◌∙◌, arith, subst, length, take}
-use Rattle.std.specs.Prelude.{ℤ, pos, ◌+ℤ◌, int_le, int_lt}
-use borrow.Author.Differences.{ints}
+use Rattle.std.proofs.Common.{◌≡◌, ℕ, true, List, [], ◌∷◌, Some, map, sym, ap, ◌∙◌}
 use Rattle.std.specs.List.{AllByRecursion}
 use Rattle.geom_core.specs.Points.{Point}
 use Rattle.geom_core.specs.Areas.{holds}
 use Rattle.doc_model.specs.declared.canvas.Walk.{Walk}
 use Rattle.doc_model.specs.Picture.{Doc, canvas_area}
-use Rattle.doc_model.specs.Strokes.{entries}
-use Rattle.doc_model.proofs.Weights.{IsTree, tree_distinct, tree_with_content}
-use Rattle.doc_model.proofs.TreeChanges.{TreeStory, tree_meaning}
+use Rattle.doc_model.proofs.Weights.{IsTree, tree_distinct}
 use Rattle.doc_model.proofs.QueueLaws.{in_grid}
-use Rattle.machine_model.specs.State.{Reach, State, story}
+use Rattle.machine_model.specs.State.{Reach, State}
 use Rattle.machine_model.specs.Groups.{path_of, on}
 use Rattle.machine_model.specs.Event.{Event, Feed, Init, Start, Publish, End, Finish, Cancel, Act, WalkStart, WalkPublish, WalkEnd}
 use Rattle.machine_model.specs.Step.{Step}
 use Rattle.machine_model.specs.Sound.{IsSound}
 use Rattle.machine_model.specs.Caches.{CachesFold, WalkIsRight}
 use Rattle.machine_model.specs.Walking.{IsGroupOf}
-use Rattle.machine_model.specs.UnderWay.{IsOnWay, UnderWay}
-use Rattle.machine_model.specs.Counted.{Counted}
+use Rattle.machine_model.specs.UnderWay.{UnderWay}
 use Rattle.doc_model.specs.Forest.{content}
 use Rattle.doc_model.specs.Strokes.{Stroke}
 use Rattle.doc_model.proofs.Contents.{content-with_content}
-use Rattle.machine_model.proofs.Trees.{trees, base_tree, present_tree}
+use Rattle.machine_model.proofs.StateTrees.{trees, base_tree, present_tree}
 use Rattle.machine_model.proofs.CanvasPoints.{canvas_grid}
-use Rattle.machine_model.proofs.PaintEvents.{painting}
-use Rattle.machine_model.proofs.Walkways.{grouped, path_grouped}
+use Rattle.machine_model.proofs.JobKeeps.{painting}
+use Rattle.machine_model.proofs.WalkPaths.{grouped, path_grouped}
 use Rattle.machine_model.specs.Walking.{WalkInside}
-use Rattle.machine_model.proofs.CachesKeep.{caches_init, walks_init, caches_start, walks_start, caches_end, walks_end, caches_finish, walks_finish, both_true}
+use Rattle.machine_model.proofs.JobCaches.{caches_init, walks_init, caches_start, walks_start, caches_end, walks_end, caches_finish, walks_finish}
 use Rattle.machine_model.proofs.PublishCaches.{caches_publish, walks_publish}
-use Rattle.machine_model.proofs.BackCaches.{caches_cancel, walks_cancel}
+use Rattle.machine_model.proofs.CancelCaches.{caches_cancel, walks_cancel}
 use Rattle.machine_model.proofs.ActCaches.{caches_act, walks_act, AllTrees}
 use Rattle.machine_model.proofs.FeedCaches.{caches_feed, walks_feed}
-use Rattle.machine_model.proofs.WalkCaches.{caches_walk_start, walks_walk_start}
-use Rattle.machine_model.proofs.WalkPublishes.{caches_walk_publish, walks_walk_publish}
-use Rattle.machine_model.proofs.WalkEnds.{caches_walk_end, walks_walk_end}
+use Rattle.machine_model.proofs.WalkStartCaches.{caches_walk_start, walks_walk_start}
+use Rattle.machine_model.proofs.WalkPublishCaches.{caches_walk_publish, walks_walk_publish}
+use Rattle.machine_model.proofs.WalkEndCaches.{caches_walk_end, walks_walk_end}
 
 all_unmapped : (es : List (Doc × Reach)) → AllByRecursion IsTree (map (λ (e : Doc × Reach). e.0) es) → AllTrees es
 all_unmapped [] all = tt
@@ -47,12 +42,12 @@ sound_past s sound = all_unmapped s.past (trees s sound.orderly.told).past
 abbrev pub WalksInside : State → Type 0
 WalksInside s = AllByRecursion (WalkInside (canvas_area s.canvas)) s.slots
 
-pub record PartsSevenEight (s : State) : Type 0 where
+pub record CachesRight (s : State) : Type 0 where
   pub caches : CachesFold s
   pub walks : AllByRecursion (WalkIsRight s) s.slots
 
 -- every event keeps them, from a sound state whose running walks' patches lie in the canvas
-pub seven_eight : (old : State) (event : Event) (new : State) → Step old event new → IsSound old → WalksInside old → PartsSevenEight new
+pub seven_eight : (old : State) (event : Event) (new : State) → Step old event new → IsSound old → WalksInside old → CachesRight new
 seven_eight old event new step sound inside = by_event event step
   where
     tree : IsTree old.present
@@ -64,7 +59,7 @@ seven_eight old event new step sound inside = by_event event step
     groups : (w : Walk) (g : ℕ) → IsGroupOf old.present w → on g (path_of w old.present) ≡ true → grouped g old.present ≡ true
     groups w g is on' = path_grouped w g old.present (tree_distinct old.present tree) is on'
 
-    by_event : (event : Event) → Step old event new → PartsSevenEight new
+    by_event : (event : Event) → Step old event new → CachesRight new
     by_event (Feed c) step = record { caches = caches_feed old new c step sound.orderly.on_way sound.caches; walks = walks_feed old new c step sound.orderly.on_way sound.orderly.walking.walks inside sound.walks }
     by_event Init step = record { caches = caches_init old new step sound.caches; walks = walks_init old new step sound.orderly.walking.walks inside sound.walks }
     by_event (Start place) step = record { caches = caches_start old new place step sound.caches; walks = walks_start old new place step sound.orderly.walking.walks inside sound.walks }

@@ -27,9 +27,9 @@ use Rattle.machine_model.specs.Walking.{IsGroupOf, WalkStands}
 use Rattle.machine_model.specs.Counted.{SerialBelow, PublishedOwn, ended, ended_jobs}
 use Rattle.machine_model.specs.Sound.{IsOrderly}
 use Rattle.machine_model.proofs.Lists.{all_set, all_get}
-use Rattle.machine_model.proofs.Painters.{painter-filled, painter-set, painter-freed, runs_found}
-use Rattle.machine_model.proofs.SlotsSet.{length_set, any_beside, apart_set, clear_unless_walks, differ_set, differ_same, other_free, other_new, below_more, painters_set, ended_same, ended_more}
-use Rattle.machine_model.proofs.Stands.{shape_same, shape_with, all_stand, groups_stand, SameShape}
+use Rattle.machine_model.proofs.SlotPainters.{painter-filled, painter-set, painter-freed, runs_found}
+use Rattle.machine_model.proofs.SlotChanges.{length_set, any_beside, apart_set, clear_unless_walks, differ_set, differ_same, other_free, other_new, below_more, painters_set, ended_same, ended_more}
+use Rattle.machine_model.proofs.WalksStand.{shape_same, shape_with, all_stand, groups_stand, SameShape}
 use Rattle.machine_model.proofs.StartWay.{way_after_start, not_started}
 use Rattle.machine_model.proofs.PublishWay.{way_after_publish}
 use Rattle.machine_model.proofs.EndWay.{way_after_end}

@@ -1,4 +1,5 @@
 -- The events of walks keep parts 7 and 8.
+use Rattle.machine_model.proofs.WalksStand.{shot_groups}
 use Rattle.std.proofs.Common.{◌≡◌, ℕ, suc, zero, Bool, true, false, ◌&&◌, not, cond, List, [], ◌∷◌, Some, map, refl, sym, ap, ◌∙◌, subst, ◌⊎◌, inl, inr}
 use Rattle.std.specs.Prelude.{slice_get, slice_set}
 use Rattle.std.specs.List.{list_any, list_all, AllByRecursion}
@@ -10,7 +11,7 @@ use Rattle.doc_model.specs.Picture.{canvas_area}
 use Rattle.doc_model.proofs.Shots.{at-shot_of}
 use Rattle.doc_model.proofs.Conflicts.{meets_at}
 use Rattle.doc_model.proofs.QueueLaws.{queued_for}
-use Rattle.doc_model.proofs.Paths.{or_cases, or_left, or_right, or_false, or_false'}
+use Rattle.geom_core.proofs.Tests.{or_cases, or_left, or_right, none_left, none_right}
 use Rattle.machine_model.specs.State.{Child, Walker, Slot, Free, Paints, Walks, State}
 use Rattle.machine_model.specs.Groups.{children_of, path_of, on}
 use Rattle.machine_model.specs.Slots.{is_painter}
@@ -21,14 +22,11 @@ use Rattle.machine_model.specs.Effects.{without_nth}
 use Rattle.machine_model.specs.Caches.{CachesFold, WalkIsRight, WalkReads, SamePixels}
 use Rattle.machine_model.specs.Walking.{WalkStands, walks_apart, all_apart}
 use Rattle.machine_model.proofs.Lists.{all_set}
-use Rattle.machine_model.proofs.Walkways.{grouped}
+use Rattle.machine_model.proofs.WalkPaths.{grouped}
 use Rattle.machine_model.proofs.Covers.{groups_of, slot_on, anyone, cov, up_of, IsFold, IsRead, caches_by, walk_by, fold_covers, read_covers, any_set_grow, any_set_new}
 use Rattle.machine_model.specs.Walking.{WalkInside}
-use Rattle.machine_model.proofs.CachesKeep.{both_true, and_left, and_right, not_true, either_covers}
-
-and-false : (b : Bool) → (b && false) ≡ false
-and-false true = refl
-and-false false = refl
+use Rattle.machine_model.proofs.JobCaches.{either_covers}
+use Rattle.geom_core.proofs.Tests.{both_true, and_left, and_right, not_true}
 
 -- no point of a walk's patch lies in the rectangle
 abbrev pub AwayFrom : Area → Slot → Type 0
@@ -43,13 +41,6 @@ any_without test (z ∷ xs) (suc i) x h any = elim (or_cases (test z) _ any) [
   | inl e ↦ inr (or_left (test z) _ e)
   | inr e ↦ elim (any_without test xs i x h e) [ inl f ↦ inl f | inr f ↦ inr (or_right (test z) _ f) ]
 ]
-
-groups_of_shots : (s : State) (rect : Area) (gs : List ℕ) → map (λ (e : ℕ × List Child). e.0) (shots_of s rect gs) ≡ gs
-groups_of_shots s rect [] = refl
-groups_of_shots s rect (g ∷ gs) = ap (λ hs. g ∷ hs) (groups_of_shots s rect gs)
-
-pub groups_of_shot : (s : State) (p : Patch) → map (λ (e : ℕ × List Child). e.0) (walk_shot s p) ≡ path_of p.walk s.present
-groups_of_shot s p = groups_of_shots s p.rect (path_of p.walk s.present)
 
 -- what the shot has on the patch is what is there
 cut_same : (path : List ℕ) (rect : Area) (cs : List Child) (p : Point) → holds rect p ≡ true → SamePixels path (map (cut_child rect) cs) cs p
@@ -70,7 +61,7 @@ module _ (old new : State) (place : ℕ) (patch : Patch) (step : WalkStartStep o
   covers g p = either_covers _ _ _
       (λ e. elim (any_without (λ (q : Patch). on g (path_of q.walk old.present) && holds q.rect p) old.updates step.i patch step.waits e) [
         | inl f ↦ or_right (queued_for (λ w. on g (path_of w old.present)) rest p) _ (any_set_new (λ slot. anyone slot && slot_on (up_of old) g p slot) old.slots place Free (Walks nw) step.free
-            (both_true (holds patch.rect p) _ (and_right (on g (path_of patch.walk old.present)) _ f) (ap (on g) (groups_of_shot old patch) ∙ and_left (on g (path_of patch.walk old.present)) _ f)))
+            (both_true (holds patch.rect p) _ (and_right (on g (path_of patch.walk old.present)) _ f) (ap (on g) (shot_groups old patch.rect (path_of patch.walk old.present)) ∙ and_left (on g (path_of patch.walk old.present)) _ f)))
         | inr f ↦ or_left _ _ f
       ])
       (λ e. or_right (queued_for (λ w. on g (path_of w old.present)) rest p) _ (any_set_grow (λ slot. anyone slot && slot_on (up_of old) g p slot) old.slots place Free (Walks nw) step.free refl e))
@@ -92,10 +83,10 @@ module _ (old new : State) (place : ℕ) (patch : Patch) (step : WalkStartStep o
   away [] e = tt
   away (Free ∷ slots) e = (tt, away slots e)
   away (Paints w ∷ slots) e = (tt, away slots e)
-  away (Walks w ∷ slots) e = ((λ p held. apart p held (holds patch.rect p) refl), away slots (or_false' (meets patch.rect w.patch.rect) _ e))
+  away (Walks w ∷ slots) e = ((λ p held. apart p held (holds patch.rect p) refl), away slots (none_right (meets patch.rect w.patch.rect) _ e))
     where
       apart : (p : Point) → holds w.patch.rect p ≡ true → (b : Bool) → holds patch.rect p ≡ b → b ≡ false
-      apart p held true f = absurd (let t : meets patch.rect w.patch.rect ≡ true = meets_at patch.rect w.patch.rect p f held in let u : meets patch.rect w.patch.rect ≡ false = or_false (meets patch.rect w.patch.rect) _ e in cc)
+      apart p held true f = absurd (let t : meets patch.rect w.patch.rect ≡ true = meets_at patch.rect w.patch.rect p f held in let u : meets patch.rect w.patch.rect ≡ false = none_left (meets patch.rect w.patch.rect) _ e in cc)
       apart p held false f = refl
 
   new_walk : WalkIsRight new (Walks nw)

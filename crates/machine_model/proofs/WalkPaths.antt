@@ -1,4 +1,6 @@
 -- The paths of walks in a document, and the children of groups.
+use Rattle.machine_model.proofs.Choices.{same_laid}
+use Rattle.geom_core.proofs.Tests.{kept}
 use Rattle.std.proofs.Common.{◌≡◌, ℕ, Bool, true, false, ◌||◌, cond, List, [], ◌∷◌, ◌++◌, Some, refl, sym, ap, ◌∙◌, arith, eqb, subst, inl, inr}
 use Rattle.std.specs.Ordering.{nat_cmp}
 use Rattle.std.specs.FinMap.{FinMap}
@@ -6,33 +8,23 @@ use Rattle.std.specs.Option.{unwrap_or}
 use Rattle.std.proofs.lemmas.Bool.Decides.{nat_tests}
 use Rattle.pixel_core.specs.Rgba.{Rgba}
 use Rattle.geom_core.specs.Points.{Point}
-use Rattle.doc_model.specs.declared.tree.Look.{Look}
 use Rattle.doc_model.specs.declared.canvas.Walk.{Walk}
 use Rattle.doc_model.specs.declared.canvas.Walk.TheVariants.{Up, All}
 use Rattle.doc_model.specs.Layers.{Layer, at}
 use Rattle.doc_model.specs.Forest.{none, paint, group, has, is_group, children, with_content, parent, path, order}
 use Rattle.doc_model.specs.Picture.{Doc}
-use Rattle.doc_model.specs.Picture.{with_look}
 use Rattle.doc_model.proofs.Parents.{Distinct, side, side_has, child_has, child_parent, parent_side}
 use Rattle.doc_model.proofs.Weights.{IsTree, tree_distinct, tree_root}
-use Rattle.doc_model.proofs.Paths.{Orderly, KidsIn, on_append, on_order, path_self, path_groups, path_up, path_orderly, order_orderly, group_has, child_group, path_with, order_with, is_group_with, parent_with, or_cases, or_left, or_right}
+use Rattle.doc_model.proofs.Paths.{Orderly, KidsIn, on_append, on_order, path_self, path_groups, path_up, path_orderly, order_orderly, group_has, child_group, path_with, order_with, is_group_with, parent_with}
+use Rattle.geom_core.proofs.Tests.{or_cases, or_left, or_right}
 use Rattle.machine_model.specs.State.{Child}
 use Rattle.machine_model.specs.Groups.{with_pixels, nodes_in, path_of, on, parent_of, folded}
 use Rattle.machine_model.specs.Walking.{IsGroupOf}
-use Rattle.machine_model.proofs.Children.{is_child}
+use Rattle.machine_model.proofs.GroupChildren.{is_child}
 
 -- the root or a group that is there
 abbrev pub grouped : ℕ → Doc → Bool
 grouped g doc = eqb g 0 || is_group g doc
-
-kept : {B : Type 0} (b : Bool) (x y : B) → b ≡ false → cond b x y ≡ y
-kept b x y e = rw e refl
-
-taken : {B : Type 0} (b : Bool) (x y : B) → b ≡ true → cond b x y ≡ x
-taken b x y e = rw e refl
-
-equal_test : (d : ℕ) → eqb d d ≡ true
-equal_test d = grind (arith, nat_tests)
 
 -- the root is on every path
 pub path_root : (w : Walk) (doc : Doc) → on 0 (path_of w doc) ≡ true
@@ -169,9 +161,6 @@ SameAt [] [] p = Unit {0}
 SameAt (a ∷ xs) (b ∷ ys) p = (a.id ≡ b.id) × (a.look ≡ b.look) × (at a.pixels p ≡ at b.pixels p) × SameAt xs ys p
 SameAt [] (b ∷ ys) p = ⊥
 SameAt (a ∷ xs) [] p = ⊥
-
-same_laid : {l m : Look} {x y b c : Rgba} → l ≡ m → x ≡ y → b ≡ c → with_look l x b ≡ with_look m y c
-same_laid p q r i = with_look (p i) (q i) (r i)
 
 pub folded_same : (xs ys : List Child) (p : Point) (b c : Rgba) → SameAt xs ys p → b ≡ c → folded xs p b ≡ folded ys p c
 folded_same [] [] p b c same e = e

@@ -1,4 +1,5 @@
 -- What stands at a point while a stroke is under way. Of jobs only their laws are used.
+use Rattle.machine_model.proofs.Choices.{none_and}
 use Rattle.std.proofs.Common.{◌≡◌, ℕ, suc, zero, ◌<◌, Bool, true, false, ◌&&◌, [], ◌∷◌, Some, refl, sym, ap, ◌∙◌, arith, eqb}
 use Rattle.std.specs.Prelude.{slice_get}
 use Rattle.std.proofs.lemmas.Bool.Decides.{nat_tests}
@@ -35,9 +36,6 @@ default-after jobs layer zero = refl
 default-after [] layer (suc n) = refl
 default-after (k ∷ jobs) layer (suc n) = default-after jobs (apply k.1 layer) n ∙ laws_of_jobs.default_pixel k.1 layer
 
-and-false_first : (a b : Bool) → a ≡ false → (a && b) ≡ false
-and-false_first a b e = rw e refl
-
 -- where each started job that holds the point has painted it, the value after all of them stands there
 pub shown_all : (jobs : Jobs) (layer : Layer) (d : ℕ → Key → Bool) (n : ℕ) (p : Point) → ((j : ℕ) → j < n → any_holds (writes_at jobs j) p ≡ true → d j (key_of p) ≡ true) → shown jobs layer d n p ≡ at (after_jobs jobs layer n) p
 shown_all jobs layer d zero p all = refl
@@ -45,7 +43,7 @@ shown_all jobs layer d (suc n) p all = go (shown_all jobs layer d n p (λ j h. a
   where
     go : shown jobs layer d n p ≡ at (after_jobs jobs layer n) p → (b : Bool) → any_holds (writes_at jobs n) p ≡ b → shown jobs layer d (suc n) p ≡ at (after_jobs jobs layer (suc n)) p
     go rest true e = taken _ _ _ (both_true _ _ e (all n (omega arith) e))
-    go rest false e = kept _ _ _ (and-false_first _ _ e) ∙ rest ∙ sym (after_outside jobs layer n p e)
+    go rest false e = kept _ _ _ (none_and _ _ e) ∙ rest ∙ sym (after_outside jobs layer n p e)
 
 -- where the job i has painted a point that no later started job holds, the value after it stands there
 pub shown_last : (jobs : Jobs) (layer : Layer) (d : ℕ → Key → Bool) (n i : ℕ) (p : Point) → i < n → any_holds (writes_at jobs i) p ≡ true → d i (key_of p) ≡ true
@@ -58,7 +56,7 @@ shown_last jobs layer d (suc n) i p lt h painted later = go (λ l. shown_last jo
 
     go : (i < n → shown jobs layer d n p ≡ at (after_jobs jobs layer (suc i)) p) → (b : Bool) → eqb i n ≡ b → shown jobs layer d (suc n) p ≡ at (after_jobs jobs layer (suc i)) p
     go rest true e = here n (grind (arith, nat_tests))
-    go rest false e = let below : i < n = grind (arith, nat_tests) in kept _ _ _ (and-false_first _ _ (later n below (omega arith))) ∙ rest below
+    go rest false e = let below : i < n = grind (arith, nat_tests) in kept _ _ _ (none_and _ _ (later n below (omega arith))) ∙ rest below
 
 -- what stands at a point depends on which of the jobs that hold it have painted it
 pub shown_same : (jobs : Jobs) (layer : Layer) (d d' : ℕ → Key → Bool) (n : ℕ) (p : Point) → ((j : ℕ) → j < n → (any_holds (writes_at jobs j) p && d j (key_of p)) ≡ (any_holds (writes_at jobs j) p && d' j (key_of p)))

@@ -13,7 +13,7 @@ use Rattle.geom_core.proofs.Tests.{not_true}
 use Rattle.machine_model.proofs.Lists.{take_all, length_map}
 use Rattle.machine_model.specs.Guards.{kept_jobs}
 use Rattle.machine_model.specs.UnderWay.{UnderWay, after_jobs, jobs_only}
-use Rattle.machine_model.proofs.Shown.{shown_all, default-after}
+use Rattle.machine_model.proofs.ShownPixels.{shown_all, default-after}
 
 -- nobody paints
 none_paints : (slots : List Slot) (q : ℕ) → list_any is_painter slots ≡ false → painter_in q slots ≡ None

@@ -23,10 +23,10 @@ use Rattle.machine_model.specs.Groups.{cache, with_pixels, nodes_in, path_of, on
 use Rattle.machine_model.specs.Slots.{is_painter}
 use Rattle.machine_model.specs.Effects.{queue_bound}
 use Rattle.machine_model.specs.Caches.{SamePixels}
-use Rattle.machine_model.proofs.Children.{children_same, is_child, nodes_with}
-use Rattle.machine_model.proofs.Walkways.{SameAt, same_at_refl, folded_same, path_of_with, parent_of_with, is_child_side, child_above}
+use Rattle.machine_model.proofs.GroupChildren.{children_same, is_child, nodes_with}
+use Rattle.machine_model.proofs.WalkPaths.{SameAt, same_at_refl, folded_same, path_of_with, parent_of_with, is_child_side, child_above}
 use Rattle.machine_model.proofs.Covers.{groups_of, slot_on, anyone, cov, up_of, FoldsAt, ReadsAt, any_same}
-use Rattle.machine_model.proofs.Tiles.{held_by}
+use Rattle.machine_model.proofs.TileBounds.{held_by}
 
 same_choice_at : (b : Bool) (x y l : Layer) (p : Point) → at x p ≡ at y p → at (cond b x l) p ≡ at (cond b y l) p
 same_choice_at true x y l p e = e

@@ -4,7 +4,7 @@ use Rattle.std.specs.List.{AllByRecursion, list_any}
 use Rattle.doc_model.specs.declared.canvas.Canvas.{Canvas}
 use Rattle.doc_model.specs.Strokes.{Entry, entries}
 use Rattle.doc_model.specs.Meaning.{meaning}
-use Rattle.machine_model.specs.State.{State, Slot, Free, first, head_stroke, stroke_of, new_state, IsSettled}
+use Rattle.machine_model.specs.State.{State, Slot, Free, first, head_stroke, stroke_of, new_state}
 use Rattle.machine_model.specs.Slots.{is_painter}
 use Rattle.machine_model.specs.Event.{Event, Feed, Init, Start, Publish, End, Finish, Cancel, Act, WalkStart, WalkPublish, WalkEnd}
 use Rattle.machine_model.specs.Step.{Run}
@@ -13,15 +13,15 @@ use Rattle.machine_model.specs.Walking.{WalkStands, all_apart}
 use Rattle.machine_model.specs.Counted.{IsOfLimits, SerialBelow, SerialsDiffer, PublishedOwn}
 use Rattle.machine_model.specs.Sound.{IsOrderly}
 use Rattle.machine_model.specs.SoundnessLaws.{IsNew, StepKeepsOrder, RunsAreOrderly}
-use Rattle.machine_model.specs.MeaningLaws.{HasMeaning, SettledHasMeaning, RunsHaveMeaning}
+use Rattle.machine_model.specs.MeaningLaws.{SettledHasMeaning, RunsHaveMeaning}
 use Rattle.machine_model.proofs.Lists.{take_all}
 use Rattle.machine_model.proofs.FeedKeeps.{feed_keeps}
 use Rattle.machine_model.proofs.InitKeeps.{init_keeps}
-use Rattle.machine_model.proofs.PaintEvents.{start_keeps, publish_keeps, end_keeps}
+use Rattle.machine_model.proofs.JobKeeps.{start_keeps, publish_keeps, end_keeps}
 use Rattle.machine_model.proofs.FinishKeeps.{finish_keeps}
 use Rattle.machine_model.proofs.CancelKeeps.{cancel_keeps}
 use Rattle.machine_model.proofs.ActKeeps.{act_keeps}
-use Rattle.machine_model.proofs.WalkEvents.{walk_start_keeps, walk_publish_keeps, walk_end_keeps}
+use Rattle.machine_model.proofs.WalkKeeps.{walk_start_keeps, walk_publish_keeps, walk_end_keeps}
 
 pub step_keeps : StepKeepsOrder
 step_keeps old new (Feed c) sound step = feed_keeps old new c sound step
