@@ -1,4 +1,4 @@
--- The acts of entries that are no strokes keep parts 7 and 8.
+-- The acts of entries that are no strokes keep what caches and running walks hold.
 use Rattle.std.proofs.Common.{◌≡◌, ℕ, true, false, List, [], ◌∷◌, Option, Some, None, Result, Ok, Err, refl, sym, ap, ◌∙◌, subst, inl, inr}
 use Rattle.std.specs.FinSet as set
 use Rattle.std.specs.FinSet.{FinSet}

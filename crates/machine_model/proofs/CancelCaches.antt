@@ -1,4 +1,4 @@
--- Cancel and the acts of other entries keep parts 7 and 8.
+-- A cancel keeps what caches and running walks hold; and what an undo or redo of a stroke shares with it.
 use Rattle.machine_model.proofs.Choices.{none_and}
 use Rattle.geom_core.proofs.Tests.{kept}
 use Rattle.std.proofs.Common.{◌≡◌, ℕ, suc, zero, ◌<◌, Bool, true, false, ◌&&◌, ◌||◌, List, [], ◌∷◌, Option, Some, None, refl, sym, ap, ◌∙◌, arith, subst, ◌⊎◌, inl, inr, take}
@@ -45,24 +45,24 @@ pub fold_at : (new : State) {caches : FinMap nat_cmp Layer} {doc : Doc} {updates
     → FoldsAt caches doc (up_of new) updates slots g p → IsFold new g p
 fold_at new {g = g} {p = p} a b c d h = subst (λ (v : FinMap nat_cmp Layer × (Doc × (List Patch × List Slot))). FoldsAt v.0 v.1.0 (up_of new) v.1.1.0 v.1.1.1 g p) (λ i. (sym a i, (sym b i, (sym c i, sym d i)))) h
 
-pub read_at : (new : State) {caches : FinMap nat_cmp Layer} {doc : Doc} {updates : List Patch} {slots : List Slot} {w : Walker} {g : ℕ} {read : List Child} {p : Point} → new.caches ≡ caches → new.present ≡ doc → new.updates ≡ updates → new.slots ≡ slots
+read_at : (new : State) {caches : FinMap nat_cmp Layer} {doc : Doc} {updates : List Patch} {slots : List Slot} {w : Walker} {g : ℕ} {read : List Child} {p : Point} → new.caches ≡ caches → new.present ≡ doc → new.updates ≡ updates → new.slots ≡ slots
     → ReadsAt caches doc (up_of new) updates slots w g read p → IsRead new w g read p
 read_at new {w = w} {g = g} {read = read} {p = p} a b c d h = subst (λ (v : FinMap nat_cmp Layer × (Doc × (List Patch × List Slot))). ReadsAt v.0 v.1.0 (up_of new) v.1.1.0 v.1.1.1 w g read p) (λ i. (sym a i, (sym b i, (sym c i, sym d i)))) h
 
 -- documents with the same paths
-pub cov_docs : (keep : Slot → Bool) (d d' : Doc) (up : List ℕ) (updates : List Patch) (slots : List Slot) (g : ℕ) (p : Point) → ((w : Walk) → path_of w d ≡ path_of w d') → cov keep d up updates slots g p ≡ cov keep d' up updates slots g p
+cov_docs : (keep : Slot → Bool) (d d' : Doc) (up : List ℕ) (updates : List Patch) (slots : List Slot) (g : ℕ) (p : Point) → ((w : Walk) → path_of w d ≡ path_of w d') → cov keep d up updates slots g p ≡ cov keep d' up updates slots g p
 cov_docs keep d d' up updates slots g p same = ap (λ b. b || list_any (λ slot. keep slot && slot_on up g p slot) slots)
     (any_same (λ (r : Patch). on g (path_of r.walk d) && holds r.rect p) (λ (r : Patch). on g (path_of r.walk d') && holds r.rect p) updates (λ r. ap (λ gs. on g gs && holds r.rect p) (same r.walk)))
 
 -- present and base have the same paths and groups
-pub base_paths : (s : State) → IsOnWay s s.way → (w : Walk) → path_of w s.present ≡ path_of w s.base
+base_paths : (s : State) → IsOnWay s s.way → (w : Walk) → path_of w s.present ≡ path_of w s.base
 base_paths s way w = go s.way way
   where
     go : (o : Option ℕ) → IsOnWay s o → path_of w s.present ≡ path_of w s.base
     go None rest = ap (path_of w) rest.same
     go (Some n) u = ap (path_of w) u.is ∙ path_of_with w u.stroke.layer u.layer s.base
 
-pub base_grouped : (s : State) → IsOnWay s s.way → (g : ℕ) → grouped g s.present ≡ grouped g s.base
+base_grouped : (s : State) → IsOnWay s s.way → (g : ℕ) → grouped g s.present ≡ grouped g s.base
 base_grouped s way g = go s.way way
   where
     go : (o : Option ℕ) → IsOnWay s o → grouped g s.present ≡ grouped g s.base

@@ -40,7 +40,7 @@ rows_held a y (suc n) h k = all_append (λ p. holds a p ≡ true) (row a.x y a.w
     (rows_held a (y +ℤ pos 1) n (omega (arith, ints)) (omega (arith, ints)))
 
 -- it holds its points
-pub points_held : (a : Area) → AllByRecursion (λ p. holds a p ≡ true) (points_of a)
+points_held : (a : Area) → AllByRecursion (λ p. holds a p ≡ true) (points_of a)
 points_held a = rows_held a a.y a.h (omega (arith, ints)) (omega (arith, ints))
 
 -- what agrees at each point that the rectangle holds makes one list

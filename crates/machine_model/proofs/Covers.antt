@@ -1,4 +1,4 @@
--- Parts 7 and 8 of what is sound, point by point and part by part of a state.
+-- What caches and running walks hold, point by point and as a fact of the parts of a state.
 use Rattle.machine_model.proofs.Choices.{and_turned}
 use Rattle.std.proofs.Common.{◌≡◌, ℕ, suc, zero, Bool, true, false, ◌&&◌, ◌||◌, List, [], ◌∷◌, Some, map, refl, sym, ap, ◌∙◌, arith, eqb, subst, ◌⊎◌, inl, inr}
 use Rattle.std.specs.Prelude.{slice_get, slice_set}
@@ -65,14 +65,14 @@ covered_is s g p = both_same _ _ _ _ (patches_are s.present s.updates g p) (any_
 pub others_is : (s : State) (g : ℕ) (p : Point) → covered_by_others s g p ≡ cov is_painter s.present (up_of s) s.updates s.slots g p
 others_is s g p = both_same _ _ _ _ (patches_are s.present s.updates g p) (any_same (λ slot. is_painter slot && slot_covers s g p slot) (λ slot. is_painter slot && slot_on (up_of s) g p slot) s.slots (λ slot. ap (λ b. is_painter slot && b) (slot_is s g p slot)))
 
--- part 7 at one point of one group
+-- the cache of one group at one point
 pub record FoldsAt (caches : FinMap nat_cmp Layer) (doc : Doc) (up : List ℕ) (updates : List Patch) (slots : List Slot) (g : ℕ) (p : Point) : Type 0 where
   pub is : (at (cache caches g) p ≡ folded (with_pixels caches (nodes_in g doc)) p clear) ⊎ (cov anyone doc up updates slots g p ≡ true)
 
 abbrev pub IsFold : State → ℕ → Point → Type 0
 IsFold s g p = FoldsAt s.caches s.present (up_of s) s.updates s.slots g p
 
--- part 8 for one walk, at one point of one group
+-- what one walk has published and read, at one point of one group
 pub record ReadsAt (caches : FinMap nat_cmp Layer) (doc : Doc) (up : List ℕ) (updates : List Patch) (slots : List Slot) (w : Walker) (g : ℕ) (read : List Child) (p : Point) : Type 0 where
   pub published : list_any (same_pair g (key_of p)) w.published ≡ true → at (cache caches g) p ≡ walk_value w.shot g p
   pub current : SamePixels (groups_of w) read (with_pixels caches (nodes_in g doc)) p ⊎ (cov is_painter doc up updates slots g p ≡ true)
@@ -80,16 +80,16 @@ pub record ReadsAt (caches : FinMap nat_cmp Layer) (doc : Doc) (up : List ℕ) (
 abbrev pub IsRead : State → Walker → ℕ → List Child → Point → Type 0
 IsRead s w g read p = ReadsAt s.caches s.present (up_of s) s.updates s.slots w g read p
 
-pub fold_in : (s : State) (g : ℕ) (p : Point) → (at (cache s.caches g) p ≡ folded (children_of s g) p clear) ⊎ (covered s g p ≡ true) → IsFold s g p
+fold_in : (s : State) (g : ℕ) (p : Point) → (at (cache s.caches g) p ≡ folded (children_of s g) p clear) ⊎ (covered s g p ≡ true) → IsFold s g p
 fold_in s g p h = record { is = elim h [ inl e ↦ inl e | inr e ↦ inr (sym (covered_is s g p) ∙ e) ] }
 
 pub fold_out : (s : State) (g : ℕ) (p : Point) → IsFold s g p → (at (cache s.caches g) p ≡ folded (children_of s g) p clear) ⊎ (covered s g p ≡ true)
 fold_out s g p h = elim h.is [ inl e ↦ inl e | inr e ↦ inr (covered_is s g p ∙ e) ]
 
-pub read_in : (s : State) (w : Walker) (g : ℕ) (read : List Child) (p : Point) → WalkReads s w g read p → IsRead s w g read p
+read_in : (s : State) (w : Walker) (g : ℕ) (read : List Child) (p : Point) → WalkReads s w g read p → IsRead s w g read p
 read_in s w g read p h = record { published = h.published; current = elim h.current [ inl e ↦ inl e | inr e ↦ inr (sym (others_is s g p) ∙ e) ] }
 
-pub read_out : (s : State) (w : Walker) (g : ℕ) (read : List Child) (p : Point) → IsRead s w g read p → WalkReads s w g read p
+read_out : (s : State) (w : Walker) (g : ℕ) (read : List Child) (p : Point) → IsRead s w g read p → WalkReads s w g read p
 read_out s w g read p h = record { published = h.published; current = elim h.current [ inl e ↦ inl e | inr e ↦ inr (others_is s g p ∙ e) ] }
 
 -- what holds of the caches from point to point

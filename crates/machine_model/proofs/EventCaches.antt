@@ -1,4 +1,4 @@
--- Every event keeps parts 7 and 8.
+-- Every event keeps what caches and running walks hold.
 use Rattle.std.proofs.Common.{◌≡◌, ℕ, true, List, [], ◌∷◌, Some, map, sym, ap, ◌∙◌}
 use Rattle.std.specs.List.{AllByRecursion}
 use Rattle.geom_core.specs.Points.{Point}
@@ -36,7 +36,7 @@ all_unmapped : (es : List (Doc × Reach)) → AllByRecursion IsTree (map (λ (e 
 all_unmapped [] all = tt
 all_unmapped (e ∷ es) all = (all.0, all_unmapped es all.1)
 
-pub sound_past : (s : State) → IsSound s → AllTrees s.past
+sound_past : (s : State) → IsSound s → AllTrees s.past
 sound_past s sound = all_unmapped s.past (trees s sound.orderly.told).past
 
 abbrev pub WalksInside : State → Type 0
@@ -47,8 +47,8 @@ pub record CachesRight (s : State) : Type 0 where
   pub walks : AllByRecursion (WalkIsRight s) s.slots
 
 -- every event keeps them, from a sound state whose running walks' patches lie in the canvas
-pub seven_eight : (old : State) (event : Event) (new : State) → Step old event new → IsSound old → WalksInside old → CachesRight new
-seven_eight old event new step sound inside = by_event event step
+pub caches_stay_right : (old : State) (event : Event) (new : State) → Step old event new → IsSound old → WalksInside old → CachesRight new
+caches_stay_right old event new step sound inside = by_event event step
   where
     tree : IsTree old.present
     tree = present_tree old sound.orderly

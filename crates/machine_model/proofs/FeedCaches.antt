@@ -1,4 +1,4 @@
--- A command that is fed keeps parts 7 and 8.
+-- A command that is fed keeps what caches and running walks hold.
 use Rattle.doc_model.proofs.Feeding.{entries_last}
 use Rattle.machine_model.proofs.FeedKeeps.{first_last, first_map, head_is}
 use Rattle.std.proofs.Common.{◌≡◌, ℕ, Bool, true, false, cond, List, [], ◌∷◌, ◌++◌, Option, Some, None, refl, sym, ap, ◌∙◌, eqb, subst, ◌⊎◌, inl, inr, length, drop}
@@ -26,7 +26,7 @@ use Rattle.machine_model.proofs.JobCaches.{cov_idle}
 use Rattle.geom_core.proofs.Tests.{not_true}
 
 -- a stroke at the head stays one for its layer
-abbrev pub StaysFor : ℕ → Option Entry → Type 0
+abbrev StaysFor : ℕ → Option Entry → Type 0
 StaysFor layer o = (t : Stroke) × (o ≡ Some (Strokes t)) × (t.layer ≡ layer)
 
 job_stays : (number : ℕ) (kind : Kind) (job : Job) (s : Stroke) → StaysFor s.layer (Some (with_job number kind job (Strokes s)))
@@ -43,7 +43,7 @@ fate_stays number fate s = go (eqb s.no number)
     go true = (record s { fate = fate }, refl, refl)
     go false = (s, refl, refl)
 
-pub fed_stays : (n : ℕ) (es : List Entry) (c : Command) (s : Stroke) → first (drop n es) ≡ Some (Strokes s) → StaysFor s.layer (first (drop n (fed es c)))
+fed_stays : (n : ℕ) (es : List Entry) (c : Command) (s : Stroke) → first (drop n es) ≡ Some (Strokes s) → StaysFor s.layer (first (drop n (fed es c)))
 fed_stays n es (command.Change change) s h = (s, first_last n es _ (Strokes s) h, refl)
 fed_stays n es (command.Stroke number layer exclusive) s h = (s, first_last n es _ (Strokes s) h, refl)
 fed_stays n es (command.Add number kind job) s h = subst (StaysFor s.layer) (sym (first_map n (with_job number kind job) es (Strokes s) h)) (job_stays number kind job s)

@@ -18,7 +18,7 @@ use Rattle.machine_model.specs.Sound.{IsOrderly}
 use Rattle.machine_model.proofs.GrownStroke.{length_front, started_grown, overlap_grown, pixels_grown}
 
 -- a stroke that was fed a command: at most one more job, or a fate
-pub record Grows (old new : Stroke) : Type 0 where
+record Grows (old new : Stroke) : Type 0 where
   pub layer : new.layer ≡ old.layer
   pub exclusive : new.exclusive ≡ old.exclusive
   pub jobs : (rest : Jobs) × (kept_jobs new ≡ kept_jobs old ++ rest)

@@ -24,7 +24,7 @@ chosen true f x y = refl
 chosen false f x y = refl
 
 -- other pixels change no group's nodes but in them
-pub children_with : {A : Type 0} (g q : ℕ) (x : A) (f : Forest A) → children g (with_content q x f) ≡ with_content q x (children g f)
+children_with : {A : Type 0} (g q : ℕ) (x : A) (f : Forest A) → children g (with_content q x f) ≡ with_content q x (children g f)
 children_with g q x none = refl
 children_with g q x (paint id look y rest) = children_with g q x rest
 children_with g q x (group id look nodes rest) =
@@ -39,7 +39,7 @@ abbrev pub is_child : ℕ → List Child → Bool
 is_child q cs = list_any (λ (c : Child). eqb q c.id) cs
 
 -- where q is no child, the children are the same
-pub with_pixels_same : (caches : FinMap nat_cmp Layer) (q : ℕ) (x : Layer) (f : Doc) → is_child q (with_pixels caches f) ≡ false → with_pixels caches (with_content q x f) ≡ with_pixels caches f
+with_pixels_same : (caches : FinMap nat_cmp Layer) (q : ℕ) (x : Layer) (f : Doc) → is_child q (with_pixels caches f) ≡ false → with_pixels caches (with_content q x f) ≡ with_pixels caches f
 with_pixels_same caches q x none h = refl
 with_pixels_same caches q x (paint id look y rest) h =
     ap (λ l. record { id = id; look = look; pixels = l } ∷ with_pixels caches (with_content q x rest)) (kept (eqb q id) x y (none_left _ _ h))

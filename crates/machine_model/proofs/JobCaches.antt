@@ -1,4 +1,4 @@
--- The events that change no pixel and no cache keep parts 7 and 8.
+-- The events that change no pixel and no cache keep what caches and running walks hold.
 use Rattle.machine_model.proofs.Choices.{and-false}
 use Rattle.geom_core.proofs.Tests.{and_left, and_right, not_true}
 use Rattle.std.proofs.Common.{◌≡◌, ℕ, Bool, true, false, ◌&&◌, ◌||◌, List, [], ◌∷◌, Option, Some, None, refl, sym, ap, ◌∙◌, subst, inl, inr}
@@ -47,7 +47,7 @@ walks_init old new step stands inside right = subst (AllByRecursion (WalkIsRight
 
 -- Start
 -- a free slot that is filled takes nothing away
-pub cov_filled : (keep : Slot → Bool) (doc : Doc) (up : List ℕ) (updates : List Patch) (slots : List Slot) (i : ℕ) (slot : Slot) (g : ℕ) (p : Point) → slice_get slots i ≡ Some Free
+cov_filled : (keep : Slot → Bool) (doc : Doc) (up : List ℕ) (updates : List Patch) (slots : List Slot) (i : ℕ) (slot : Slot) (g : ℕ) (p : Point) → slice_get slots i ≡ Some Free
     → cov keep doc up updates slots g p ≡ true → cov keep doc up updates (slice_set slots i slot) g p ≡ true
 cov_filled keep doc up updates slots i slot g p free = either_covers _ _ _
     (λ e. or_left _ _ e)
@@ -135,7 +135,7 @@ cov_idle keep doc up up' updates slots g p idle = ap (λ b. queued_for (λ w. on
     go (Walks w ∷ slots) e = ap (λ b. (keep (Walks w) && (holds w.patch.rect p && on g (groups_of w))) || b) (go slots e)
 
 -- Finish: by then no job is at work
-pub finish_idle : (old new : State) → FinishStep old new → IsOnWay old old.way → no_painter old ≡ true
+finish_idle : (old new : State) → FinishStep old new → IsOnWay old old.way → no_painter old ≡ true
 finish_idle old new step way = by_layer (is_paint step.stroke.layer old.base) refl
   where
     at_work : (n : ℕ) → UnderWay old n → content step.stroke.layer old.base ≡ None → ⊥

@@ -33,13 +33,13 @@ same_choice_at true x y l p e = e
 same_choice_at false x y l p e = refl
 
 -- where two layers have the same pixel, so have the children
-pub same_pixels_at : (caches : FinMap nat_cmp Layer) (q : ℕ) (x y : Layer) (f : Doc) (p : Point) → at x p ≡ at y p → SameAt (with_pixels caches (with_content q x f)) (with_pixels caches (with_content q y f)) p
+same_pixels_at : (caches : FinMap nat_cmp Layer) (q : ℕ) (x y : Layer) (f : Doc) (p : Point) → at x p ≡ at y p → SameAt (with_pixels caches (with_content q x f)) (with_pixels caches (with_content q y f)) p
 same_pixels_at caches q x y none p e = tt
 same_pixels_at caches q x y (paint id look l rest) p e = (refl, refl, same_choice_at (eqb q id) x y l p e, same_pixels_at caches q x y rest p e)
 same_pixels_at caches q x y (group id look nodes rest) p e = (refl, refl, refl, same_pixels_at caches q x y rest p e)
 
 -- a layer's other pixels leave the children of a group as they are at a point, unless the point was touched and the group is the layer's parent
-pub moved_at : (caches : FinMap nat_cmp Layer) (q : ℕ) (x y : Layer) (doc : Doc) (g : ℕ) (p : Point) (touched : Bool) → IsTree doc → (touched ≡ false → at x p ≡ at y p)
+moved_at : (caches : FinMap nat_cmp Layer) (q : ℕ) (x y : Layer) (doc : Doc) (g : ℕ) (p : Point) (touched : Bool) → IsTree doc → (touched ≡ false → at x p ≡ at y p)
     → SameAt (with_pixels caches (nodes_in g (with_content q x doc))) (with_pixels caches (nodes_in g (with_content q y doc))) p ⊎ ((touched ≡ true) × (parent_of q doc ≡ g))
 moved_at caches q x y doc g p false t same = inl (subst (λ f. SameAt (with_pixels caches f) (with_pixels caches (nodes_in g (with_content q y doc))) p) (sym (nodes_with g q x doc))
     (subst (λ f. SameAt (with_pixels caches (with_content q x (nodes_in g doc))) (with_pixels caches f) p) (sym (nodes_with g q y doc)) (same_pixels_at caches q x y (nodes_in g doc) p (same refl))))

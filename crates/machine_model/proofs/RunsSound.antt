@@ -8,12 +8,12 @@ use Rattle.machine_model.specs.Step.{Run}
 use Rattle.machine_model.specs.Sound.{IsSound}
 use Rattle.machine_model.specs.SoundnessLaws.{NewIsSound, StepKeepsSound, RunsAreSound}
 use Rattle.machine_model.proofs.RunsOrderly.{step_keeps, new_orderly}
-use Rattle.machine_model.proofs.EventCaches.{CachesRight, seven_eight}
+use Rattle.machine_model.proofs.EventCaches.{CachesRight, caches_stay_right}
 use Rattle.machine_model.proofs.WalksInside.{inside_keeps, start_inside, start_parts}
 
 pub step_keeps_sound : StepKeepsSound
 step_keeps_sound old new event sound step =
-    let parts : CachesRight new = seven_eight old event new step sound sound.inside in
+    let parts : CachesRight new = caches_stay_right old event new step sound sound.inside in
     record {
       orderly = step_keeps old new event sound.orderly step;
       caches = parts.caches;

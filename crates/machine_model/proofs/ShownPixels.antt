@@ -16,7 +16,7 @@ use Rattle.doc_model.specs.Strokes.{Jobs}
 use Rattle.machine_model.specs.UnderWay.{after_jobs, writes_at, shown}
 
 -- outside the writes of a job the layer after it is the one before it
-pub after_outside : (jobs : Jobs) (layer : Layer) (n : ℕ) (p : Point) → any_holds (writes_at jobs n) p ≡ false → at (after_jobs jobs layer (suc n)) p ≡ at (after_jobs jobs layer n) p
+after_outside : (jobs : Jobs) (layer : Layer) (n : ℕ) (p : Point) → any_holds (writes_at jobs n) p ≡ false → at (after_jobs jobs layer (suc n)) p ≡ at (after_jobs jobs layer n) p
 after_outside [] layer zero p out = refl
 after_outside [] layer (suc n) p out = refl
 after_outside (k ∷ jobs) layer zero p out = laws_of_jobs.outside k.1 layer p out

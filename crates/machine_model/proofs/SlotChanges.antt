@@ -33,7 +33,7 @@ nobody_walks (z ∷ slots) zero w h e = let same : z ≡ Walks w = cc in let t :
 nobody_walks (z ∷ slots) (suc s) w h e = nobody_walks slots s w (none_right (is_walker z) _ h) e
 
 -- a slot that stands apart from all others
-abbrev pub clear_of : Slot → Slot → Bool
+abbrev clear_of : Slot → Slot → Bool
 clear_of y z = walks_apart z y && walks_apart y z
 
 apart_in : (z y : Slot) (slots : List Slot) (s : ℕ) → walks_apart z y ≡ true → list_all (walks_apart z) slots ≡ true → list_all (walks_apart z) (slice_set slots s y) ≡ true
@@ -109,7 +109,7 @@ apart_same (z ∷ slots) (suc s) w v h e = (λ i. apart_like z (Walks v) (Walks 
     from (Walks u) = ap (λ (p : Rattle.doc_model.specs.declared.canvas.Patch.Patch). not (meets u.patch.rect p.rect)) e
 
 -- serials
-abbrev pub Other : Slot → Slot → Type 0
+abbrev Other : Slot → Slot → Type 0
 Other y z = HasNot (serial_of y) z × HasNot (serial_of z) y
 
 set_has_not : (o : Option ℕ) (y : Slot) (slots : List Slot) (s : ℕ) → HasNot o y → AllByRecursion (HasNot o) slots → AllByRecursion (HasNot o) (slice_set slots s y)
@@ -238,7 +238,7 @@ ended_few slots (suc n) = go (runs_in n slots) (ended_few slots n)
     go false h = omega arith
 
 -- nobody paints
-pub none_paint : (slots : List Slot) → list_any is_painter slots ≡ false → painters slots ≡ 0
+none_paint : (slots : List Slot) → list_any is_painter slots ≡ false → painters slots ≡ 0
 none_paint [] h = refl
 none_paint (Free ∷ slots) h = none_paint slots h
 none_paint (Walks w ∷ slots) h = none_paint slots h

@@ -22,7 +22,7 @@ Reads values [] (b ∷ ys) p = ⊥
 Reads values (a ∷ xs) [] p = ⊥
 
 -- then the walk's fold is the fold of the children now
-pub walk_folded_now : (values : List (ℕ × Rgba)) (xs ys : List Child) (p : Point) (b c : Rgba) → SameChildren xs ys → Reads values xs ys p → b ≡ c → walk_folded values xs p b ≡ folded ys p c
+walk_folded_now : (values : List (ℕ × Rgba)) (xs ys : List Child) (p : Point) (b c : Rgba) → SameChildren xs ys → Reads values xs ys p → b ≡ c → walk_folded values xs p b ≡ folded ys p c
 walk_folded_now values [] [] p b c same reads e = e
 walk_folded_now values (x ∷ xs) (y ∷ ys) p b c same reads e = walk_folded_now values xs ys p _ _ same.2 reads.1 (same_laid same.1 reads.0 e)
 walk_folded_now values [] (y ∷ ys) p b c same reads e = absurd same

@@ -85,7 +85,7 @@ child_above c g doc d h = go (eqb g 0) refl h
     go true e h = let is : 0 ≡ g = grind (arith, nat_tests) in parent_side c 0 doc d h ∙ ap Some is
     go false e h = child_parent g c 0 doc d h
 
-pub child_grouped : (c g : ℕ) (doc : Doc) → side c (nodes_in g doc) ≡ true → grouped g doc ≡ true
+child_grouped : (c g : ℕ) (doc : Doc) → side c (nodes_in g doc) ≡ true → grouped g doc ≡ true
 child_grouped c g doc h = go (eqb g 0) refl h
   where
     go : (b : Bool) → eqb g 0 ≡ b → side c (cond b doc (children g doc)) ≡ true → (b || is_group g doc) ≡ true

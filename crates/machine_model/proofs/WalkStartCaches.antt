@@ -1,4 +1,4 @@
--- The events of walks keep parts 7 and 8.
+-- A walk that starts keeps what caches and running walks hold.
 use Rattle.machine_model.proofs.WalksStand.{shot_groups}
 use Rattle.std.proofs.Common.{◌≡◌, ℕ, suc, zero, Bool, true, false, ◌&&◌, not, cond, List, [], ◌∷◌, Some, map, refl, sym, ap, ◌∙◌, subst, ◌⊎◌, inl, inr}
 use Rattle.std.specs.Prelude.{slice_get, slice_set}
@@ -116,7 +116,7 @@ module _ (old new : State) (place : ℕ) (patch : Patch) (step : WalkStartStep o
       )
 
 -- the slots but one
-abbrev pub AllBut : (Slot → Type 0) → List Slot → ℕ → Type 0
+abbrev AllBut : (Slot → Type 0) → List Slot → ℕ → Type 0
 AllBut P [] i = Unit {0}
 AllBut P (x ∷ xs) zero = AllByRecursion P xs
 AllBut P (x ∷ xs) (suc i) = P x × AllBut P xs i

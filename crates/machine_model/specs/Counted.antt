@@ -1,4 +1,4 @@
--- Part 9: what is counted.
+-- What is counted: the slots, their serials, and what they have published.
 use Rattle.std.specs.Prelude.{◌≡◌, ◌≢◌, ℕ, suc, zero, if◌then◌else◌, ◌+◌, ◌*◌, ◌<◌, ◌≤◌, Bool, true, ◌&&◌, not, Option, Some, None, List, [], ◌∷◌, map, length, take}
 use Rattle.std.specs.List.{list_any, AllByRecursion}
 use Rattle.geom_core.specs.Grid.{Key, same_key, keys_of, all_keys_of}

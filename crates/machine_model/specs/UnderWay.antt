@@ -1,4 +1,4 @@
--- Parts 3 to 5: the stroke under way.
+-- The stroke under way: which of its jobs were started, what each was started with, and what its layer shows.
 use Rattle.std.specs.Prelude.{◌≡◌, ℕ, suc, zero, ◌<◌, ◌≤◌, Bool, true, false, ◌&&◌, if◌then◌else◌, Option, Some, None, List, [], ◌∷◌, map, length, take, slice_get}
 use Rattle.std.specs.List.{AllByRecursion}
 use Rattle.pixel_core.specs.Rgba.{Rgba}

@@ -1,4 +1,4 @@
--- Part 6: the patches that wait, and the walks at work.
+-- The patches that wait, and the walks at work.
 use Rattle.std.specs.Prelude.{◌≡◌, ℕ, ◌==◌, Bool, true, ◌||◌, ◌&&◌, not, List, [], ◌∷◌, map}
 use Rattle.std.specs.List.{list_all, AllByRecursion}
 use Rattle.geom_core.specs.Points.{Point}
