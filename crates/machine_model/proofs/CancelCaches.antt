@@ -79,6 +79,7 @@ areas_outside (k ∷ jobs) (suc n) (suc j) p out h = areas_outside jobs n j p (n
 shown_outside : (jobs : Jobs) (layer : Layer) (d : ℕ → Key → Bool) (n : ℕ) (p : Point) → ((j : ℕ) → j < n → any_holds (writes_at jobs j) p ≡ false) → shown jobs layer d n p ≡ at layer p
 shown_outside jobs layer d zero p out = refl
 shown_outside jobs layer d (suc n) p out = kept _ _ _ (none_and _ _ (out n (omega arith))) ∙ shown_outside jobs layer d n p (λ j h. out j (omega arith))
+
 module _ (old new : State) (tree : IsTree old.base) (present_tree : IsTree old.present) (way : IsOnWay old old.way) (step : CancelStep old new) where
   abbrev q : ℕ
   q = step.stroke.layer

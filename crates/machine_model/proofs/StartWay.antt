@@ -152,6 +152,7 @@ way_after_start old new place n step begun way = subst (λ s. UnderWay s (suc n)
 
     unpainted : (p : Point) → shown jobs way.base_layer (done slots') (suc n) p ≡ shown jobs way.base_layer (done slots') n p
     unpainted p = kept (any_holds (writes_at jobs n) p && done slots' n (key_of p)) _ _ (and_none (any_holds (writes_at jobs n) p) _ (done_new (key_of p)))
+
     same_layer : layer_in step.stroke.layer old.present ≡ way.layer
     same_layer = ap (λ (t : Stroke). layer_in t.layer old.present) same_stroke
         ∙ ap (λ o. unwrap_or o (plain clear)) (ap (content way.stroke.layer) way.is ∙ content-with_content way.stroke.layer way.layer way.base_layer old.base way.was)

@@ -73,8 +73,10 @@ looked_up_later [] values g p out = refl
 looked_up_later (e ∷ more) values g p out =
     looked_up_later more ((e.0, walk_folded values e.1 p clear) ∷ values) g p (none_right (eqb e.0 g) _ out)
     ∙ kept (eqb e.0 g) _ _ (none_left (eqb e.0 g) _ out)
+
 looked_up_here : (values : List (ℕ × Rgba)) (g : ℕ) (v : Rgba) → looked_up ((g, v) ∷ values) g ≡ v
 looked_up_here values g v = taken (eqb g g) _ _ (grind (arith, nat_tests))
+
 either_way : (b : Bool) (x y z : Rgba) → (b ≡ true → x ≡ z) → (b ≡ false → y ≡ z) → cond b x y ≡ z
 either_way true x y z e h = e refl
 either_way false x y z e h = h refl
