@@ -21,7 +21,7 @@ use Rattle.doc_model.proofs.Shots.{at-published, at-shot_of}
 use Rattle.doc_model.proofs.JobLaws.{at-apply}
 use Rattle.machine_model.specs.State.{State, new_state}
 use Rattle.machine_model.specs.Event.{Event, Feed, Init, Start, Publish, Act}
-use Rattle.machine_model.specs.Step.{Run}
+use Rattle.machine_model.proofs.RunChains.{Chain, ◌▸◌, ends}
 
 red : Rgba
 red = rgba 255 0 0 255
@@ -53,17 +53,38 @@ before = Feed (command.Change (change.Layer 1 0 0 clear))
     ∷ Start 1
     ∷ []
 
-started : (s : State) × Run (new_state wide 2) before s
+started : (s : State) × Chain before (new_state wide 2) s
 unfolding before wide left right red blue conflict queued refreshed cells
-started = (_, (_, (refl, refl), (_, record { entry = _; at_head = refl; no_stroke = refl; no_walks = refl; clean = λ e. cc; new_is = refl }, (_, (refl, refl), (_, (refl, refl), (_, (refl, refl), (_, record { stroke = _; at_head = refl; not_begun = refl; not_cancelled = refl; no_overlap = refl; on_paint = refl; alone = λ e. refl; new_is = refl }, (_, record { stroke = _; at_head = refl; next = 0; begun = refl; not_cancelled = refl; no_overlap = refl; free = refl; job = (Con, left); is_next = refl; unblocked = refl; barrier = λ e f. cc; new_is = refl }, (_, record { stroke = _; at_head = refl; next = 1; begun = refl; not_cancelled = refl; no_overlap = refl; free = refl; job = (Con, right); is_next = refl; unblocked = refl; barrier = λ e f. cc; new_is = refl }, refl)))))))))
+started = (
+  _,
+  record { step = (refl, refl) }
+      ▸ record { step = record { entry = _; at_head = refl; no_stroke = refl; no_walks = refl; clean = λ e. cc; new_is = refl } }
+      ▸ record { step = (refl, refl) }
+      ▸ record { step = (refl, refl) }
+      ▸ record { step = (refl, refl) }
+      ▸ record { step = record { stroke = _; at_head = refl; not_begun = refl; not_cancelled = refl; no_overlap = refl; on_paint = refl; alone = λ e. refl; new_is = refl } }
+      ▸ record { step = record { stroke = _; at_head = refl; next = 0; begun = refl; not_cancelled = refl; no_overlap = refl; free = refl; job = (Con, left); is_next = refl; unblocked = refl; barrier = λ e f. cc; new_is = refl } }
+      ▸ record { step = record { stroke = _; at_head = refl; next = 1; begun = refl; not_cancelled = refl; no_overlap = refl; free = refl; job = (Con, right); is_next = refl; unblocked = refl; barrier = λ e f. cc; new_is = refl } }
+      ▸ ends,
+)
 
-left_first : (s : State) × Run started.0 (Publish 0 tile ∷ Publish 1 tile ∷ []) s
+left_first : (s : State) × Chain (Publish 0 tile ∷ Publish 1 tile ∷ []) started.0 s
 unfolding started before wide left right red blue tile conflict queued refreshed cells
-left_first = (_, (_, record { painter = _; runs = refl; in_job = refl; fresh = refl; stroke = _; at_head = refl; new_is = refl }, (_, record { painter = _; runs = refl; in_job = refl; fresh = refl; stroke = _; at_head = refl; new_is = refl }, refl)))
+left_first = (
+  _,
+  record { step = record { painter = _; runs = refl; in_job = refl; fresh = refl; stroke = _; at_head = refl; new_is = refl } }
+      ▸ record { step = record { painter = _; runs = refl; in_job = refl; fresh = refl; stroke = _; at_head = refl; new_is = refl } }
+      ▸ ends,
+)
 
-right_first : (s : State) × Run started.0 (Publish 1 tile ∷ Publish 0 tile ∷ []) s
+right_first : (s : State) × Chain (Publish 1 tile ∷ Publish 0 tile ∷ []) started.0 s
 unfolding started before wide left right red blue tile conflict queued refreshed cells
-right_first = (_, (_, record { painter = _; runs = refl; in_job = refl; fresh = refl; stroke = _; at_head = refl; new_is = refl }, (_, record { painter = _; runs = refl; in_job = refl; fresh = refl; stroke = _; at_head = refl; new_is = refl }, refl)))
+right_first = (
+  _,
+  record { step = record { painter = _; runs = refl; in_job = refl; fresh = refl; stroke = _; at_head = refl; new_is = refl } }
+      ▸ record { step = record { painter = _; runs = refl; in_job = refl; fresh = refl; stroke = _; at_head = refl; new_is = refl } }
+      ▸ ends,
+)
 
 -- the layer is red on the left and blue on the right
 abbrev IsPainted : State → Type 0
