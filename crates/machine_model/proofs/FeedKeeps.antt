@@ -18,7 +18,7 @@ use Rattle.machine_model.specs.Sound.{IsOrderly}
 use Rattle.machine_model.proofs.GrownStroke.{length_front, started_grown, overlap_grown, pixels_grown}
 
 -- a stroke that was fed a command: at most one more job, or a fate
-record Grows (old new : Stroke) : Type 0 where
+pub record Grows (old new : Stroke) : Type 0 where
   pub layer : new.layer ≡ old.layer
   pub exclusive : new.exclusive ≡ old.exclusive
   pub jobs : (rest : Jobs) × (kept_jobs new ≡ kept_jobs old ++ rest)
@@ -85,10 +85,11 @@ pub not_begun : (o : Option Stroke) → is_exclusive o None ≡ false
 not_begun None = refl
 not_begun (Some s) = refl
 
-abbrev after_feed : State → Command → State
+abbrev pub after_feed : State → Command → State
 after_feed s c = record s { fed = s.fed ++ c ∷ [] }
 
-head_after : (s : State) (c : Command) (stroke : Stroke) → head_stroke s ≡ Some stroke → (new : Stroke) × (head_stroke (after_feed s c) ≡ Some new) × Grows stroke new
+-- the stroke at the head after one more command
+pub head_after : (s : State) (c : Command) (stroke : Stroke) → head_stroke s ≡ Some stroke → (new : Stroke) × (head_stroke (after_feed s c) ≡ Some new) × Grows stroke new
 head_after s c stroke h =
     let g : HeadGrows (length s.outcomes) (fed (entries s.fed) c) stroke = head_grows (length s.outcomes) (entries s.fed) c stroke (head_is _ stroke h) in
     (g.0, ap (λ es. stroke_of (first (drop (length s.outcomes) es))) (entries_last s.fed c) ∙ ap stroke_of g.1, g.2)

@@ -14,7 +14,8 @@ use Rattle.doc_model.proofs.Conflicts.{all_from_same}
 use Rattle.machine_model.specs.State.{Slot, Free, Paints, Walks}
 use Rattle.machine_model.specs.UnderWay.{SlotIsStarted, MayOverlap, both_uni, after_jobs, writes_at, shown, ShotIsRight, PixelsAre}
 
-get_front : {A : Type 0} (xs ys : List A) (i : ℕ) → i < length xs → slice_get (xs ++ ys) i ≡ slice_get xs i
+-- more items behind change none in front
+pub get_front : {A : Type 0} (xs ys : List A) (i : ℕ) → i < length xs → slice_get (xs ++ ys) i ≡ slice_get xs i
 get_front [] ys i h = absurd (omega arith)
 get_front (x ∷ xs) ys zero h = refl
 get_front (x ∷ xs) ys (suc i) h = get_front xs ys i (omega arith)

@@ -31,10 +31,10 @@ use Rattle.machine_model.proofs.JobKeeps.{painting}
 use Rattle.machine_model.proofs.ActCaches.{at_rest}
 
 -- the job that starts
-abbrev starting : (old new : State) (place : ℕ) → StartStep old place new → Painter
+abbrev pub starting : (old new : State) (place : ℕ) → StartStep old place new → Painter
 starting old new place step = record { serial = old.next; index = step.next; job = step.job.1; shot = shot_of (reads step.job.1) (layer_in step.stroke.layer old.present); published = [] }
 
-starts_at : (old new : State) (place : ℕ) (step : StartStep old place new) → slice_get new.slots place ≡ Some (Paints (starting old new place step))
+pub starts_at : (old new : State) (place : ℕ) (step : StartStep old place new) → slice_get new.slots place ≡ Some (Paints (starting old new place step))
 starts_at old new place step = ap (λ (s : State). slice_get s.slots place) step.new_is ∙ get_set old.slots place Free _ step.free
 
 pub jobs_start_in_order : JobsStartInOrder

@@ -135,7 +135,7 @@ cov_idle keep doc up up' updates slots g p idle = ap (λ b. queued_for (λ w. on
     go (Walks w ∷ slots) e = ap (λ b. (keep (Walks w) && (holds w.patch.rect p && on g (groups_of w))) || b) (go slots e)
 
 -- Finish: by then no job is at work
-finish_idle : (old new : State) → FinishStep old new → IsOnWay old old.way → no_painter old ≡ true
+pub finish_idle : (old new : State) → FinishStep old new → IsOnWay old old.way → no_painter old ≡ true
 finish_idle old new step way = by_layer (is_paint step.stroke.layer old.base) refl
   where
     at_work : (n : ℕ) → UnderWay old n → content step.stroke.layer old.base ≡ None → ⊥

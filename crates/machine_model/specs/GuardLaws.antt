@@ -1,5 +1,5 @@
 -- Who is never at work beside whom, and what the events leave alone.
-use Rattle.std.specs.Prelude.{◌≡◌, ◌≢◌, ℕ, suc, true, false, ◌&&◌, Some, None, [], ◌∷◌, ◌++◌, slice_get}
+use Rattle.std.specs.Prelude.{◌≡◌, ◌≢◌, ℕ, suc, true, false, ◌&&◌, Some, None, [], ◌∷◌, ◌++◌, slice_get, List}
 use Rattle.geom_core.specs.Points.{Point}
 use Rattle.geom_core.specs.Areas.{any_holds, meets}
 use Rattle.geom_core.specs.Grid.{Key}
@@ -12,11 +12,12 @@ use Rattle.doc_model.specs.Jobs.{writes, apply, in_tile}
 use Rattle.doc_model.specs.Forest.{content, with_content}
 use Rattle.doc_model.specs.Strokes.{Stroke, Exports, runs, is_uni}
 use Rattle.machine_model.specs.State.{Painter, Walker, Paints, Walks, State, head, head_stroke}
-use Rattle.machine_model.specs.Event.{Start, Publish, Cancel, Act}
+use Rattle.machine_model.specs.Event.{Event, Start, Publish, Cancel, Act}
 use Rattle.machine_model.specs.Slots.{no_painter, no_walker}
 use Rattle.machine_model.specs.Guards.{kept_jobs}
 use Rattle.machine_model.specs.Step.{Step}
 use Rattle.machine_model.specs.Sound.{IsOrderly}
+use Rattle.machine_model.specs.SoundnessLaws.{IsReached}
 
 -- a job of that kind of the stroke at the head is at work in the slot
 pub record RunsAs (s : State) (place : ℕ) (kind : Kind) : Type 0 where
@@ -39,6 +40,10 @@ OnlyRunsShare = (s : State) (p q : ℕ) (a b : Kind) → IsOrderly s → RunsAs 
 -- as a barrier of a stroke that isn't exclusive starts, no walk is at work and none waits
 abbrev pub BarrierStartsClean : Type 0
 BarrierStartsClean = (old new : State) (place : ℕ) → Step old (Start place) new → (job : RunsAs new place Bar) → job.stroke.exclusive ≡ false → (no_walker new ≡ true) × (new.updates ≡ [])
+
+-- and so it stays as long as the barrier is at work
+abbrev pub BarrierStaysClean : Type 0
+BarrierStaysClean = (events : List Event) (s : State) (place : ℕ) → IsReached events s → (job : RunsAs s place Bar) → job.stroke.exclusive ≡ false → (no_walker s ≡ true) × (s.updates ≡ [])
 
 -- jobs start in the order of their list
 pub record StartsNext (old new : State) (place : ℕ) : Type 0 where

@@ -1,6 +1,6 @@
 //! Who is never at work beside whom, and what the events leave alone.
 
-ghost use Rattle.machine_model.specs.GuardLaws.{OnlyRunsShare, BarrierStartsClean, JobsStartInOrder, ExclusiveHasNoWalk, WalksNeverMeet, PublishStaysInTile, CancelPutsBack, ExportWaits};
+ghost use Rattle.machine_model.specs.GuardLaws.{OnlyRunsShare, BarrierStartsClean, BarrierStaysClean, JobsStartInOrder, ExclusiveHasNoWalk, WalksNeverMeet, PublishStaysInTile, CancelPutsBack, ExportWaits};
 
 /// A sequential job and a barrier are at work alone, and so is a uniquely concurrent job among its like.
 pub fn only_runs_share()
@@ -10,6 +10,11 @@ pub fn only_runs_share()
 /// A barrier starts with no walk at work and none waiting, unless its stroke is exclusive.
 pub fn barrier_starts_clean()
     ensures { BarrierStartsClean }
+{}
+
+/// As long as a barrier is at work no walk is and none waits, unless its stroke is exclusive.
+pub fn barrier_stays_clean()
+    ensures { BarrierStaysClean }
 {}
 
 /// Jobs start in the order of their list.
