@@ -26,7 +26,7 @@ use Rattle.machine_model.specs.State.{Reach, Whole, Part, Painter, Walker, Slot,
 use Rattle.machine_model.specs.Groups.{path_of, on, parent_of}
 use Rattle.machine_model.specs.Slots.{is_walker}
 use Rattle.machine_model.specs.Step.{ActStep}
-use Rattle.machine_model.specs.Effects.{queue_bound, bound_of, acts, acts_change, acts_undo, acts_redo, moved_to, tells}
+use Rattle.machine_model.specs.Effects.{updates_with, bound_of, after_entry, after_change, after_undo, after_redo, moved_to, with_outcome}
 use Rattle.machine_model.specs.Caches.{CachesFold, WalkIsRight}
 use Rattle.machine_model.specs.UnderWay.{IsOnWay, AtRest}
 use Rattle.machine_model.specs.Reached.{Reaches, ReachesOneLayer, PastReaches, FutureReaches, DifferWithin}
@@ -61,7 +61,7 @@ caches_whole old new grid canvas updates g p is inside' =
 
 -- other pixels in the tiles of one layer
 caches_part : (old new : State) (q : ℕ) (x y : Layer) (keys : FinSet key_cmp) → AtRest old → ((p : Point) → holds (canvas_area old.canvas) p ≡ true → in_grid p ≡ true) → IsTree old.base → content q old.base ≡ Some x → DifferWithin keys x y
-    → new.canvas ≡ old.canvas → new.present ≡ with_content q y old.base → new.caches ≡ old.caches → new.slots ≡ old.slots → new.updates ≡ queue_bound old (parent_of q (with_content q y old.base)) (bound_of (set.items keys)) → CachesFold old → CachesFold new
+    → new.canvas ≡ old.canvas → new.present ≡ with_content q y old.base → new.caches ≡ old.caches → new.slots ≡ old.slots → new.updates ≡ updates_with old (parent_of q (with_content q y old.base)) (bound_of (set.items keys)) → CachesFold old → CachesFold new
 caches_part old new q x y keys rest grid tree there same canvas present caches slots updates =
     caches_by old new canvas (λ g h. ap (grouped g) rest.same ∙ sym (grouped_with g q y old.base) ∙ ap (grouped g) (sym present) ∙ h)
     (λ g p is inside h. fold_at new caches present updates slots (point g p (ap (grouped g) (sym rest.same) ∙ is) inside (subst (λ d. FoldsAt old.caches d (up_of old) old.updates old.slots g p) rest.same h)))
@@ -70,7 +70,7 @@ caches_part old new q x y keys rest grid tree there same canvas present caches s
     doc' = with_content q y old.base
 
     queue : List Patch
-    queue = queue_bound old (parent_of q doc') (bound_of (set.items keys))
+    queue = updates_with old (parent_of q doc') (bound_of (set.items keys))
 
     is' : (g : ℕ) → grouped g old.base ≡ true → grouped g doc' ≡ true
     is' g is = grouped_with g q y old.base ∙ is
@@ -101,9 +101,9 @@ caches_moved old new target d Whole rest grid tree part canvas updates slots cac
 caches_moved old new target d (Part q keys) rest grid tree part canvas updates slots caches is fold =
     let e : (x y : Layer) × (content q old.base ≡ Some x) × (d ≡ with_content q y old.base) × DifferWithin keys x y = part q keys refl in
     caches_part old new q e.0 e.1 keys rest grid tree e.2 e.4 (ap (λ (s : State). s.canvas) is ∙ canvas) (ap (λ (s : State). s.present) is ∙ e.3) (ap (λ (s : State). s.caches) is ∙ caches) (ap (λ (s : State). s.slots) is ∙ slots)
-    (ap (λ (s : State). s.updates) is ∙ queue_same (bound_of (set.items keys)) ∙ ap (λ t. queue_bound old (parent_of q t) (bound_of (set.items keys))) e.3) fold
+    (ap (λ (s : State). s.updates) is ∙ queue_same (bound_of (set.items keys)) ∙ ap (λ t. updates_with old (parent_of q t) (bound_of (set.items keys))) e.3) fold
   where
-    queue_same : (o : Option Area) → queue_bound target (parent_of q d) o ≡ queue_bound old (parent_of q d) o
+    queue_same : (o : Option Area) → updates_with target (parent_of q d) o ≡ updates_with old (parent_of q d) o
     queue_same None = updates
     queue_same (Some rect) = λ i. queued (canvas_area (canvas i)) (updates i) (Up (parent_of q d)) rect
 
@@ -119,13 +119,13 @@ module _ (old new : State) (rest : AtRest old) (grid : (p : Point) → holds (ca
   acts_rest : (t : State) → new ≡ t → t.canvas ≡ old.canvas → t.present ≡ old.base → t.caches ≡ old.caches → t.updates ≡ old.updates → t.slots ≡ old.slots → CachesFold old → CachesFold new
   acts_rest t e a b c d f = caches_rest old new rest (ap (λ (s : State). s.canvas) e ∙ a) (ap (λ (s : State). s.present) e ∙ b) (ap (λ (s : State). s.caches) e ∙ c) (ap (λ (s : State). s.updates) e ∙ d) (ap (λ (s : State). s.slots) e ∙ f)
 
-  by_change : (r : Result Doc TreeFault) → new ≡ acts_change old r → CachesFold old → CachesFold new
+  by_change : (r : Result Doc TreeFault) → new ≡ after_change old r → CachesFold old → CachesFold new
   by_change (Err fault) e fold = acts_rest _ e refl refl refl refl refl fold
   by_change (Ok d) e fold = caches_whole old new grid (ap (λ (s : State). s.canvas) e) (ap (λ (s : State). s.updates) e)
 
-  by_undo : (past : List (Doc × Reach)) → AllTrees past → PastReaches past old.base → new ≡ acts_undo old past → CachesFold old → CachesFold new
+  by_undo : (past : List (Doc × Reach)) → AllTrees past → PastReaches past old.base → new ≡ after_undo old past → CachesFold old → CachesFold new
   by_undo [] trees reaches e = acts_rest _ e refl refl refl refl refl
-  by_undo (d ∷ past) trees reaches e = caches_moved old new (record (tells old outcome.Done) { past = past; future = (old.base, d.1) ∷ old.future }) d.0 d.1 rest grid tree part refl refl refl refl e
+  by_undo (d ∷ past) trees reaches e = caches_moved old new (record (with_outcome old outcome.Done) { past = past; future = (old.base, d.1) ∷ old.future }) d.0 d.1 rest grid tree part refl refl refl refl e
     where
       part : (q : ℕ) (keys : FinSet key_cmp) → d.1 ≡ Part q keys → (x y : Layer) × (content q old.base ≡ Some x) × (d.0 ≡ with_content q y old.base) × DifferWithin keys x y
       part q keys is =
@@ -137,16 +137,16 @@ module _ (old new : State) (rest : AtRest old) (grid : (p : Point) → holds (ca
             record { default_pixel = sym r.within.default_pixel; pixels = λ p out. sym (r.within.pixels p out) },
           )
 
-  by_redo : (future : List (Doc × Reach)) → FutureReaches old.base future → new ≡ acts_redo old future → CachesFold old → CachesFold new
+  by_redo : (future : List (Doc × Reach)) → FutureReaches old.base future → new ≡ after_redo old future → CachesFold old → CachesFold new
   by_redo [] reaches e = acts_rest _ e refl refl refl refl refl
-  by_redo (d ∷ future) reaches e = caches_moved old new (record (tells old outcome.Done) { past = (old.base, d.1) ∷ old.past; future = future }) d.0 d.1 rest grid tree part refl refl refl refl e
+  by_redo (d ∷ future) reaches e = caches_moved old new (record (with_outcome old outcome.Done) { past = (old.base, d.1) ∷ old.past; future = future }) d.0 d.1 rest grid tree part refl refl refl refl e
     where
       part : (q : ℕ) (keys : FinSet key_cmp) → d.1 ≡ Part q keys → (x y : Layer) × (content q old.base ≡ Some x) × (d.0 ≡ with_content q y old.base) × DifferWithin keys x y
       part q keys is =
           let r : ReachesOneLayer q keys old.base d.0 = subst (λ r. Reaches r old.base d.0) is reaches.0 in
           (r.before, r.after, r.was, r.changed, r.within)
 
-  by_entry : (e : Entry) → stroke_free e → AllTrees old.past → PastReaches old.past old.base → FutureReaches old.base old.future → new ≡ acts old e → CachesFold old → CachesFold new
+  by_entry : (e : Entry) → stroke_free e → AllTrees old.past → PastReaches old.past old.base → FutureReaches old.base old.future → new ≡ after_entry old e → CachesFold old → CachesFold new
   by_entry (Strokes stroke) free trees past future e = absurd free
   by_entry (Changes change) free trees past future e = by_change (changed plain change old.base) e
   by_entry Undoes free trees past future e = by_undo old.past trees past e
@@ -175,11 +175,11 @@ no_walks s (Free ∷ slots) e = (tt, no_walks s slots e)
 no_walks s (Paints w ∷ slots) e = (tt, no_walks s slots e)
 no_walks s (Walks w ∷ slots) e = absurd (let t : true ≡ false = e in cc)
 
-pub slots_act : (old : State) (e : Entry) → (acts old e).slots ≡ old.slots
+pub slots_act : (old : State) (e : Entry) → (after_entry old e).slots ≡ old.slots
 slots_act old (Strokes stroke) = refl
 slots_act old (Changes change) = go (changed plain change old.base)
   where
-    go : (r : Result Doc TreeFault) → (acts_change old r).slots ≡ old.slots
+    go : (r : Result Doc TreeFault) → (after_change old r).slots ≡ old.slots
     go (Ok d) = refl
     go (Err f) = refl
 slots_act old Undoes = go old.past
@@ -188,18 +188,18 @@ slots_act old Undoes = go old.past
     moved t d Whole = refl
     moved t d (Part q keys) = refl
 
-    go : (past : List (Doc × Reach)) → (acts_undo old past).slots ≡ old.slots
+    go : (past : List (Doc × Reach)) → (after_undo old past).slots ≡ old.slots
     go [] = refl
-    go (e ∷ past) = moved (record (tells old outcome.Done) { past = past; future = (old.base, e.1) ∷ old.future }) e.0 e.1
+    go (e ∷ past) = moved (record (with_outcome old outcome.Done) { past = past; future = (old.base, e.1) ∷ old.future }) e.0 e.1
 slots_act old Redoes = go old.future
   where
     moved : (t : State) (d : Doc) (r : Reach) → (moved_to t d r).slots ≡ t.slots
     moved t d Whole = refl
     moved t d (Part q keys) = refl
 
-    go : (future : List (Doc × Reach)) → (acts_redo old future).slots ≡ old.slots
+    go : (future : List (Doc × Reach)) → (after_redo old future).slots ≡ old.slots
     go [] = refl
-    go (e ∷ future) = moved (record (tells old outcome.Done) { past = (old.base, e.1) ∷ old.past; future = future }) e.0 e.1
+    go (e ∷ future) = moved (record (with_outcome old outcome.Done) { past = (old.base, e.1) ∷ old.past; future = future }) e.0 e.1
 slots_act old (Purges n) = refl
 slots_act old Exports = refl
 
@@ -207,23 +207,23 @@ moved_canvas : (t : State) (d : Doc) (r : Reach) → (moved_to t d r).canvas ≡
 moved_canvas t d Whole = refl
 moved_canvas t d (Part q keys) = refl
 
-pub canvas_act : (old : State) (e : Entry) → (acts old e).canvas ≡ old.canvas
+pub canvas_act : (old : State) (e : Entry) → (after_entry old e).canvas ≡ old.canvas
 canvas_act old (Strokes stroke) = refl
 canvas_act old (Changes change) = go (changed plain change old.base)
   where
-    go : (r : Result Doc TreeFault) → (acts_change old r).canvas ≡ old.canvas
+    go : (r : Result Doc TreeFault) → (after_change old r).canvas ≡ old.canvas
     go (Ok d) = refl
     go (Err f) = refl
 canvas_act old Undoes = go old.past
   where
-    go : (past : List (Doc × Reach)) → (acts_undo old past).canvas ≡ old.canvas
+    go : (past : List (Doc × Reach)) → (after_undo old past).canvas ≡ old.canvas
     go [] = refl
-    go (e ∷ past) = moved_canvas (record (tells old outcome.Done) { past = past; future = (old.base, e.1) ∷ old.future }) e.0 e.1
+    go (e ∷ past) = moved_canvas (record (with_outcome old outcome.Done) { past = past; future = (old.base, e.1) ∷ old.future }) e.0 e.1
 canvas_act old Redoes = go old.future
   where
-    go : (future : List (Doc × Reach)) → (acts_redo old future).canvas ≡ old.canvas
+    go : (future : List (Doc × Reach)) → (after_redo old future).canvas ≡ old.canvas
     go [] = refl
-    go (e ∷ future) = moved_canvas (record (tells old outcome.Done) { past = (old.base, e.1) ∷ old.past; future = future }) e.0 e.1
+    go (e ∷ future) = moved_canvas (record (with_outcome old outcome.Done) { past = (old.base, e.1) ∷ old.past; future = future }) e.0 e.1
 canvas_act old (Purges n) = refl
 canvas_act old Exports = refl
 

@@ -29,7 +29,7 @@ use Rattle.machine_model.specs.State.{Reach, Whole, Part, State, Slot, story, he
 use Rattle.machine_model.specs.Slots.{is_walker, no_walker}
 use Rattle.machine_model.specs.Groups.{parent_of}
 use Rattle.machine_model.specs.Guards.{is_exclusive}
-use Rattle.machine_model.specs.Effects.{queue_bound, bound_of, moved_to, tells, acts, acts_change, acts_undo, acts_redo}
+use Rattle.machine_model.specs.Effects.{updates_with, bound_of, moved_to, with_outcome, after_entry, after_change, after_undo, after_redo}
 use Rattle.machine_model.specs.Step.{ActStep}
 use Rattle.machine_model.specs.Reached.{PastReaches, FutureReaches, Reached}
 use Rattle.machine_model.specs.UnderWay.{AtRest, UnderWay, IsOnWay}
@@ -69,7 +69,7 @@ record Rests (s : State) : Type 0 where
   groups : GroupsOf s.present s.updates
   reached : Reached s
 
-tells_acted : (s : State) (o : Outcome) → Rests s → Acted s (tells s o)
+tells_acted : (s : State) (o : Outcome) → Rests s → Acted s (with_outcome s o)
 tells_acted s o r = record {
   fed = refl;
   canvas = refl;
@@ -111,7 +111,7 @@ part_acted s t new id keys fed canvas slots next way updates r groups reached = 
   next = next;
   way = way;
   same = refl;
-  queue = subst (λ c. IsQueue (canvas_area c) (queue_bound t (parent_of id new) (bound_of (set.items keys)))) canvas (bound_right t (parent_of id new) (bound_of (set.items keys)) (subst (λ c. IsQueue (canvas_area c) t.updates) (sym canvas) (subst (IsQueue (canvas_area s.canvas)) (sym updates) r.queue)));
+  queue = subst (λ c. IsQueue (canvas_area c) (updates_with t (parent_of id new) (bound_of (set.items keys)))) canvas (bound_right t (parent_of id new) (bound_of (set.items keys)) (subst (λ c. IsQueue (canvas_area c) t.updates) (sym canvas) (subst (IsQueue (canvas_area s.canvas)) (sym updates) r.queue)));
   groups = bound_groups t new (parent_of id new) (bound_of (set.items keys)) (parent_stands id new) (subst (GroupsOf new) (sym updates) groups);
   reached = reached;
 }
@@ -125,34 +125,34 @@ groups_forth : (id : ℕ) (a b : Layer) (old new : Doc) (ps : List Patch) → Is
 groups_forth id a b old new ps tree was is h = all_map (λ (p : Patch). IsGroupOf old p.walk) (λ (p : Patch). IsGroupOf new p.walk) ps
     (λ p k. subst (λ d. IsGroupOf d p.walk) (sym is) (group_with p.walk id a b old (subst (λ d. IsGroupOf d p.walk) (sym (with_same id a old (tree_distinct old tree) was)) k))) h
 
-change_acted : (s : State) (r : Result Doc TreeFault) → Rests s → Acted s (acts_change s r)
+change_acted : (s : State) (r : Result Doc TreeFault) → Rests s → Acted s (after_change s r)
 change_acted s (Err fault) r = tells_acted s (outcome.Tree fault) r
-change_acted s (Ok new) r = whole_acted s (record (tells s outcome.Done) { past = (s.base, Whole) ∷ s.past; future = [] }) new refl refl refl refl refl refl r (record { past = (tt, r.reached.past); future = tt })
+change_acted s (Ok new) r = whole_acted s (record (with_outcome s outcome.Done) { past = (s.base, Whole) ∷ s.past; future = [] }) new refl refl refl refl refl refl r (record { past = (tt, r.reached.past); future = tt })
 
-undo_over : (s : State) (doc : Doc) (reach : Reach) (past : List (Doc × Reach)) → s.past ≡ (doc, reach) ∷ past → Rests s → Acted s (moved_to (record (tells s outcome.Done) { past = past; future = (s.base, reach) ∷ s.future }) doc reach)
-undo_over s doc Whole past e r = whole_acted s (record (tells s outcome.Done) { past = past; future = (s.base, Whole) ∷ s.future }) doc refl refl refl refl refl refl r
+undo_over : (s : State) (doc : Doc) (reach : Reach) (past : List (Doc × Reach)) → s.past ≡ (doc, reach) ∷ past → Rests s → Acted s (moved_to (record (with_outcome s outcome.Done) { past = past; future = (s.base, reach) ∷ s.future }) doc reach)
+undo_over s doc Whole past e r = whole_acted s (record (with_outcome s outcome.Done) { past = past; future = (s.base, Whole) ∷ s.future }) doc refl refl refl refl refl refl r
     (record { past = (subst (λ ps. PastReaches ps s.base) e r.reached.past).1; future = (tt, r.reached.future) })
 undo_over s doc (Part id keys) past e r =
     let near : PastReaches ((doc, Part id keys) ∷ past) s.base = subst (λ ps. PastReaches ps s.base) e r.reached.past in
     let tree : AllByRecursion (IsTree {A = Layer}) (map (λ (e : Doc × Reach). e.0) ((doc, Part id keys) ∷ past)) = subst (λ ps. AllByRecursion (IsTree {A = Layer}) (map (λ (e : Doc × Reach). e.0) ps)) e r.trees.past in
-    part_acted s (record (tells s outcome.Done) { past = past; future = (s.base, Part id keys) ∷ s.future }) doc id keys refl refl refl refl refl refl r
+    part_acted s (record (with_outcome s outcome.Done) { past = past; future = (s.base, Part id keys) ∷ s.future }) doc id keys refl refl refl refl refl refl r
     (groups_back id near.0.before near.0.after doc s.base s.updates tree.0 near.0.was near.0.changed (subst (λ d. GroupsOf d s.updates) r.same r.groups))
     (record { past = near.1; future = (near.0, r.reached.future) })
 
-undo_acted : (s : State) (past : List (Doc × Reach)) → s.past ≡ past → Rests s → Acted s (acts_undo s past)
+undo_acted : (s : State) (past : List (Doc × Reach)) → s.past ≡ past → Rests s → Acted s (after_undo s past)
 undo_acted s [] e r = tells_acted s outcome.NothingToUndo r
 undo_acted s (d ∷ past) e r = undo_over s d.0 d.1 past e r
 
-redo_over : (s : State) (doc : Doc) (reach : Reach) (future : List (Doc × Reach)) → s.future ≡ (doc, reach) ∷ future → Rests s → Acted s (moved_to (record (tells s outcome.Done) { past = (s.base, reach) ∷ s.past; future = future }) doc reach)
-redo_over s doc Whole future e r = whole_acted s (record (tells s outcome.Done) { past = (s.base, Whole) ∷ s.past; future = future }) doc refl refl refl refl refl refl r
+redo_over : (s : State) (doc : Doc) (reach : Reach) (future : List (Doc × Reach)) → s.future ≡ (doc, reach) ∷ future → Rests s → Acted s (moved_to (record (with_outcome s outcome.Done) { past = (s.base, reach) ∷ s.past; future = future }) doc reach)
+redo_over s doc Whole future e r = whole_acted s (record (with_outcome s outcome.Done) { past = (s.base, Whole) ∷ s.past; future = future }) doc refl refl refl refl refl refl r
     (record { past = (tt, r.reached.past); future = (subst (FutureReaches s.base) e r.reached.future).1 })
 redo_over s doc (Part id keys) future e r =
     let near : FutureReaches s.base ((doc, Part id keys) ∷ future) = subst (FutureReaches s.base) e r.reached.future in
-    part_acted s (record (tells s outcome.Done) { past = (s.base, Part id keys) ∷ s.past; future = future }) doc id keys refl refl refl refl refl refl r
+    part_acted s (record (with_outcome s outcome.Done) { past = (s.base, Part id keys) ∷ s.past; future = future }) doc id keys refl refl refl refl refl refl r
     (groups_forth id near.0.before near.0.after s.base doc s.updates r.trees.document near.0.was near.0.changed (subst (λ d. GroupsOf d s.updates) r.same r.groups))
     (record { past = (near.0, r.reached.past); future = near.1 })
 
-redo_acted : (s : State) (future : List (Doc × Reach)) → s.future ≡ future → Rests s → Acted s (acts_redo s future)
+redo_acted : (s : State) (future : List (Doc × Reach)) → s.future ≡ future → Rests s → Acted s (after_redo s future)
 redo_acted s [] e r = tells_acted s outcome.NothingToRedo r
 redo_acted s (d ∷ future) e r = redo_over s d.0 d.1 future e r
 
@@ -161,7 +161,7 @@ past_taken zero past now h = tt
 past_taken (suc n) [] now h = tt
 past_taken (suc n) (e ∷ past) now h = (h.0, past_taken n past e.0 h.1)
 
-acted : (s : State) (e : Entry) → IsPlain e → Rests s → Acted s (acts s e)
+acted : (s : State) (e : Entry) → IsPlain e → Rests s → Acted s (after_entry s e)
 acted s (Strokes stroke) p r = absurd p
 acted s (Changes change) p r = change_acted s (changed plain change s.base) r
 acted s Undoes p r = undo_acted s s.past refl r
@@ -230,7 +230,7 @@ act_keeps old new sound step = subst IsOrderly (sym step.new_is) (record {
 })
   where
     next : State
-    next = acts old step.entry
+    next = after_entry old step.entry
 
     begun : old.way ≡ None
     begun = go old.way refl

@@ -13,7 +13,7 @@ use Rattle.doc_model.specs.Strokes.{Stroke}
 use Rattle.machine_model.specs.State.{Painter, Walker, Slot, Free, Paints, Walks, State, head_stroke, new_state}
 use Rattle.machine_model.specs.Slots.{is_painter, is_walker, no_painter, no_walker}
 use Rattle.machine_model.specs.Guards.{kept_jobs, is_paint}
-use Rattle.machine_model.specs.Effects.{finished}
+use Rattle.machine_model.specs.Effects.{after_finish}
 use Rattle.machine_model.specs.Event.{Event, Feed, Init, Start, Publish, End, Finish, Cancel, Act, WalkStart, WalkPublish, WalkEnd}
 use Rattle.machine_model.specs.Step.{Step, Run, StartStep, PublishStep, EndStep, WalkStartStep}
 use Rattle.machine_model.specs.UnderWay.{SlotIsStarted, UnderWay, IsOnWay, AtRest}
@@ -157,7 +157,7 @@ step_clear old new (Publish place key) sound sound' step clear = publish_clear o
 step_clear old new (End place) sound sound' step clear = end_clear old new place sound step
 step_clear old new Finish sound sound' step clear = by_finish (is_paint step.stroke.layer old.base) step.new_is
   where
-    by_finish : (b : Bool) → new ≡ finished old step.stroke b → BarrierIsClear new
+    by_finish : (b : Bool) → new ≡ after_finish old step.stroke b → BarrierIsClear new
     by_finish true e = subst BarrierIsClear (sym e) (idle_clear _ (finish_idle old new step sound.on_way))
     by_finish false e = subst BarrierIsClear (sym e) (idle_clear _ (finish_idle old new step sound.on_way))
 step_clear old new Cancel sound sound' step clear = subst BarrierIsClear (sym step.new_is) (idle_clear _ step.idle)

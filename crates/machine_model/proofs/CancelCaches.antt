@@ -27,7 +27,7 @@ use Rattle.machine_model.specs.State.{Child, Walker, Slot, State}
 use Rattle.machine_model.specs.Groups.{with_pixels, nodes_in, path_of, on, parent_of}
 use Rattle.machine_model.specs.Slots.{is_painter, done}
 use Rattle.machine_model.specs.Step.{CancelStep}
-use Rattle.machine_model.specs.Effects.{queue_bound, bound_of, writes_of, started}
+use Rattle.machine_model.specs.Effects.{updates_with, bound_of, writes_of, started_jobs}
 use Rattle.machine_model.specs.Guards.{kept_jobs}
 use Rattle.machine_model.specs.Caches.{CachesFold, WalkIsRight}
 use Rattle.machine_model.specs.Walking.{WalkStands, IsGroupOf}
@@ -85,10 +85,10 @@ module _ (old new : State) (tree : IsTree old.base) (present_tree : IsTree old.p
   q = step.stroke.layer
 
   abbrev rects : List Area
-  rects = writes_of (started old step.stroke)
+  rects = writes_of (started_jobs old step.stroke)
 
   abbrev queue : List Patch
-  queue = queue_bound old (parent_of q old.present) (bound_of (set.items (key_set rects)))
+  queue = updates_with old (parent_of q old.present) (bound_of (set.items (key_set rects)))
 
   abbrev touched : Point → Bool
   touched p = any_holds rects p

@@ -17,7 +17,7 @@ use Rattle.doc_model.proofs.SameContent.{with_same}
 use Rattle.machine_model.specs.State.{State, story, head, head_stroke}
 use Rattle.machine_model.specs.Groups.{parent_of}
 use Rattle.machine_model.specs.Guards.{is_closed, is_cancelled, overlaps, is_exclusive, kept_jobs}
-use Rattle.machine_model.specs.Effects.{queue_bound, bound_of, writes_of, started, cancel_outcome}
+use Rattle.machine_model.specs.Effects.{updates_with, bound_of, writes_of, started_jobs, cancel_outcome}
 use Rattle.machine_model.specs.Step.{CancelStep}
 use Rattle.machine_model.specs.UnderWay.{IsOnWay}
 use Rattle.machine_model.specs.Walking.{IsGroupOf}
@@ -33,11 +33,11 @@ use Rattle.machine_model.proofs.LeavingCounts.{jobs_left, kept_few}
 use Rattle.machine_model.proofs.JobKeeps.{parent_stands}
 
 -- one rectangle or none is queued
-pub bound_right : (s : State) (g : ℕ) (o : Option Area) → IsQueue (canvas_area s.canvas) s.updates → IsQueue (canvas_area s.canvas) (queue_bound s g o)
+pub bound_right : (s : State) (g : ℕ) (o : Option Area) → IsQueue (canvas_area s.canvas) s.updates → IsQueue (canvas_area s.canvas) (updates_with s g o)
 bound_right s g None q = q
 bound_right s g (Some rect) q = queued_right (canvas_area s.canvas) s.updates (Up g) rect q
 
-pub bound_groups : (s : State) (doc : Doc) (g : ℕ) (o : Option Area) → IsGroupOf doc (Up g) → AllByRecursion (λ (p : Patch). IsGroupOf doc p.walk) s.updates → AllByRecursion (λ (p : Patch). IsGroupOf doc p.walk) (queue_bound s g o)
+pub bound_groups : (s : State) (doc : Doc) (g : ℕ) (o : Option Area) → IsGroupOf doc (Up g) → AllByRecursion (λ (p : Patch). IsGroupOf doc p.walk) s.updates → AllByRecursion (λ (p : Patch). IsGroupOf doc p.walk) (updates_with s g o)
 bound_groups s doc g None new h = h
 bound_groups s doc g (Some rect) new h = queued_each (IsGroupOf doc) (canvas_area s.canvas) s.updates (Up g) rect new tt h
 
@@ -85,20 +85,20 @@ cancel_keeps old new sound step = subst IsOrderly (sym step.new_is) (record {
 })
   where
     rect : Option Area
-    rect = bound_of (set.items (key_set (writes_of (started old step.stroke))))
+    rect = bound_of (set.items (key_set (writes_of (started_jobs old step.stroke))))
 
     next : State
     next = record old {
       present = old.base;
       outcomes = old.outcomes ++ cancel_outcome (conflict step.stroke.jobs) ∷ [];
       way = None;
-      updates = queue_bound old (parent_of step.stroke.layer old.present) (bound_of (set.items (key_set (writes_of (started old step.stroke)))));
+      updates = updates_with old (parent_of step.stroke.layer old.present) (bound_of (set.items (key_set (writes_of (started_jobs old step.stroke)))));
     }
 
     is_head : head old ≡ Some (Strokes step.stroke)
     is_head = head_is (head old) step.stroke step.at_head
 
-    right : IsQueue (canvas_area old.canvas) (queue_bound old (parent_of step.stroke.layer old.present) rect)
+    right : IsQueue (canvas_area old.canvas) (updates_with old (parent_of step.stroke.layer old.present) rect)
     right = bound_right old (parent_of step.stroke.layer old.present) rect sound.walking.queue
 
     shape : SameShape old next

@@ -9,7 +9,7 @@ use Rattle.doc_model.specs.Strokes.{Entry, Strokes, Changes, Undoes, Redoes, Pur
 use Rattle.machine_model.specs.State.{Reach, Whole, Part, State}
 use Rattle.machine_model.specs.Event.{Event, Feed, Init, Start, Publish, End, Finish, Cancel, Act, WalkStart, WalkPublish, WalkEnd}
 use Rattle.machine_model.specs.Guards.{is_paint}
-use Rattle.machine_model.specs.Effects.{acts, acts_change, acts_undo, acts_redo, moved_to, tells, finished}
+use Rattle.machine_model.specs.Effects.{after_entry, after_change, after_undo, after_redo, moved_to, with_outcome, after_finish}
 use Rattle.machine_model.specs.Step.{Step, FinishStep}
 use Rattle.machine_model.specs.SoundnessLaws.{Continues, RunsContinue, fed_by}
 use Rattle.machine_model.proofs.SlotChanges.{length_set}
@@ -34,7 +34,7 @@ one_more old new canvas slots fed o outcomes frames = record {
   frames = ([], frames ∙ sym (append-nil old.frames));
 }
 
-by_change : (s : State) (r : Result Doc TreeFault) → Continues [] s (acts_change s r)
+by_change : (s : State) (r : Result Doc TreeFault) → Continues [] s (after_change s r)
 by_change s (Ok new) = one_more s _ refl refl refl Done refl refl
 by_change s (Err fault) = one_more s _ refl refl refl _ refl refl
 
@@ -42,15 +42,15 @@ by_reach : (s t : State) (d : Doc) (r : Reach) → Continues [] s t → Continue
 by_reach s t d Whole h = record { canvas = h.canvas; slots = h.slots; fed = h.fed; outcomes = h.outcomes; frames = h.frames }
 by_reach s t d (Part id keys) h = record { canvas = h.canvas; slots = h.slots; fed = h.fed; outcomes = h.outcomes; frames = h.frames }
 
-by_undo : (s : State) (past : List (Doc × Reach)) → Continues [] s (acts_undo s past)
+by_undo : (s : State) (past : List (Doc × Reach)) → Continues [] s (after_undo s past)
 by_undo s [] = one_more s _ refl refl refl _ refl refl
-by_undo s (e ∷ past) = by_reach s _ e.0 e.1 (one_more s (record (tells s Done) { past = past; future = (s.base, e.1) ∷ s.future }) refl refl refl Done refl refl)
+by_undo s (e ∷ past) = by_reach s _ e.0 e.1 (one_more s (record (with_outcome s Done) { past = past; future = (s.base, e.1) ∷ s.future }) refl refl refl Done refl refl)
 
-by_redo : (s : State) (future : List (Doc × Reach)) → Continues [] s (acts_redo s future)
+by_redo : (s : State) (future : List (Doc × Reach)) → Continues [] s (after_redo s future)
 by_redo s [] = one_more s _ refl refl refl _ refl refl
-by_redo s (e ∷ future) = by_reach s _ e.0 e.1 (one_more s (record (tells s Done) { past = (s.base, e.1) ∷ s.past; future = future }) refl refl refl Done refl refl)
+by_redo s (e ∷ future) = by_reach s _ e.0 e.1 (one_more s (record (with_outcome s Done) { past = (s.base, e.1) ∷ s.past; future = future }) refl refl refl Done refl refl)
 
-by_entry : (s : State) (e : Entry) → Continues [] s (acts s e)
+by_entry : (s : State) (e : Entry) → Continues [] s (after_entry s e)
 by_entry s (Strokes stroke) = still s _ refl refl refl refl refl
 by_entry s (Changes change) = by_change s (changed plain change s.base)
 by_entry s Undoes = by_undo s s.past
@@ -58,7 +58,7 @@ by_entry s Redoes = by_redo s s.future
 by_entry s (Purges n) = one_more s _ refl refl refl Done refl refl
 by_entry s Exports = record { canvas = refl; slots = refl; fed = sym (append-nil s.fed); outcomes = (_, refl); frames = (_, refl) }
 
-by_finish : (old new : State) (step : FinishStep old new) (b : Bool) → new ≡ finished old step.stroke b → Continues [] old new
+by_finish : (old new : State) (step : FinishStep old new) (b : Bool) → new ≡ after_finish old step.stroke b → Continues [] old new
 by_finish old new step false e = subst (Continues [] old) (sym e) (one_more old _ refl refl refl _ refl refl)
 by_finish old new step true e = subst (Continues [] old) (sym e) (one_more old _ refl refl refl _ refl refl)
 

@@ -6,7 +6,7 @@ use Rattle.doc_model.specs.Layers.{at}
 use Rattle.doc_model.specs.Picture.{picture, frame, canvas_area}
 use Rattle.machine_model.specs.State.{State}
 use Rattle.machine_model.specs.Groups.{cache}
-use Rattle.machine_model.specs.Effects.{acts}
+use Rattle.machine_model.specs.Effects.{after_entry}
 use Rattle.machine_model.specs.PictureLaws.{CachesAreFolds, CleanIsFrame, ExportIsFrame, IsClean, cached_frame}
 use Rattle.machine_model.specs.UnderWay.{AtRest}
 use Rattle.machine_model.proofs.ActCaches.{at_rest}
@@ -23,7 +23,7 @@ clean_is_frame s sound clean = same_list (λ p. on_paper (at (cache s.caches 0) 
 pub export_is_frame : ExportIsFrame
 export_is_frame old new sound at_head step = record {
   clean = clean;
-  frames = ap (λ (s : State). s.frames) (step.new_is ∙ ap (acts old) same) ∙ ap (λ f. old.frames ++ f ∷ []) (ap (λ d. frame d old.canvas) (sym rest.same) ∙ sym whole);
+  frames = ap (λ (s : State). s.frames) (step.new_is ∙ ap (after_entry old) same) ∙ ap (λ f. old.frames ++ f ∷ []) (ap (λ d. frame d old.canvas) (sym rest.same) ∙ sym whole);
   is_frame = whole;
 }
   where

@@ -19,7 +19,7 @@ use Rattle.doc_model.specs.Meaning.{Story, told_stroke, closed_stroke, laid_stro
 use Rattle.machine_model.specs.State.{State, story, head, head_stroke}
 use Rattle.machine_model.specs.Slots.{no_painter, done}
 use Rattle.machine_model.specs.Guards.{kept_jobs, is_ended, is_paint, is_exclusive}
-use Rattle.machine_model.specs.Effects.{writes_of, no_paint, finished}
+use Rattle.machine_model.specs.Effects.{writes_of, no_paint_outcome, after_finish}
 use Rattle.machine_model.specs.Step.{FinishStep}
 use Rattle.machine_model.specs.Reached.{ReachesOneLayer}
 use Rattle.machine_model.specs.UnderWay.{AtRest, UnderWay, IsOnWay, writes_at, shown}
@@ -70,7 +70,7 @@ untouched jobs p out j = elim (true_or_false (any_holds (writes_at jobs j) p)) [
   | inr h ↦ h
 ]
 
-finish_nothing : (old : State) (stroke : Stroke) → IsOrderly old → head_stroke old ≡ Some stroke → is_ended stroke ≡ true → conflict stroke.jobs ≡ None → is_paint stroke.layer old.base ≡ false → IsOrderly (finished old stroke false)
+finish_nothing : (old : State) (stroke : Stroke) → IsOrderly old → head_stroke old ≡ Some stroke → is_ended stroke ≡ true → conflict stroke.jobs ≡ None → is_paint stroke.layer old.base ≡ false → IsOrderly (after_finish old stroke false)
 finish_nothing old stroke sound at_head closed clear none = record {
   told = told_more old next (Strokes stroke) sound.told is_head (ended_closed stroke closed) refl refl means;
   reached = record { past = sound.reached.past; future = sound.reached.future };
@@ -88,12 +88,12 @@ finish_nothing old stroke sound at_head closed clear none = record {
     below = sound.counted.below;
     differ = sound.counted.differ;
     own = sound.counted.own;
-    budget = budget old.next (length old.updates) _ _ _ _ (painters old.slots) _ _ sound.counted.budget (jobs_left old (Strokes stroke) (no_paint stroke.layer old.base) is_head) (length_last old.outcomes (no_paint stroke.layer old.base));
+    budget = budget old.next (length old.updates) _ _ _ _ (painters old.slots) _ _ sound.counted.budget (jobs_left old (Strokes stroke) (no_paint_outcome stroke.layer old.base) is_head) (length_last old.outcomes (no_paint_outcome stroke.layer old.base));
   };
 }
   where
     next : State
-    next = finished old stroke false
+    next = after_finish old stroke false
 
     is_head : head old ≡ Some (Strokes stroke)
     is_head = head_is (head old) stroke at_head
@@ -123,7 +123,7 @@ finish_nothing old stroke sound at_head closed clear none = record {
     budget k l j x j' e p o o' b f g = omega arith
 
 finish_whole : (old : State) (stroke : Stroke) → IsOrderly old → head_stroke old ≡ Some stroke → is_ended stroke ≡ true → conflict stroke.jobs ≡ None → is_paint stroke.layer old.base ≡ true
-    → old.way ≡ Some (length stroke.jobs) → no_painter old ≡ true → IsOrderly (finished old stroke true)
+    → old.way ≡ Some (length stroke.jobs) → no_painter old ≡ true → IsOrderly (after_finish old stroke true)
 finish_whole old stroke sound at_head closed clear paint begun idle = record {
   told = told_more old next (Strokes stroke) sound.told is_head (ended_closed stroke closed) refl refl means;
   reached = record { past = (reaches, sound.reached.past); future = tt };
@@ -146,7 +146,7 @@ finish_whole old stroke sound at_head closed clear paint begun idle = record {
 }
   where
     next : State
-    next = finished old stroke true
+    next = after_finish old stroke true
 
     is_head : head old ≡ Some (Strokes stroke)
     is_head = head_is (head old) stroke at_head
@@ -202,6 +202,6 @@ finish_keeps old new sound step = subst IsOrderly (sym step.new_is) (go (is_pain
     clear : conflict step.stroke.jobs ≡ None
     clear = is_some-None (conflict step.stroke.jobs) step.no_overlap
 
-    go : (b : Bool) → is_paint step.stroke.layer old.base ≡ b → IsOrderly (finished old step.stroke b)
+    go : (b : Bool) → is_paint step.stroke.layer old.base ≡ b → IsOrderly (after_finish old step.stroke b)
     go true e = let a : (old.way ≡ Some (length step.stroke.jobs)) × (no_painter old ≡ true) = step.all_ended e in finish_whole old step.stroke sound step.at_head step.ended clear e a.0 a.1
     go false e = finish_nothing old step.stroke sound step.at_head step.ended clear e

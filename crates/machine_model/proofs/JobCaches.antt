@@ -23,7 +23,7 @@ use Rattle.machine_model.specs.Guards.{is_paint}
 use Rattle.machine_model.specs.Groups.{path_of, on, parent_of, painted_group}
 use Rattle.machine_model.specs.Slots.{is_painter}
 use Rattle.machine_model.specs.Step.{InitStep, StartStep, EndStep, FinishStep}
-use Rattle.machine_model.specs.Effects.{finished, queue_all}
+use Rattle.machine_model.specs.Effects.{after_finish, updates_with_all}
 use Rattle.machine_model.specs.Slots.{no_painter}
 use Rattle.machine_model.specs.Caches.{CachesFold, WalkIsRight}
 use Rattle.machine_model.specs.Walking.{WalkStands, IsGroupOf}
@@ -64,12 +64,12 @@ walks_start old new place step stands inside right = subst (AllByRecursion (Walk
 
 -- End
 queue_all_stays : (covers : Walk → Bool) → ((w : Walk) → covers w ≡ true → covers All ≡ true) → (canvas : Area) (g : ℕ) (more : List Area) (patches : List Patch) (p : Point)
-    → in_grid p ≡ true → queued_for covers patches p ≡ true → queued_for covers (queue_all canvas g more patches) p ≡ true
+    → in_grid p ≡ true → queued_for covers patches p ≡ true → queued_for covers (updates_with_all canvas g more patches) p ≡ true
 queue_all_stays covers all canvas g [] patches p grid h = h
 queue_all_stays covers all canvas g (a ∷ more) patches p grid h = queue_all_stays covers all canvas g more (queued canvas patches (Up g) a) p grid (queued_stays covers all canvas patches (Up g) a p grid h)
 
 queue_all_takes : (covers : Walk → Bool) → ((w : Walk) → covers w ≡ true → covers All ≡ true) → (canvas : Area) (g : ℕ) (more : List Area) (patches : List Patch) (p : Point)
-    → in_grid p ≡ true → holds canvas p ≡ true → covers (Up g) ≡ true → any_holds more p ≡ true → queued_for covers (queue_all canvas g more patches) p ≡ true
+    → in_grid p ≡ true → holds canvas p ≡ true → covers (Up g) ≡ true → any_holds more p ≡ true → queued_for covers (updates_with_all canvas g more patches) p ≡ true
 queue_all_takes covers all canvas g [] patches p grid inside c h = absurd (let t : false ≡ true = h in cc)
 queue_all_takes covers all canvas g (a ∷ more) patches p grid inside c h = elim (or_cases (holds a p) (any_holds more p) h) [
   | inl e ↦ queue_all_stays covers all canvas g more (queued canvas patches (Up g) a) p grid (queued_takes covers all canvas patches (Up g) a p grid inside c e)
@@ -79,12 +79,12 @@ queue_all_takes covers all canvas g (a ∷ more) patches p grid inside c h = eli
 -- a job that ends leaves what it covered in the queue
 cov_ended : (keep : Slot → Bool) (doc : Doc) (h : ℕ) (canvas : Area) (updates : List Patch) (slots : List Slot) (i : ℕ) (w : Painter) (g : ℕ) (p : Point) → slice_get slots i ≡ Some (Paints w)
     → grouped g doc ≡ true → in_grid p ≡ true → holds canvas p ≡ true
-    → cov keep doc (path_of (Up h) doc) updates slots g p ≡ true → cov keep doc (path_of (Up h) doc) (queue_all canvas h (writes w.job) updates) (slice_set slots i Free) g p ≡ true
+    → cov keep doc (path_of (Up h) doc) updates slots g p ≡ true → cov keep doc (path_of (Up h) doc) (updates_with_all canvas h (writes w.job) updates) (slice_set slots i Free) g p ≡ true
 cov_ended keep doc h canvas updates slots i w g p runs is grid inside = either_covers _ _ _
     (λ e. or_left _ _ (queue_all_stays covers all canvas h (writes w.job) updates p grid e))
     (λ e. elim (any_set_or test slots i (Paints w) Free runs e) [
       | inl f ↦ or_left _ _ (queue_all_takes covers all canvas h (writes w.job) updates p grid inside (and_right (any_holds (writes w.job) p) _ (and_right (keep (Paints w)) _ f)) (and_left (any_holds (writes w.job) p) _ (and_right (keep (Paints w)) _ f)))
-      | inr f ↦ or_right (queued_for covers (queue_all canvas h (writes w.job) updates) p) _ f
+      | inr f ↦ or_right (queued_for covers (updates_with_all canvas h (writes w.job) updates) p) _ f
     ])
   where
     covers : Walk → Bool
@@ -104,9 +104,9 @@ caches_end old new place grid step = caches_by old new (ap (λ (s : State). s.ca
     (λ g p is inside h. subst (λ s. IsFold s g p) (sym step.new_is) (fold_covers (more g p is inside) h))
   where
     more : (g : ℕ) (p : Point) → grouped g old.present ≡ true → holds (canvas_area old.canvas) p ≡ true → cov anyone old.present (up_of old) old.updates old.slots g p ≡ true
-        → cov anyone old.present (up_of old) (queue_all (canvas_area old.canvas) (parent_of step.stroke.layer old.present) (writes step.painter.job) old.updates) (slice_set old.slots place Free) g p ≡ true
+        → cov anyone old.present (up_of old) (updates_with_all (canvas_area old.canvas) (parent_of step.stroke.layer old.present) (writes step.painter.job) old.updates) (slice_set old.slots place Free) g p ≡ true
     more g p is inside = subst (λ up. cov anyone old.present up old.updates old.slots g p ≡ true
-        → cov anyone old.present up (queue_all (canvas_area old.canvas) (parent_of step.stroke.layer old.present) (writes step.painter.job) old.updates) (slice_set old.slots place Free) g p ≡ true)
+        → cov anyone old.present up (updates_with_all (canvas_area old.canvas) (parent_of step.stroke.layer old.present) (writes step.painter.job) old.updates) (slice_set old.slots place Free) g p ≡ true)
         (sym (painted_by old step.stroke step.at_head))
         (cov_ended anyone old.present (parent_of step.stroke.layer old.present) (canvas_area old.canvas) old.updates old.slots place step.painter g p step.runs is (grid p inside) inside)
 
@@ -117,9 +117,9 @@ walks_end old new place grid groups step stands inside right = subst (AllByRecur
     (walks_by old new (λ w is path p g read held inside on' same h. subst (λ s. IsRead s w g read p) (sym step.new_is) (read_covers (more g p (groups w.patch.walk g is (ap (on g) (sym path) ∙ on')) inside) h)) old.slots stands inside right) tt)
   where
     more : (g : ℕ) (p : Point) → grouped g old.present ≡ true → holds (canvas_area old.canvas) p ≡ true → cov is_painter old.present (up_of old) old.updates old.slots g p ≡ true
-        → cov is_painter old.present (up_of old) (queue_all (canvas_area old.canvas) (parent_of step.stroke.layer old.present) (writes step.painter.job) old.updates) (slice_set old.slots place Free) g p ≡ true
+        → cov is_painter old.present (up_of old) (updates_with_all (canvas_area old.canvas) (parent_of step.stroke.layer old.present) (writes step.painter.job) old.updates) (slice_set old.slots place Free) g p ≡ true
     more g p is inside = subst (λ up. cov is_painter old.present up old.updates old.slots g p ≡ true
-        → cov is_painter old.present up (queue_all (canvas_area old.canvas) (parent_of step.stroke.layer old.present) (writes step.painter.job) old.updates) (slice_set old.slots place Free) g p ≡ true)
+        → cov is_painter old.present up (updates_with_all (canvas_area old.canvas) (parent_of step.stroke.layer old.present) (writes step.painter.job) old.updates) (slice_set old.slots place Free) g p ≡ true)
         (sym (painted_by old step.stroke step.at_head))
         (cov_ended is_painter old.present (parent_of step.stroke.layer old.present) (canvas_area old.canvas) old.updates old.slots place step.painter g p step.runs is (grid p inside) inside)
 
@@ -162,7 +162,7 @@ caches_finish old new step way = by_layer (is_paint step.stroke.layer old.base) 
     idle : list_any is_painter old.slots ≡ false
     idle = not_true _ (finish_idle old new step way)
 
-    by_layer : (b : Bool) → new ≡ finished old step.stroke b → CachesFold old → CachesFold new
+    by_layer : (b : Bool) → new ≡ after_finish old step.stroke b → CachesFold old → CachesFold new
     by_layer false e = caches_by old new (ap (λ (s : State). s.canvas) e) (λ g h. ap (λ (s : State). grouped g s.present) (sym e) ∙ h)
         (λ g p is inside h. subst (λ s. IsFold s g p) (sym e) (fold_covers (λ c. cov_idle anyone old.present _ _ old.updates old.slots g p idle ∙ c) h))
     by_layer true e = caches_by old new (ap (λ (s : State). s.canvas) e) (λ g h. ap (λ (s : State). grouped g s.present) (sym e) ∙ h)
@@ -174,7 +174,7 @@ walks_finish old new step way stands inside right = by_layer (is_paint step.stro
     idle : list_any is_painter old.slots ≡ false
     idle = not_true _ (finish_idle old new step way)
 
-    by_layer : (b : Bool) → new ≡ finished old step.stroke b → AllByRecursion (WalkIsRight new) new.slots
+    by_layer : (b : Bool) → new ≡ after_finish old step.stroke b → AllByRecursion (WalkIsRight new) new.slots
     by_layer false e = subst (AllByRecursion (WalkIsRight new)) (ap (λ (s : State). s.slots) (sym e))
         (walks_by old new (λ w is path p g read held inside on' same h. subst (λ s. IsRead s w g read p) (sym e) (read_covers (λ c. cov_idle is_painter old.present _ _ old.updates old.slots g p idle ∙ c) h)) old.slots stands inside right)
     by_layer true e = subst (AllByRecursion (WalkIsRight new)) (ap (λ (s : State). s.slots) (sym e))

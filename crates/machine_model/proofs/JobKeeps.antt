@@ -20,7 +20,7 @@ use Rattle.machine_model.specs.State.{State, Painter, Slot, Free, Paints, Walks,
 use Rattle.machine_model.specs.Slots.{painter_in, runs_in, is_painter, is_walker}
 use Rattle.machine_model.specs.Groups.{parent_of}
 use Rattle.machine_model.specs.Guards.{kept_jobs, is_exclusive}
-use Rattle.machine_model.specs.Effects.{layer_in, queue_all}
+use Rattle.machine_model.specs.Effects.{layer_in, updates_with_all}
 use Rattle.machine_model.specs.Step.{StartStep, PublishStep, EndStep}
 use Rattle.machine_model.specs.UnderWay.{SlotIsStarted, UnderWay, IsOnWay}
 use Rattle.machine_model.specs.Walking.{IsGroupOf, WalkStands}
@@ -176,11 +176,11 @@ publish_keeps old new place key sound step = go (painting old place step.painter
         budget k l j e e' p p' o b f g = omega arith
 
 -- each rectangle that is queued
-all_queued : (canvas : Area) (g : ℕ) (rects : List Area) (ps : List Patch) → IsQueue canvas ps → IsQueue canvas (queue_all canvas g rects ps)
+all_queued : (canvas : Area) (g : ℕ) (rects : List Area) (ps : List Patch) → IsQueue canvas ps → IsQueue canvas (updates_with_all canvas g rects ps)
 all_queued canvas g [] ps q = q
 all_queued canvas g (r ∷ rects) ps q = all_queued canvas g rects (queued canvas ps (Up g) r) (queued_right canvas ps (Up g) r q)
 
-all_groups : (canvas : Area) (doc : Doc) (g : ℕ) (rects : List Area) (ps : List Patch) → IsGroupOf doc (Up g) → AllByRecursion (λ (p : Patch). IsGroupOf doc p.walk) ps → AllByRecursion (λ (p : Patch). IsGroupOf doc p.walk) (queue_all canvas g rects ps)
+all_groups : (canvas : Area) (doc : Doc) (g : ℕ) (rects : List Area) (ps : List Patch) → IsGroupOf doc (Up g) → AllByRecursion (λ (p : Patch). IsGroupOf doc p.walk) ps → AllByRecursion (λ (p : Patch). IsGroupOf doc p.walk) (updates_with_all canvas g rects ps)
 all_groups canvas doc g [] ps new h = h
 all_groups canvas doc g (r ∷ rects) ps new h = all_groups canvas doc g rects (queued canvas ps (Up g) r) new (queued_each (IsGroupOf doc) canvas ps (Up g) r new tt h)
 
@@ -196,13 +196,13 @@ pub end_keeps : (old new : State) (place : ℕ) → IsOrderly old → EndStep ol
 end_keeps old new place sound step = go (painting old place step.painter step.runs old.way sound.on_way)
   where
     updates : List Patch
-    updates = queue_all (canvas_area old.canvas) (parent_of step.stroke.layer old.present) (writes step.painter.job) old.updates
+    updates = updates_with_all (canvas_area old.canvas) (parent_of step.stroke.layer old.present) (writes step.painter.job) old.updates
 
     slots' : List Slot
     slots' = slice_set old.slots place Free
 
     next : State
-    next = record old { slots = slice_set old.slots place Free; updates = queue_all (canvas_area old.canvas) (parent_of step.stroke.layer old.present) (writes step.painter.job) old.updates }
+    next = record old { slots = slice_set old.slots place Free; updates = updates_with_all (canvas_area old.canvas) (parent_of step.stroke.layer old.present) (writes step.painter.job) old.updates }
 
     right : IsQueue (canvas_area old.canvas) updates
     right = all_queued (canvas_area old.canvas) (parent_of step.stroke.layer old.present) (writes step.painter.job) old.updates sound.walking.queue

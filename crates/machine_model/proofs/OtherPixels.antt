@@ -21,7 +21,7 @@ use Rattle.doc_model.proofs.Paths.{content_put_back}
 use Rattle.machine_model.specs.State.{Child, Walker, Slot, State, head_stroke}
 use Rattle.machine_model.specs.Groups.{cache, with_pixels, nodes_in, path_of, on, parent_of, painted_group}
 use Rattle.machine_model.specs.Slots.{is_painter}
-use Rattle.machine_model.specs.Effects.{queue_bound}
+use Rattle.machine_model.specs.Effects.{updates_with}
 use Rattle.machine_model.specs.Caches.{SamePixels}
 use Rattle.machine_model.proofs.GroupChildren.{children_same, is_child, nodes_with}
 use Rattle.machine_model.proofs.WalkPaths.{SameAt, same_at_refl, folded_same, path_of_with, parent_of_with, is_child_side, child_above}
@@ -96,11 +96,11 @@ up_with s q x = go (head_stroke s)
 
 -- a bounding rectangle that is queued
 pub queue_bound_stays : (covers : Walk → Bool) → ((w : Walk) → covers w ≡ true → covers All ≡ true) → (s : State) (h : ℕ) (o : Option Area) (p : Point)
-    → in_grid p ≡ true → queued_for covers s.updates p ≡ true → queued_for covers (queue_bound s h o) p ≡ true
+    → in_grid p ≡ true → queued_for covers s.updates p ≡ true → queued_for covers (updates_with s h o) p ≡ true
 queue_bound_stays covers all s h None p grid e = e
 queue_bound_stays covers all s h (Some rect) p grid e = queued_stays covers all (canvas_area s.canvas) s.updates (Up h) rect p grid e
 
 pub queue_bound_takes : (covers : Walk → Bool) → ((w : Walk) → covers w ≡ true → covers All ≡ true) → (s : State) (h : ℕ) (o : Option Area) (p : Point)
-    → in_grid p ≡ true → holds (canvas_area s.canvas) p ≡ true → covers (Up h) ≡ true → held_by o p ≡ true → queued_for covers (queue_bound s h o) p ≡ true
+    → in_grid p ≡ true → holds (canvas_area s.canvas) p ≡ true → covers (Up h) ≡ true → held_by o p ≡ true → queued_for covers (updates_with s h o) p ≡ true
 queue_bound_takes covers all s h None p grid inside c e = absurd (let t : false ≡ true = e in cc)
 queue_bound_takes covers all s h (Some rect) p grid inside c e = queued_takes covers all (canvas_area s.canvas) s.updates (Up h) rect p grid inside c e

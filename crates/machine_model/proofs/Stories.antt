@@ -15,7 +15,7 @@ use Rattle.machine_model.specs.State.{Reach, Whole, Part, State, story, head, fi
 use Rattle.machine_model.proofs.Lists.{length_last}
 use Rattle.geom_core.proofs.Tests.{both_true, and_left, and_right}
 use Rattle.doc_model.specs.Lawful.{is_closed_entry}
-use Rattle.machine_model.specs.Effects.{acts, acts_change, acts_undo, acts_redo}
+use Rattle.machine_model.specs.Effects.{after_entry, after_change, after_undo, after_redo}
 
 abbrev pub IsPlain : Entry → Type 0
 IsPlain (Strokes stroke) = ⊥
@@ -26,32 +26,32 @@ take_map f zero xs = refl
 take_map f (suc n) [] = refl
 take_map f (suc n) (x ∷ xs) = ap (λ ys. f x ∷ ys) (take_map f n xs)
 
-story_change : (s : State) (r : Result Doc TreeFault) → story (acts_change s r) ≡ told_change (story s) r
+story_change : (s : State) (r : Result Doc TreeFault) → story (after_change s r) ≡ told_change (story s) r
 story_change s (Ok new) = refl
 story_change s (Err fault) = refl
 
-undo_one : (s : State) (d : Doc) (r : Reach) (past : List (Doc × Reach)) → story (acts_undo (record s { past = (d, r) ∷ past }) ((d, r) ∷ past)) ≡ undone (story (record s { past = (d, r) ∷ past })) (d ∷ map (λ (e : Doc × Reach). e.0) past)
+undo_one : (s : State) (d : Doc) (r : Reach) (past : List (Doc × Reach)) → story (after_undo (record s { past = (d, r) ∷ past }) ((d, r) ∷ past)) ≡ undone (story (record s { past = (d, r) ∷ past })) (d ∷ map (λ (e : Doc × Reach). e.0) past)
 undo_one s d Whole past = refl
 undo_one s d (Part id keys) past = refl
 
-redo_one : (s : State) (d : Doc) (r : Reach) (future : List (Doc × Reach)) → story (acts_redo (record s { future = (d, r) ∷ future }) ((d, r) ∷ future)) ≡ redone (story (record s { future = (d, r) ∷ future })) (d ∷ map (λ (e : Doc × Reach). e.0) future)
+redo_one : (s : State) (d : Doc) (r : Reach) (future : List (Doc × Reach)) → story (after_redo (record s { future = (d, r) ∷ future }) ((d, r) ∷ future)) ≡ redone (story (record s { future = (d, r) ∷ future })) (d ∷ map (λ (e : Doc × Reach). e.0) future)
 redo_one s d Whole future = refl
 redo_one s d (Part id keys) future = refl
 
-story_undo : (s : State) (past : List (Doc × Reach)) → story (acts_undo (record s { past = past }) past) ≡ undone (story (record s { past = past })) (map (λ (e : Doc × Reach). e.0) past)
+story_undo : (s : State) (past : List (Doc × Reach)) → story (after_undo (record s { past = past }) past) ≡ undone (story (record s { past = past })) (map (λ (e : Doc × Reach). e.0) past)
 story_undo s [] = refl
 story_undo s (e ∷ past) = undo_one s e.0 e.1 past
 
-story_redo : (s : State) (future : List (Doc × Reach)) → story (acts_redo (record s { future = future }) future) ≡ redone (story (record s { future = future })) (map (λ (e : Doc × Reach). e.0) future)
+story_redo : (s : State) (future : List (Doc × Reach)) → story (after_redo (record s { future = future }) future) ≡ redone (story (record s { future = future })) (map (λ (e : Doc × Reach). e.0) future)
 story_redo s [] = refl
 story_redo s (e ∷ future) = redo_one s e.0 e.1 future
 
-pub story_acts : (s : State) (e : Entry) → IsPlain e → story (acts s e) ≡ told s.canvas (story s) e
+pub story_acts : (s : State) (e : Entry) → IsPlain e → story (after_entry s e) ≡ told s.canvas (story s) e
 story_acts s (Strokes stroke) no_stroke = absurd no_stroke
 story_acts s (Changes change) no_stroke = story_change s (changed plain change s.base)
 story_acts s Undoes no_stroke = story_undo s s.past
 story_acts s Redoes no_stroke = story_redo s s.future
-story_acts s (Purges n) no_stroke = ap (λ p. record (story (acts s (Purges n))) { past = p }) (take_map (λ (e : Doc × Reach). e.0) n s.past)
+story_acts s (Purges n) no_stroke = ap (λ p. record (story (after_entry s (Purges n))) { past = p }) (take_map (λ (e : Doc × Reach). e.0) n s.past)
 story_acts s Exports no_stroke = refl
 
 -- each entry adds one outcome

@@ -43,18 +43,18 @@ bound_of (k ∷ ks) = Some (wider (tile k) (bound_of ks))
     wider a (Some b) = bound a b
 
 -- the updates, with a rectangle or none for the group and those above it
-abbrev pub queue_bound : State → ℕ → Option Area → List Patch
-queue_bound s g None = s.updates
-queue_bound s g (Some rect) = queued (canvas_area s.canvas) s.updates (Up g) rect
+abbrev pub updates_with : State → ℕ → Option Area → List Patch
+updates_with s g None = s.updates
+updates_with s g (Some rect) = queued (canvas_area s.canvas) s.updates (Up g) rect
 
 -- the updates, with each rectangle for the group and those above it
-abbrev pub queue_all : Area → ℕ → List Area → List Patch → List Patch
-queue_all canvas g [] patches = patches
-queue_all canvas g (a ∷ rest) patches = queue_all canvas g rest (queued canvas patches (Up g) a)
+abbrev pub updates_with_all : Area → ℕ → List Area → List Patch → List Patch
+updates_with_all canvas g [] patches = patches
+updates_with_all canvas g (a ∷ rest) patches = updates_with_all canvas g rest (queued canvas patches (Up g) a)
 
 -- a cache for each group of the document: the old one, or a clear one
-abbrev pub regrouped : FinMap nat_cmp Layer → Doc → FinMap nat_cmp Layer
-regrouped caches doc = map.from_entries (each_cache (order doc ++ 0 ∷ []))
+abbrev pub caches_for : FinMap nat_cmp Layer → Doc → FinMap nat_cmp Layer
+caches_for caches doc = map.from_entries (each_cache (order doc ++ 0 ∷ []))
   where
     each_cache : List ℕ → List (ℕ × Layer)
     each_cache [] = []
@@ -62,49 +62,49 @@ regrouped caches doc = map.from_entries (each_cache (order doc ++ 0 ∷ []))
 
 -- the document, the caches and the updates after a change of this reach
 abbrev pub moved_to : State → Doc → Reach → State
-moved_to s new Whole = record s { base = new; present = new; caches = regrouped s.caches new; updates = refreshed (canvas_area s.canvas) s.updates (canvas_area s.canvas) }
-moved_to s new (Part layer keys) = record s { base = new; present = new; updates = queue_bound s (parent_of layer new) (bound_of (set.items keys)) }
+moved_to s new Whole = record s { base = new; present = new; caches = caches_for s.caches new; updates = refreshed (canvas_area s.canvas) s.updates (canvas_area s.canvas) }
+moved_to s new (Part layer keys) = record s { base = new; present = new; updates = updates_with s (parent_of layer new) (bound_of (set.items keys)) }
 
--- an entry leaves the queue with its outcome
-abbrev pub tells : State → Outcome → State
-tells s o = record s { present = s.base; outcomes = s.outcomes ++ o ∷ [] }
+-- the state after an entry left the queue with that outcome
+abbrev pub with_outcome : State → Outcome → State
+with_outcome s o = record s { present = s.base; outcomes = s.outcomes ++ o ∷ [] }
 
--- a change, by what it gives
-abbrev pub acts_change : State → Result Doc TreeFault → State
-acts_change s (Err fault) = tells s (outcome.Tree fault)
-acts_change s (Ok new) = moved_to (record (tells s outcome.Done) { past = (s.base, Whole) ∷ s.past; future = [] }) new Whole
+-- the state after a change, by what it gives
+abbrev pub after_change : State → Result Doc TreeFault → State
+after_change s (Err fault) = with_outcome s (outcome.Tree fault)
+after_change s (Ok new) = moved_to (record (with_outcome s outcome.Done) { past = (s.base, Whole) ∷ s.past; future = [] }) new Whole
 
--- an undo, by the past
-abbrev pub acts_undo : State → List (Doc × Reach) → State
-acts_undo s [] = tells s outcome.NothingToUndo
-acts_undo s (e ∷ past) = moved_to (record (tells s outcome.Done) { past = past; future = (s.base, e.1) ∷ s.future }) e.0 e.1
+-- the state after an undo, by the past
+abbrev pub after_undo : State → List (Doc × Reach) → State
+after_undo s [] = with_outcome s outcome.NothingToUndo
+after_undo s (e ∷ past) = moved_to (record (with_outcome s outcome.Done) { past = past; future = (s.base, e.1) ∷ s.future }) e.0 e.1
 
--- a redo, by the future
-abbrev pub acts_redo : State → List (Doc × Reach) → State
-acts_redo s [] = tells s outcome.NothingToRedo
-acts_redo s (e ∷ future) = moved_to (record (tells s outcome.Done) { past = (s.base, e.1) ∷ s.past; future = future }) e.0 e.1
+-- the state after a redo, by the future
+abbrev pub after_redo : State → List (Doc × Reach) → State
+after_redo s [] = with_outcome s outcome.NothingToRedo
+after_redo s (e ∷ future) = moved_to (record (with_outcome s outcome.Done) { past = (s.base, e.1) ∷ s.past; future = future }) e.0 e.1
 
--- an entry that is no stroke takes effect
-abbrev pub acts : State → Entry → State
-acts s (Strokes stroke) = s
-acts s (Changes change) = acts_change s (changed plain change s.base)
-acts s Undoes = acts_undo s s.past
-acts s Redoes = acts_redo s s.future
-acts s (Purges n) = record (tells s outcome.Done) { past = take n s.past }
-acts s Exports = record (tells s outcome.Done) { frames = s.frames ++ frame s.base s.canvas ∷ [] }
+-- the state after an entry that is no stroke took effect
+abbrev pub after_entry : State → Entry → State
+after_entry s (Strokes stroke) = s
+after_entry s (Changes change) = after_change s (changed plain change s.base)
+after_entry s Undoes = after_undo s s.past
+after_entry s Redoes = after_redo s s.future
+after_entry s (Purges n) = record (with_outcome s outcome.Done) { past = take n s.past }
+after_entry s Exports = record (with_outcome s outcome.Done) { frames = s.frames ++ frame s.base s.canvas ∷ [] }
 
 -- the layer's pixels, and a clear layer where there is no such paint layer
 abbrev pub layer_in : ℕ → Doc → Layer
 layer_in id doc = unwrap_or (content id doc) (plain clear)
 
 -- the outcome of a stroke that names no paint layer
-abbrev pub no_paint : ℕ → Doc → Outcome
-no_paint id doc = if there id doc then outcome.NotPaint id else outcome.NoLayer id
+abbrev pub no_paint_outcome : ℕ → Doc → Outcome
+no_paint_outcome id doc = if there id doc then outcome.NotPaint id else outcome.NoLayer id
 
--- a stroke that names no paint layer has only its outcome
-abbrev pub finished : State → Stroke → Bool → State
-finished s stroke false = record s { outcomes = s.outcomes ++ no_paint stroke.layer s.base ∷ [] }
-finished s stroke true = record s { past = (s.base, reach_of stroke) ∷ s.past; future = []; base = s.present; outcomes = s.outcomes ++ outcome.Done ∷ []; way = None }
+-- the state after the stroke at the head finished; one that names no paint layer has only its outcome
+abbrev pub after_finish : State → Stroke → Bool → State
+after_finish s stroke false = record s { outcomes = s.outcomes ++ no_paint_outcome stroke.layer s.base ∷ [] }
+after_finish s stroke true = record s { past = (s.base, reach_of stroke) ∷ s.past; future = []; base = s.present; outcomes = s.outcomes ++ outcome.Done ∷ []; way = None }
 
 -- the outcome of a stroke that leaves nothing
 abbrev pub cancel_outcome : Option (ℕ × ℕ) → Outcome
@@ -112,8 +112,8 @@ cancel_outcome None = outcome.Cancelled
 cancel_outcome (Some pair) = outcome.Overlap pair.0 pair.1
 
 -- the jobs that were started
-abbrev pub started : State → Stroke → Jobs
-started s stroke = so_far s.way
+abbrev pub started_jobs : State → Stroke → Jobs
+started_jobs s stroke = so_far s.way
   where
     so_far : Option ℕ → Jobs
     so_far None = []

@@ -45,7 +45,7 @@ BarrierStartsClean = (old new : State) (place : ℕ) → Step old (Start place) 
 abbrev pub BarrierStaysClean : Type 0
 BarrierStaysClean = (events : List Event) (s : State) (place : ℕ) → IsReached events s → (job : RunsAs s place Bar) → job.stroke.exclusive ≡ false → (no_walker s ≡ true) × (s.updates ≡ [])
 
--- jobs start in the order of their list
+-- the job in the slot is the next of the list, and has the next serial
 pub record StartsNext (old new : State) (place : ℕ) : Type 0 where
   pub painter : Painter
   pub at_work : slice_get new.slots place ≡ Some (Paints painter)
@@ -53,6 +53,7 @@ pub record StartsNext (old new : State) (place : ℕ) : Type 0 where
   pub started_now : new.way ≡ Some (suc painter.index)
   pub serial : painter.serial ≡ old.next
 
+-- each start takes the next job of the list
 abbrev pub JobsStartInOrder : Type 0
 JobsStartInOrder = (old new : State) (place : ℕ) → Step old (Start place) new → StartsNext old new place
 
@@ -79,6 +80,7 @@ pub record PublishesTile (old new : State) (place : ℕ) (key : Key) : Type 0 wh
   pub out_of_tile : (p : Point) → in_tile key p ≡ false → at after p ≡ at before p
   pub out_of_writes : (p : Point) → any_holds (writes painter.job) p ≡ false → at after p ≡ at before p
 
+-- each publish is one of these
 abbrev pub PublishStaysInTile : Type 0
 PublishStaysInTile = (old new : State) (place : ℕ) (key : Key) → IsOrderly old → Step old (Publish place key) new → PublishesTile old new place key
 
@@ -94,6 +96,7 @@ pub record PutsBack (old new : State) : Type 0 where
   pub told : new.outcomes ≡ old.outcomes ++ outcome ∷ []
   pub not_done : outcome ≢ Done
 
+-- each cancel is one of these
 abbrev pub CancelPutsBack : Type 0
 CancelPutsBack = (old new : State) → Step old Cancel new → PutsBack old new
 
@@ -103,5 +106,6 @@ pub record IsStill (s : State) : Type 0 where
   pub walks : no_walker s ≡ true
   pub updates : s.updates ≡ []
 
+-- an export waits until all is still
 abbrev pub ExportWaits : Type 0
 ExportWaits = (old new : State) → IsOrderly old → head old ≡ Some Exports → Step old Act new → IsStill old

@@ -19,7 +19,7 @@ use Rattle.machine_model.specs.Slots.{no_painter, no_walker}
 use Rattle.machine_model.specs.Groups.{cache, on, parent_of}
 use Rattle.machine_model.specs.Guards.{kept_jobs, is_cancelled, is_ended, is_closed, overlaps, is_paint, blocks, is_bar, is_exclusive, meets_walker, same_pair}
 use Rattle.machine_model.specs.Walks.{walk_value, walk_shot}
-use Rattle.machine_model.specs.Effects.{queue_bound, queue_all, bound_of, writes_of, started, acts, layer_in, finished, cancel_outcome, without_nth}
+use Rattle.machine_model.specs.Effects.{updates_with, updates_with_all, bound_of, writes_of, started_jobs, after_entry, layer_in, after_finish, cancel_outcome, without_nth}
 
 -- the stroke at the head begins
 pub record InitStep (old new : State) : Type 0 where
@@ -73,7 +73,7 @@ pub record EndStep (old : State) (place : ℕ) (new : State) : Type 0 where
   pub at_head : head_stroke old ≡ Some stroke
   pub new_is : new ≡ record old {
     slots = slice_set old.slots place Free;
-    updates = queue_all (canvas_area old.canvas) (parent_of stroke.layer old.present) (writes painter.job) old.updates;
+    updates = updates_with_all (canvas_area old.canvas) (parent_of stroke.layer old.present) (writes painter.job) old.updates;
   }
 
 -- the stroke at the head is done, or names no paint layer
@@ -83,7 +83,7 @@ pub record FinishStep (old new : State) : Type 0 where
   pub ended : is_ended stroke ≡ true
   pub no_overlap : overlaps stroke ≡ false
   pub all_ended : is_paint stroke.layer old.base ≡ true → (old.way ≡ Some (length stroke.jobs)) × (no_painter old ≡ true)
-  pub new_is : new ≡ finished old stroke (is_paint stroke.layer old.base)
+  pub new_is : new ≡ after_finish old stroke (is_paint stroke.layer old.base)
 
 -- the stroke at the head leaves nothing
 pub record CancelStep (old new : State) : Type 0 where
@@ -96,7 +96,7 @@ pub record CancelStep (old new : State) : Type 0 where
     present = old.base;
     outcomes = old.outcomes ++ cancel_outcome (conflict stroke.jobs) ∷ [];
     way = None;
-    updates = queue_bound old (parent_of stroke.layer old.present) (bound_of (set.items (key_set (writes_of (started old stroke)))));
+    updates = updates_with old (parent_of stroke.layer old.present) (bound_of (set.items (key_set (writes_of (started_jobs old stroke)))));
   }
 
 -- the entry at the head, no stroke, takes effect
@@ -106,7 +106,7 @@ pub record ActStep (old new : State) : Type 0 where
   pub no_stroke : head_stroke old ≡ None
   pub no_walks : no_walker old ≡ true
   pub clean : entry ≡ Exports → old.updates ≡ []
-  pub new_is : new ≡ acts old entry
+  pub new_is : new ≡ after_entry old entry
 
 -- a queued patch is walked in a free slot
 pub record WalkStartStep (old : State) (place : ℕ) (patch : Patch) (new : State) : Type 0 where

@@ -26,6 +26,7 @@ pub record IsPlace (canvas : Canvas) (doc : Doc) (g : ℕ) (p : Point) : Type 0 
 abbrev pub QueueKeepsPlaces : Type 0
 QueueKeepsPlaces = (canvas : Area) (patches : List Patch) (walk : Walk) (rect : Area) → IsQueue canvas patches → IsQueue canvas (queued canvas patches walk rect)
 
+-- the same after a refresh
 abbrev pub RefreshKeepsPlaces : Type 0
 RefreshKeepsPlaces = (canvas : Area) (patches : List Patch) (rect : Area) → IsQueue canvas patches → IsQueue canvas (refreshed canvas patches rect)
 
