@@ -27,7 +27,7 @@ use Rattle.machine_model.proofs.FeedKeeps.{Grows, head_after, after_feed}
 use Rattle.machine_model.proofs.JobKeeps.{painting}
 use Rattle.machine_model.proofs.JobCaches.{finish_idle}
 use Rattle.machine_model.proofs.ActCaches.{at_rest, slots_act}
-use Rattle.machine_model.proofs.Sharing.{only_runs_share}
+use Rattle.machine_model.proofs.Sharing.{only_runs_share, listed_job}
 use Rattle.machine_model.proofs.GuardsHold.{starting, starts_at, barrier_starts_clean}
 use Rattle.machine_model.proofs.RunsOrderly.{step_keeps, new_orderly}
 
@@ -61,16 +61,6 @@ idle_clear s idle place job shared = absurd (nobody_paints s.slots place job.pai
 -- no other slot has a job beside a barrier
 no_other : (s : State) (p q : ℕ) (kind : Kind) → IsOrderly s → RunsAs s p Bar → RunsAs s q kind → p ≢ q → ⊥
 no_other s p q kind sound bar other apart = let may : MayShare Bar kind = only_runs_share s p q Bar kind sound bar other apart in let f : false ≡ true = may.first in cc
-
--- each job at work is in the list
-listed : (s : State) (place : ℕ) (w : Painter) → IsOrderly s → slice_get s.slots place ≡ Some (Paints w) → (kind : Kind) × (job : RunsAs s place kind) × (job.painter ≡ w)
-listed s place w sound at_work = go (painting s place w at_work s.way sound.on_way)
-  where
-    go : (n : ℕ) × (s.way ≡ Some n) × UnderWay s n → (kind : Kind) × (job : RunsAs s place kind) × (job.painter ≡ w)
-    go found =
-        let way : UnderWay s found.0 = found.2 in
-        let here : SlotIsStarted (kept_jobs way.stroke) found.0 (Paints w) = all_get (SlotIsStarted (kept_jobs way.stroke) found.0) s.slots place (Paints w) way.started at_work in
-        (here.1, record { painter = w; at_work = at_work; stroke = way.stroke; at_head = way.at_head; listed = here.2 }, refl)
 
 -- a barrier that was at work in the same slot of a state with the same stroke
 abbrev was_there : (old new : State) (place : ℕ) (job : RunsAs new place Bar) → head_stroke new ≡ head_stroke old → slice_get old.slots place ≡ Some (Paints job.painter) → RunsAs old place Bar
@@ -112,7 +102,7 @@ start_clear old new place sound step q job shared = elim (set_cases old.slots pl
 publish_clear : (old new : State) (place : ℕ) (key : Key) → IsOrderly old → IsOrderly new → PublishStep old place key new → BarrierIsClear old → BarrierIsClear new
 publish_clear old new place key sound sound' step clear q job shared = elim (set_cases old.slots place (Paints w) q (Paints job.painter) (ap (λ (s : State). slice_get s.slots q) (sym step.new_is) ∙ job.at_work)) [
   | inl here ↦ go here.0 (let e : job.painter ≡ w = cc in e) here.1
-  | inr there ↦ (let mine : (kind : Kind) × (mine : RunsAs new place kind) × (mine.painter ≡ w) = listed new place w sound' (ap (λ (s : State). slice_get s.slots place) step.new_is ∙ get_set old.slots place (Paints step.painter) (Paints w) step.runs) in absurd (no_other new q place mine.0 sound' job mine.1 there.0))
+  | inr there ↦ (let mine : (kind : Kind) × (mine : RunsAs new place kind) × (mine.painter ≡ w) = listed_job new place w sound' (ap (λ (s : State). slice_get s.slots place) step.new_is ∙ get_set old.slots place (Paints step.painter) (Paints w) step.runs) in absurd (no_other new q place mine.0 sound' job mine.1 there.0))
 ]
   where
     w : Painter
@@ -127,7 +117,7 @@ publish_clear old new place key sound sound' step clear q job shared = elim (set
 end_clear : (old new : State) (place : ℕ) → IsOrderly old → EndStep old place new → BarrierIsClear new
 end_clear old new place sound step q job shared = elim (set_cases old.slots place Free q (Paints job.painter) (ap (λ (s : State). slice_get s.slots q) (sym step.new_is) ∙ job.at_work)) [
   | inl here ↦ (let e : Paints job.painter ≡ Free = here.1 in cc)
-  | inr there ↦ (let mine : (kind : Kind) × (mine : RunsAs old place kind) × (mine.painter ≡ step.painter) = listed old place step.painter sound step.runs in absurd (no_other old q place mine.0 sound (was_there old new q job (ap head_stroke step.new_is) there.1) mine.1 there.0))
+  | inr there ↦ (let mine : (kind : Kind) × (mine : RunsAs old place kind) × (mine.painter ≡ step.painter) = listed_job old place step.painter sound step.runs in absurd (no_other old q place mine.0 sound (was_there old new q job (ap head_stroke step.new_is) there.1) mine.1 there.0))
 ]
 
 -- no walk starts beside it, since none waits

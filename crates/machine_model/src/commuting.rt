@@ -1,6 +1,6 @@
 //! Jobs that may be at work side by side commute.
 
-ghost use Rattle.machine_model.specs.CommutingLaws.{RunCommutes, RunTilesCommute};
+ghost use Rattle.machine_model.specs.CommutingLaws.{RunCommutes, RunTilesCommute, PublishesCommute};
 
 /// Two jobs of one run that are not both uniquely concurrent commute.
 pub fn run_commutes()
@@ -10,4 +10,9 @@ pub fn run_commutes()
 /// So do their tiles, also where both publish into one tile.
 pub fn run_tiles_commute()
     ensures { RunTilesCommute }
+{}
+
+/// Two publishes into one layer may happen in either order, and leave the same state.
+pub fn publishes_commute()
+    ensures { PublishesCommute }
 {}
