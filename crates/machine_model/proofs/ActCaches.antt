@@ -21,8 +21,8 @@ use Rattle.doc_model.proofs.Weights.{IsTree, tree_distinct}
 use Rattle.doc_model.proofs.QueueLaws.{queued_for, in_grid}
 use Rattle.doc_model.proofs.QueueWhole.{refreshed_takes}
 use Rattle.doc_model.proofs.Paths.{content_put_back}
-use Rattle.geom_core.proofs.Tests.{or_left, or_right}
-use Rattle.machine_model.specs.State.{Reach, Whole, Part, Painter, Walker, Slot, Free, Paints, Walks, State, head_stroke, head}
+use Rattle.geom_core.proofs.Tests.{or_left, or_right, not_true}
+use Rattle.machine_model.specs.State.{Reach, Whole, Part, Slot, Free, Paints, Walks, State, head_stroke, head}
 use Rattle.machine_model.specs.Groups.{path_of, on, parent_of}
 use Rattle.machine_model.specs.Slots.{is_walker}
 use Rattle.machine_model.specs.Step.{ActStep}
@@ -33,7 +33,6 @@ use Rattle.machine_model.specs.Reached.{Reaches, ReachesOneLayer, PastReaches, F
 use Rattle.machine_model.proofs.WalkPaths.{grouped, grouped_with, path_here, path_all, parent_of_with}
 use Rattle.machine_model.proofs.Covers.{anyone, cov, up_of, FoldsAt, caches_by, fold_covers, fold_out}
 use Rattle.machine_model.proofs.JobCaches.{cov_idle, either_covers}
-use Rattle.geom_core.proofs.Tests.{not_true}
 use Rattle.machine_model.proofs.OtherPixels.{moved_from, fold_moves, fold_new, cov_with, queue_bound_stays, queue_bound_takes}
 use Rattle.machine_model.proofs.TileBounds.{set_holds}
 use Rattle.machine_model.proofs.CancelCaches.{fold_at}

@@ -26,7 +26,7 @@ use Rattle.doc_model.proofs.SameContent.{with_same}
 use Rattle.doc_model.proofs.Weights.{IsTree, tree_distinct}
 use Rattle.doc_model.proofs.TreeChanges.{TreeStory}
 use Rattle.machine_model.specs.State.{Reach, Whole, Part, State, Slot, story, head, head_stroke, stroke_of}
-use Rattle.machine_model.specs.Slots.{is_walker, no_walker}
+use Rattle.machine_model.specs.Slots.{is_walker}
 use Rattle.machine_model.specs.Groups.{parent_of}
 use Rattle.machine_model.specs.Guards.{is_exclusive}
 use Rattle.machine_model.specs.Effects.{updates_with, bound_of, moved_to, with_outcome, after_entry, after_change, after_undo, after_redo}

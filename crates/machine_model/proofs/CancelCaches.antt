@@ -1,6 +1,6 @@
 -- A cancel keeps what caches and running walks hold; and what an undo or redo of a stroke shares with it.
 use Rattle.machine_model.proofs.Choices.{none_and}
-use Rattle.geom_core.proofs.Tests.{kept}
+use Rattle.geom_core.proofs.Tests.{kept, or_left, or_right, none_left, none_right, not_true}
 use Rattle.std.proofs.Common.{◌≡◌, ℕ, suc, zero, ◌<◌, Bool, true, false, ◌&&◌, ◌||◌, List, [], ◌∷◌, Option, Some, None, refl, sym, ap, ◌∙◌, arith, subst, ◌⊎◌, inl, inr, take}
 use Rattle.std.specs.Ordering.{nat_cmp}
 use Rattle.std.specs.FinMap.{FinMap}
@@ -22,7 +22,6 @@ use Rattle.doc_model.proofs.Contents.{with_content-with_content, content-with_co
 use Rattle.doc_model.proofs.Weights.{IsTree, tree_distinct}
 use Rattle.doc_model.proofs.QueueLaws.{queued_for, in_grid}
 use Rattle.doc_model.proofs.Paths.{content_put_back}
-use Rattle.geom_core.proofs.Tests.{or_left, or_right, none_left, none_right}
 use Rattle.machine_model.specs.State.{Child, Walker, Slot, State}
 use Rattle.machine_model.specs.Groups.{with_pixels, nodes_in, path_of, on, parent_of}
 use Rattle.machine_model.specs.Slots.{is_painter, done}
@@ -30,13 +29,11 @@ use Rattle.machine_model.specs.Step.{CancelStep}
 use Rattle.machine_model.specs.Effects.{updates_with, bound_of, writes_of, started_jobs}
 use Rattle.machine_model.specs.Guards.{kept_jobs}
 use Rattle.machine_model.specs.Caches.{CachesFold, WalkIsRight}
-use Rattle.machine_model.specs.Walking.{WalkStands, IsGroupOf}
+use Rattle.machine_model.specs.Walking.{WalkStands, IsGroupOf, WalkInside}
 use Rattle.machine_model.specs.UnderWay.{IsOnWay, shown, writes_at}
 use Rattle.machine_model.proofs.WalkPaths.{grouped, grouped_with, SameAt, same_at_refl, path_here, path_all, path_of_with}
 use Rattle.machine_model.proofs.Covers.{slot_on, anyone, cov, up_of, IsFold, IsRead, FoldsAt, ReadsAt, caches_by, walks_by, any_same}
-use Rattle.machine_model.specs.Walking.{WalkInside}
 use Rattle.machine_model.proofs.JobCaches.{cov_idle, either_covers}
-use Rattle.geom_core.proofs.Tests.{not_true}
 use Rattle.machine_model.proofs.OtherPixels.{moved_from, fold_moves, read_moves, fold_new, read_new, queue_bound_stays, queue_bound_takes}
 use Rattle.machine_model.proofs.TileBounds.{areas_hold}
 

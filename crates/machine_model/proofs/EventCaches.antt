@@ -13,7 +13,7 @@ use Rattle.machine_model.specs.Event.{Event, Feed, Init, Start, Publish, End, Fi
 use Rattle.machine_model.specs.Step.{Step}
 use Rattle.machine_model.specs.Sound.{IsSound}
 use Rattle.machine_model.specs.Caches.{CachesFold, WalkIsRight}
-use Rattle.machine_model.specs.Walking.{IsGroupOf}
+use Rattle.machine_model.specs.Walking.{IsGroupOf, WalkInside}
 use Rattle.machine_model.specs.UnderWay.{UnderWay}
 use Rattle.doc_model.specs.Forest.{content}
 use Rattle.doc_model.specs.Strokes.{Stroke}
@@ -22,7 +22,6 @@ use Rattle.machine_model.proofs.StateTrees.{trees, base_tree, present_tree}
 use Rattle.machine_model.proofs.CanvasPoints.{canvas_grid}
 use Rattle.machine_model.proofs.JobKeeps.{painting}
 use Rattle.machine_model.proofs.WalkPaths.{grouped, path_grouped}
-use Rattle.machine_model.specs.Walking.{WalkInside}
 use Rattle.machine_model.proofs.JobCaches.{caches_init, walks_init, caches_start, walks_start, caches_end, walks_end, caches_finish, walks_finish}
 use Rattle.machine_model.proofs.PublishCaches.{caches_publish, walks_publish}
 use Rattle.machine_model.proofs.CancelCaches.{caches_cancel, walks_cancel}

@@ -17,11 +17,10 @@ use Rattle.machine_model.specs.Slots.{is_painter}
 use Rattle.machine_model.specs.Event.{Feed}
 use Rattle.machine_model.specs.Step.{Step}
 use Rattle.machine_model.specs.Caches.{CachesFold, WalkIsRight}
-use Rattle.machine_model.specs.Walking.{WalkStands}
+use Rattle.machine_model.specs.Walking.{WalkStands, WalkInside}
 use Rattle.machine_model.specs.UnderWay.{IsOnWay}
 use Rattle.machine_model.proofs.WalkPaths.{grouped}
 use Rattle.machine_model.proofs.Covers.{anyone, cov, up_of, IsFold, IsRead, caches_by, walks_by, fold_covers, read_covers}
-use Rattle.machine_model.specs.Walking.{WalkInside}
 use Rattle.machine_model.proofs.JobCaches.{cov_idle}
 use Rattle.geom_core.proofs.Tests.{not_true}
 

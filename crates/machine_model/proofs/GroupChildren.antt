@@ -1,6 +1,5 @@
 -- The children of a group in a document whose layer q has other pixels.
-use Rattle.geom_core.proofs.Tests.{none_left, none_right}
-use Rattle.geom_core.proofs.Tests.{kept}
+use Rattle.geom_core.proofs.Tests.{none_left, none_right, kept}
 use Rattle.std.proofs.Common.{◌≡◌, ℕ, Bool, true, false, cond, List, ◌∷◌, refl, ap, ◌∙◌, eqb}
 use Rattle.std.specs.Ordering.{nat_cmp}
 use Rattle.std.specs.FinMap.{FinMap}

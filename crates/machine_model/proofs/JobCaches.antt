@@ -1,6 +1,6 @@
 -- The events that change no pixel and no cache keep what caches and running walks hold.
 use Rattle.machine_model.proofs.Choices.{and-false}
-use Rattle.geom_core.proofs.Tests.{and_left, and_right, not_true}
+use Rattle.geom_core.proofs.Tests.{and_left, and_right, not_true, or_cases, or_left, or_right, is_some-None}
 use Rattle.std.proofs.Common.{◌≡◌, ℕ, Bool, true, false, ◌&&◌, ◌||◌, List, [], ◌∷◌, Option, Some, None, refl, sym, ap, ◌∙◌, subst, inl, inr}
 use Rattle.std.specs.Prelude.{slice_get, slice_set}
 use Rattle.std.specs.List.{list_any, AllByRecursion}
@@ -16,22 +16,18 @@ use Rattle.doc_model.specs.Strokes.{Stroke}
 use Rattle.doc_model.specs.Updates.{queued}
 use Rattle.doc_model.proofs.QueueLaws.{queued_for, in_grid}
 use Rattle.doc_model.proofs.QueueWhole.{queued_stays, queued_takes}
-use Rattle.geom_core.proofs.Tests.{or_cases, or_left, or_right}
 use Rattle.machine_model.specs.State.{Painter, Slot, Free, Paints, Walks, State, head_stroke}
-use Rattle.geom_core.proofs.Tests.{is_some-None}
 use Rattle.machine_model.specs.Guards.{is_paint}
 use Rattle.machine_model.specs.Groups.{path_of, on, parent_of, painted_group}
-use Rattle.machine_model.specs.Slots.{is_painter}
+use Rattle.machine_model.specs.Slots.{is_painter, no_painter}
 use Rattle.machine_model.specs.Step.{InitStep, StartStep, EndStep, FinishStep}
 use Rattle.machine_model.specs.Effects.{after_finish, updates_with_all}
-use Rattle.machine_model.specs.Slots.{no_painter}
 use Rattle.machine_model.specs.Caches.{CachesFold, WalkIsRight}
-use Rattle.machine_model.specs.Walking.{WalkStands, IsGroupOf}
+use Rattle.machine_model.specs.Walking.{WalkStands, IsGroupOf, WalkInside}
 use Rattle.machine_model.specs.UnderWay.{IsOnWay, UnderWay}
 use Rattle.machine_model.proofs.Lists.{all_set}
 use Rattle.machine_model.proofs.WalkPaths.{grouped, path_all}
 use Rattle.machine_model.proofs.Covers.{groups_of, slot_on, anyone, cov, up_of, IsFold, IsRead, caches_by, walks_by, fold_covers, read_covers, any_set_grow, any_set_or}
-use Rattle.machine_model.specs.Walking.{WalkInside}
 
 pub either_covers : (a b : Bool) (c : Bool) → (a ≡ true → c ≡ true) → (b ≡ true → c ≡ true) → (a || b) ≡ true → c ≡ true
 either_covers a b c f g h = elim (or_cases a b h) [ inl e ↦ f e | inr e ↦ g e ]

@@ -1,7 +1,7 @@
 -- What is counted where an entry leaves the queue.
 use Rattle.std.proofs.Common.{◌≡◌, ℕ, suc, zero, ◌+◌, ◌≤◌, List, [], ◌∷◌, ◌++◌, Option, Some, None, length, take, refl, ap, ◌∙◌, arith}
 use Rattle.doc_model.specs.declared.command.Outcome.{Outcome}
-use Rattle.doc_model.specs.Strokes.{Jobs, Stroke, Entry, Strokes, Changes, Undoes, Redoes, Purges, Exports, entries, conflict, up_to}
+use Rattle.doc_model.specs.Strokes.{Jobs, Entry, Strokes, Changes, Undoes, Redoes, Purges, Exports, entries, conflict, up_to}
 use Rattle.doc_model.specs.Strokes as strokes
 use Rattle.machine_model.specs.State.{State, head}
 use Rattle.machine_model.specs.Counted.{jobs_in}

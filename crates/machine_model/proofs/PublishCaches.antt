@@ -8,28 +8,24 @@ use Rattle.geom_core.specs.Grid.{Key}
 use Rattle.doc_model.specs.declared.canvas.Walk.{Walk}
 use Rattle.doc_model.specs.declared.canvas.Walk.TheVariants.{Up}
 use Rattle.doc_model.specs.Layers.{Layer, at}
-use Rattle.doc_model.specs.Jobs.{writes, published, in_tile}
+use Rattle.doc_model.specs.Jobs.{writes, published, in_tile, apply}
 use Rattle.doc_model.specs.Picture.{Doc, canvas_area}
 use Rattle.doc_model.specs.Forest.{content, with_content}
 use Rattle.doc_model.proofs.Shots.{at-published}
 use Rattle.doc_model.proofs.Weights.{IsTree, tree_distinct}
 use Rattle.doc_model.proofs.QueueLaws.{queued_for}
-use Rattle.geom_core.proofs.Tests.{or_right}
+use Rattle.geom_core.proofs.Tests.{or_right, both_true, and_left}
 use Rattle.doc_model.proofs.SameContent.{adjusted_is}
-use Rattle.doc_model.specs.Jobs.{apply}
-use Rattle.doc_model.specs.Forest.{content}
 use Rattle.machine_model.specs.State.{Child, Painter, Walker, Slot, Paints, State}
 use Rattle.machine_model.specs.Groups.{with_pixels, nodes_in, path_of, on, parent_of}
 use Rattle.machine_model.specs.Slots.{is_painter}
 use Rattle.machine_model.specs.Step.{PublishStep}
 use Rattle.machine_model.specs.Caches.{CachesFold, WalkIsRight}
-use Rattle.machine_model.specs.Walking.{WalkStands, IsGroupOf}
+use Rattle.machine_model.specs.Walking.{WalkStands, IsGroupOf, WalkInside}
 use Rattle.machine_model.proofs.Lists.{all_set}
 use Rattle.machine_model.proofs.WalkPaths.{grouped, grouped_with, SameAt, path_here}
 use Rattle.machine_model.proofs.Covers.{slot_on, anyone, cov, up_of, IsFold, IsRead, caches_by, walks_by, any_set_same, any_found}
-use Rattle.machine_model.specs.Walking.{WalkInside}
 use Rattle.machine_model.proofs.JobCaches.{painted_by}
-use Rattle.geom_core.proofs.Tests.{both_true, and_left}
 use Rattle.machine_model.proofs.OtherPixels.{moved_from, fold_moves, read_moves, fold_new, read_new, cov_with, up_with}
 
 module _ (old new : State) (place : ℕ) (key : Key) (tree : IsTree old.present) (step : PublishStep old place key new) (layer : Layer) (on_layer : content step.stroke.layer old.present ≡ Some layer) where

@@ -1,6 +1,6 @@
 -- Where nothing covers the root, its cache is the picture.
 use Rattle.machine_model.proofs.Choices.{same_laid}
-use Rattle.geom_core.proofs.Tests.{kept}
+use Rattle.geom_core.proofs.Tests.{kept, or_cases, or_left, or_right, both_true, and_left, and_right, not_true}
 use Rattle.std.proofs.Common.{◌≡◌, ℕ, Bool, true, false, ◌&&◌, ◌||◌, List, [], ◌∷◌, refl, sym, ap, ◌∙◌, arith, eqb, inl, inr}
 use Rattle.std.specs.Ordering.{nat_cmp}
 use Rattle.std.specs.FinMap.{FinMap}
@@ -19,16 +19,13 @@ use Rattle.doc_model.proofs.Parents.{Distinct}
 use Rattle.doc_model.proofs.Weights.{IsTree, tree_distinct, tree_root}
 use Rattle.doc_model.proofs.QueueLaws.{queued_for}
 use Rattle.doc_model.proofs.Paths.{KidsIn, kids_rest, kids_nodes, kids_other, kids_here}
-use Rattle.geom_core.proofs.Tests.{or_cases, or_left, or_right}
 use Rattle.machine_model.specs.State.{Slot, Free, Paints, Walks, State, head_stroke}
 use Rattle.machine_model.specs.Groups.{cache, with_pixels, nodes_in, children_of, path_of, on, folded, covered, painted_group}
-use Rattle.machine_model.specs.Slots.{is_painter, is_walker}
-use Rattle.machine_model.specs.Slots.{no_painter, no_walker}
+use Rattle.machine_model.specs.Slots.{is_painter, is_walker, no_painter, no_walker}
 use Rattle.machine_model.specs.Walking.{WalkStands}
 use Rattle.machine_model.proofs.WalkPaths.{grouped, path_root}
 use Rattle.machine_model.proofs.Covers.{groups_of, slot_on, anyone, up_of, covered_is}
 use Rattle.machine_model.proofs.JobCaches.{either_covers}
-use Rattle.geom_core.proofs.Tests.{both_true, and_left, and_right, not_true}
 use Rattle.machine_model.proofs.StateTrees.{present_tree}
 use Rattle.machine_model.specs.PictureLaws.{CleanIsPicture}
 

@@ -19,21 +19,19 @@ use Rattle.doc_model.proofs.Parents.{side}
 use Rattle.doc_model.proofs.Weights.{IsTree, tree_distinct, tree_root}
 use Rattle.doc_model.proofs.QueueLaws.{queued_for}
 use Rattle.doc_model.proofs.Paths.{Orderly, side_paint, paint_child_no_group, paint_row_no_group, both_false}
-use Rattle.geom_core.proofs.Tests.{or_cases, or_left, or_right}
+use Rattle.geom_core.proofs.Tests.{or_cases, or_left, or_right, and_left, and_right}
 use Rattle.machine_model.specs.State.{Child, Walker, Slot, Free, Walks, State}
 use Rattle.machine_model.specs.Groups.{cache, with_pixels, nodes_in, children_of, path_of, on, folded}
 use Rattle.machine_model.specs.Slots.{is_painter}
 use Rattle.machine_model.specs.Step.{WalkEndStep}
 use Rattle.machine_model.specs.Walks.{walk_value, walk_values, looked_up}
 use Rattle.machine_model.specs.Caches.{CachesFold, WalkIsRight, WalkReads, SamePixels, covered_by_others}
-use Rattle.machine_model.specs.Walking.{WalkStands, IsGroupOf, SameChildren}
+use Rattle.machine_model.specs.Walking.{WalkStands, IsGroupOf, SameChildren, WalkInside}
 use Rattle.machine_model.proofs.Lists.{all_set, all_get}
 use Rattle.machine_model.proofs.WalkFolds.{walk_settles, Ordered, ComposedBefore, OnPathCached, Distinct as DistinctShots}
 use Rattle.machine_model.proofs.WalkPaths.{grouped, path_grouped, path_orderly_of, child_there}
 use Rattle.machine_model.proofs.Covers.{groups_of, slot_on, anyone, cov, up_of, IsFold, IsRead, FoldsAt, caches_by, walks_by, all_on, shots_by, read_covers, any_set_same, any_set_or, others_is}
-use Rattle.machine_model.specs.Walking.{WalkInside}
 use Rattle.machine_model.proofs.JobCaches.{either_covers}
-use Rattle.geom_core.proofs.Tests.{and_left, and_right}
 use Rattle.machine_model.proofs.OtherPixels.{fold_new}
 
 abbrev firsts : List (ℕ × List Child) → List ℕ

@@ -1,7 +1,6 @@
 -- What a walk that ends leaves: the cache of each group on its path is the fold of the group's children, unless something else covers it.
 use Rattle.machine_model.proofs.Choices.{same_laid}
-use Rattle.geom_core.proofs.Tests.{none_left, none_right}
-use Rattle.geom_core.proofs.Tests.{kept, taken}
+use Rattle.geom_core.proofs.Tests.{none_left, none_right, kept, taken}
 use Rattle.std.proofs.Common.{◌≡◌, ℕ, Bool, true, false, ◌||◌, cond, List, [], ◌∷◌, map, refl, sym, ap, ◌∙◌, arith, eqb}
 use Rattle.std.specs.List.{AllByRecursion}
 use Rattle.std.proofs.lemmas.Bool.Decides.{nat_tests}

@@ -7,17 +7,15 @@ use Rattle.geom_core.specs.Areas.{Area}
 use Rattle.std.specs.FinMap as map
 use Rattle.doc_model.specs.Layers.{painted}
 use Rattle.doc_model.specs.Jobs.{in_tile}
-use Rattle.machine_model.specs.Walks.{walk_value}
-use Rattle.machine_model.specs.Groups.{cache}
+use Rattle.machine_model.specs.Walks.{walk_value, walk_shot}
+use Rattle.machine_model.specs.Groups.{cache, path_of}
 use Rattle.geom_core.specs.Grid.{Key}
 use Rattle.doc_model.specs.declared.canvas.Patch.{Patch}
 use Rattle.doc_model.specs.Picture.{canvas_area}
 use Rattle.doc_model.specs.Updates.{IsQueue, in_place, alike, all_unlike}
 use Rattle.machine_model.specs.State.{State, Free, Walks, Walker, head_stroke}
 use Rattle.machine_model.specs.Slots.{is_walker}
-use Rattle.machine_model.specs.Groups.{path_of}
 use Rattle.machine_model.specs.Guards.{is_exclusive}
-use Rattle.machine_model.specs.Walks.{walk_shot}
 use Rattle.machine_model.specs.Effects.{without_nth}
 use Rattle.machine_model.specs.Step.{WalkStartStep, WalkPublishStep, WalkEndStep}
 use Rattle.machine_model.specs.Walking.{IsGroupOf, WalkStands}

@@ -1,6 +1,6 @@
 -- The paths of walks in a document, and the children of groups.
 use Rattle.machine_model.proofs.Choices.{same_laid}
-use Rattle.geom_core.proofs.Tests.{kept}
+use Rattle.geom_core.proofs.Tests.{kept, or_cases, or_left, or_right}
 use Rattle.std.proofs.Common.{◌≡◌, ℕ, Bool, true, false, ◌||◌, cond, List, [], ◌∷◌, ◌++◌, Some, refl, sym, ap, ◌∙◌, arith, eqb, subst, inl, inr}
 use Rattle.std.specs.Ordering.{nat_cmp}
 use Rattle.std.specs.FinMap.{FinMap}
@@ -16,7 +16,6 @@ use Rattle.doc_model.specs.Picture.{Doc}
 use Rattle.doc_model.proofs.Parents.{Distinct, side, side_has, child_has, child_parent, parent_side}
 use Rattle.doc_model.proofs.Weights.{IsTree, tree_distinct, tree_root}
 use Rattle.doc_model.proofs.Paths.{Orderly, KidsIn, on_append, on_order, path_self, path_groups, path_up, path_orderly, order_orderly, group_has, child_group, path_with, order_with, is_group_with, parent_with}
-use Rattle.geom_core.proofs.Tests.{or_cases, or_left, or_right}
 use Rattle.machine_model.specs.State.{Child}
 use Rattle.machine_model.specs.Groups.{with_pixels, nodes_in, path_of, on, parent_of, folded}
 use Rattle.machine_model.specs.Walking.{IsGroupOf}

@@ -11,7 +11,7 @@ use Rattle.doc_model.specs.Picture.{canvas_area}
 use Rattle.doc_model.proofs.Shots.{at-shot_of}
 use Rattle.doc_model.proofs.Conflicts.{meets_at}
 use Rattle.doc_model.proofs.QueueLaws.{queued_for}
-use Rattle.geom_core.proofs.Tests.{or_cases, or_left, or_right, none_left, none_right}
+use Rattle.geom_core.proofs.Tests.{or_cases, or_left, or_right, none_left, none_right, both_true, and_left, and_right, not_true}
 use Rattle.machine_model.specs.State.{Child, Walker, Slot, Free, Paints, Walks, State}
 use Rattle.machine_model.specs.Groups.{children_of, path_of, on}
 use Rattle.machine_model.specs.Slots.{is_painter}
@@ -20,13 +20,11 @@ use Rattle.machine_model.specs.Walks.{shots_of, walk_shot, cut_child}
 use Rattle.machine_model.specs.Guards.{meets_walker}
 use Rattle.machine_model.specs.Effects.{without_nth}
 use Rattle.machine_model.specs.Caches.{CachesFold, WalkIsRight, WalkReads, SamePixels}
-use Rattle.machine_model.specs.Walking.{WalkStands, walks_apart, all_apart}
+use Rattle.machine_model.specs.Walking.{WalkStands, walks_apart, all_apart, WalkInside}
 use Rattle.machine_model.proofs.Lists.{all_set}
 use Rattle.machine_model.proofs.WalkPaths.{grouped}
 use Rattle.machine_model.proofs.Covers.{groups_of, slot_on, anyone, cov, up_of, IsFold, IsRead, caches_by, walk_by, fold_covers, read_covers, any_set_grow, any_set_new}
-use Rattle.machine_model.specs.Walking.{WalkInside}
 use Rattle.machine_model.proofs.JobCaches.{either_covers}
-use Rattle.geom_core.proofs.Tests.{both_true, and_left, and_right, not_true}
 
 -- no point of a walk's patch lies in the rectangle
 abbrev pub AwayFrom : Area → Slot → Type 0
