@@ -22,7 +22,7 @@ use Rattle.doc_model.proofs.QueueLaws.{queued_for, in_grid}
 use Rattle.doc_model.proofs.QueueWhole.{refreshed_takes}
 use Rattle.doc_model.proofs.Paths.{content_put_back}
 use Rattle.geom_core.proofs.Tests.{or_left, or_right, not_true}
-use Rattle.machine_model.specs.State.{Reach, Whole, Part, Slot, Free, Paints, Walks, State, head_stroke, head}
+use Rattle.machine_model.specs.State.{Reach, Whole, Part, Slot, Free, Paints, Walks, State, head_stroke, head, stroke_of}
 use Rattle.machine_model.specs.Groups.{path_of, on, parent_of}
 use Rattle.machine_model.specs.Slots.{is_walker}
 use Rattle.machine_model.specs.Step.{ActStep}
@@ -154,7 +154,7 @@ module _ (old new : State) (rest : AtRest old) (grid : (p : Point) → holds (ca
   by_entry Exports free trees past future e = acts_rest _ e refl refl refl refl refl
 
 free_entry : (s : State) (e : Entry) → head s ≡ Some e → head_stroke s ≡ None → stroke_free e
-free_entry s (Strokes stroke) h free = (let t : Some stroke ≡ None = sym (ap Rattle.machine_model.specs.State.stroke_of h) ∙ free in clash t)
+free_entry s (Strokes stroke) h free = (let t : Some stroke ≡ None = sym (ap stroke_of h) ∙ free in clash t)
   where
     clash : {A : Type 0} {x : A} → Some x ≡ None → ⊥
     clash t = cc

@@ -1,6 +1,6 @@
 -- An entry that is no stroke keeps the machine orderly.
 use Rattle.std.proofs.Common.{◌≡◌, ℕ, suc, zero, ◌+◌, ◌*◌, ◌≤◌, true, false, ◌&&◌, not, List, [], ◌∷◌, Option, Some, None, length, take, map, refl, sym, ap, ◌∙◌, arith, subst}
-use Rattle.std.specs.Prelude.{Result, Ok, Err, pos, int_lt}
+use Rattle.std.specs.Prelude.{Result, Ok, Err, pos, int_lt, ◌+ℤ◌}
 use Rattle.std.specs.List.{list_any, AllByRecursion}
 use Rattle.std.specs.FinSet as set
 use Rattle.std.specs.FinSet.{FinSet}
@@ -26,15 +26,15 @@ use Rattle.doc_model.proofs.SameContent.{with_same}
 use Rattle.doc_model.proofs.Weights.{IsTree, tree_distinct}
 use Rattle.doc_model.proofs.TreeChanges.{TreeStory}
 use Rattle.machine_model.specs.State.{Reach, Whole, Part, State, Slot, story, head, head_stroke, stroke_of}
-use Rattle.machine_model.specs.Slots.{is_walker}
+use Rattle.machine_model.specs.Slots.{is_walker, is_painter}
 use Rattle.machine_model.specs.Groups.{parent_of}
 use Rattle.machine_model.specs.Guards.{is_exclusive}
 use Rattle.machine_model.specs.Effects.{updates_with, bound_of, moved_to, with_outcome, after_entry, after_change, after_undo, after_redo}
 use Rattle.machine_model.specs.Step.{ActStep}
 use Rattle.machine_model.specs.Reached.{PastReaches, FutureReaches, Reached}
 use Rattle.machine_model.specs.UnderWay.{AtRest, UnderWay, IsOnWay}
-use Rattle.machine_model.specs.Walking.{IsGroupOf}
-use Rattle.machine_model.specs.Counted.{IsOfLimits, painters, ended_jobs}
+use Rattle.machine_model.specs.Walking.{IsGroupOf, all_apart}
+use Rattle.machine_model.specs.Counted.{IsOfLimits, painters, ended_jobs, PublishedOwn, SerialBelow, SerialsDiffer}
 use Rattle.machine_model.specs.Sound.{IsOrderly}
 use Rattle.machine_model.proofs.Lists.{all_map}
 use Rattle.machine_model.proofs.StateTrees.{trees}
@@ -44,6 +44,7 @@ use Rattle.machine_model.proofs.WalksStand.{none_stand, group_with}
 use Rattle.machine_model.proofs.LeavingCounts.{jobs_of, jobs_left_any}
 use Rattle.machine_model.proofs.JobKeeps.{parent_stands}
 use Rattle.machine_model.proofs.CancelKeeps.{bound_right, bound_groups}
+use Rattle.doc_model.specs.Meaning.{Story, told}
 
 abbrev GroupsOf : Doc → List Patch → Type 0
 GroupsOf doc ps = AllByRecursion (λ (p : Patch). IsGroupOf doc p.walk) ps
@@ -85,7 +86,7 @@ tells_acted s o r = record {
 canvas_meets : (c : Canvas) → IsOfLimits c → meets (canvas_area c) (canvas_area c) ≡ true
 canvas_meets c l = both_true _ _ (one c.w l.w.0) (one c.h l.h.0)
   where
-    one : (n : ℕ) → 1 ≤ n → (int_lt (pos 0) (Rattle.std.specs.Prelude.◌+ℤ◌ (pos 0) (pos n)) && int_lt (pos 0) (Rattle.std.specs.Prelude.◌+ℤ◌ (pos 0) (pos n))) ≡ true
+    one : (n : ℕ) → 1 ≤ n → (int_lt (pos 0) (pos 0 +ℤ pos n) && int_lt (pos 0) (pos 0 +ℤ pos n)) ≡ true
     one n h = grind (arith, ints)
 
 -- the document moves over the reach Whole
@@ -210,10 +211,10 @@ pub act_keeps : (old new : State) → IsOrderly old → ActStep old new → IsOr
 act_keeps old new sound step = subst IsOrderly (sym step.new_is) (record {
   told = told_more old next step.entry sound.told step.at_head (plain_closed step.entry plain_entry) a.fed a.canvas means;
   reached = a.reached;
-  on_way = subst (IsOnWay next) (sym (a.way ∙ begun)) (record { same = a.same; idle = ap (λ (slots : List Slot). not (list_any Rattle.machine_model.specs.Slots.is_painter slots)) a.slots ∙ rest.idle });
+  on_way = subst (IsOnWay next) (sym (a.way ∙ begun)) (record { same = a.same; idle = ap (λ (slots : List Slot). not (list_any is_painter slots)) a.slots ∙ rest.idle });
   walking = record {
     queue = subst (λ c. IsQueue (canvas_area c) next.updates) (sym a.canvas) a.queue;
-    apart = ap Rattle.machine_model.specs.Walking.all_apart a.slots ∙ sound.walking.apart;
+    apart = ap all_apart a.slots ∙ sound.walking.apart;
     groups = a.groups;
     walks = none_stand next next.slots (ap (list_any is_walker) a.slots ∙ not_true _ step.no_walks);
     alone = λ e. (let f : is_exclusive (head_stroke next) next.way ≡ false = ap (is_exclusive (head_stroke next)) (a.way ∙ begun) ∙ not_begun (head_stroke next) in cc);
@@ -221,9 +222,9 @@ act_keeps old new sound step = subst IsOrderly (sym step.new_is) (record {
   counted = record {
     canvas = subst IsOfLimits (sym a.canvas) sound.counted.canvas;
     slots = subst (λ (slots : List Slot). (1 ≤ length slots) × (length slots ≤ 17)) (sym a.slots) sound.counted.slots;
-    below = subst (λ n. AllByRecursion (Rattle.machine_model.specs.Counted.SerialBelow n) next.slots) (sym a.next) (subst (AllByRecursion (Rattle.machine_model.specs.Counted.SerialBelow old.next)) (sym a.slots) sound.counted.below);
-    differ = subst Rattle.machine_model.specs.Counted.SerialsDiffer (sym a.slots) sound.counted.differ;
-    own = subst (AllByRecursion Rattle.machine_model.specs.Counted.PublishedOwn) (sym a.slots) sound.counted.own;
+    below = subst (λ n. AllByRecursion (SerialBelow n) next.slots) (sym a.next) (subst (AllByRecursion (SerialBelow old.next)) (sym a.slots) sound.counted.below);
+    differ = subst SerialsDiffer (sym a.slots) sound.counted.differ;
+    own = subst (AllByRecursion PublishedOwn) (sym a.slots) sound.counted.own;
     budget = budget old.next (length old.updates) next.next (length next.updates) _ _ (jobs_of step.entry) (ended_jobs old.slots old.way) _ (painters old.slots) _ _ _ sound.counted.budget a.next a.queue.few
         (jobs_left_any old next step.entry step.at_head a.fed count) ended_is (ap painters a.slots) count;
   };
@@ -248,11 +249,11 @@ act_keeps old new sound step = subst IsOrderly (sym step.new_is) (record {
     a : Acted old next
     a = acted old step.entry plain_entry (record { same = rest.same; trees = trees old sound.told; canvas = sound.counted.canvas; queue = sound.walking.queue; groups = sound.walking.groups; reached = sound.reached })
 
-    means : story next ≡ Rattle.doc_model.specs.Meaning.told old.canvas (story old) step.entry
+    means : story next ≡ told old.canvas (story old) step.entry
     means = story_acts old step.entry plain_entry
 
     count : length next.outcomes ≡ suc (length old.outcomes)
-    count = ap (λ (s : Rattle.doc_model.specs.Meaning.Story). length s.outcomes) means ∙ one_outcome old.canvas (story old) step.entry
+    count = ap (λ (s : Story). length s.outcomes) means ∙ one_outcome old.canvas (story old) step.entry
 
     ended_is : ended_jobs next.slots next.way ≡ ended_jobs old.slots old.way
     ended_is = λ i. ended_jobs (a.slots i) (a.way i)

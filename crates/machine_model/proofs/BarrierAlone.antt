@@ -1,6 +1,6 @@
 -- As long as a barrier of a stroke that isn't exclusive is at work, no walk is and none waits.
 use Rattle.std.proofs.Common.{◌≡◌, ◌≢◌, ℕ, suc, zero, ◌<◌, Bool, true, false, not, List, [], ◌∷◌, Some, refl, sym, ap, ◌∙◌, arith, subst, inl, inr}
-use Rattle.std.specs.Prelude.{slice_get, slice_set}
+use Rattle.std.specs.Prelude.{slice_get, slice_set, ◌≤◌}
 use Rattle.std.specs.List.{list_any}
 use Rattle.geom_core.proofs.Tests.{not_true}
 use Rattle.doc_model.specs.declared.job.Kind.{Kind}
@@ -89,7 +89,7 @@ feed_clear old c sound clear place job shared = go (painting old place job.paint
         there = sym (get_front (kept_jobs way.stroke) grows.2.jobs.0 job.painter.index (below (length_above (kept_jobs way.stroke) job.painter.index _ here.2)))
             ∙ ap (λ jobs. slice_get jobs job.painter.index) (sym grows.2.jobs.1) ∙ ap (λ (t : Stroke). slice_get (kept_jobs t) job.painter.index) (sym same) ∙ job.listed
           where
-            below : {n m : ℕ} → Rattle.std.specs.Prelude.◌≤◌ (suc n) m → n < m
+            below : {n m : ℕ} → suc n ≤ m → n < m
             below h = omega arith
 
 start_clear : (old new : State) (place : ℕ) → IsOrderly new → StartStep old place new → BarrierIsClear new

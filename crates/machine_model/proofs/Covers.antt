@@ -24,6 +24,7 @@ use Rattle.machine_model.specs.Walks.{walk_value}
 use Rattle.machine_model.specs.Caches.{CachesFold, WalkReads, WalkIsRight, SamePixels, covered_by_others}
 use Rattle.machine_model.specs.Walking.{WalkInside, WalkStands, SameChildren, IsGroupOf}
 use Rattle.machine_model.proofs.WalkPaths.{grouped}
+use Rattle.std.proofs.lemmas.Bool.Decides.{nat_tests}
 
 abbrev pub groups_of : Walker → List ℕ
 groups_of w = map (λ (e : ℕ × List Child). e.0) w.shot
@@ -109,7 +110,7 @@ all_on xs = go xs (λ g h. h)
     go (y ∷ ys) sub = (sub y.0 (or_left (eqb y.0 y.0) _ (equal_test y.0)), go ys (λ g h. sub g (or_right (eqb y.0 g) _ h)))
       where
         equal_test : (d : ℕ) → eqb d d ≡ true
-        equal_test d = grind (arith, Rattle.std.proofs.lemmas.Bool.Decides.nat_tests)
+        equal_test d = grind (arith, nat_tests)
 
 pub shots_by : (P Q R S : ℕ × List Child → Type 0) → ((e : ℕ × List Child) → P e → Q e → R e → S e) → (xs : List (ℕ × List Child)) → AllByRecursion P xs → AllByRecursion Q xs → AllByRecursion R xs → AllByRecursion S xs
 shots_by P Q R S f [] a b c = tt

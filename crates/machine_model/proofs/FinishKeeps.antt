@@ -1,11 +1,11 @@
 -- A stroke that finishes keeps the machine orderly.
-use Rattle.std.proofs.Common.{◌≡◌, ℕ, suc, zero, ◌+◌, ◌*◌, ◌≤◌, Bool, true, false, ◌&&◌, List, [], ◌∷◌, ◌++◌, Option, Some, None, length, map, refl, sym, ap, ◌∙◌, arith, subst, inl, inr}
+use Rattle.std.proofs.Common.{◌≡◌, ℕ, suc, zero, ◌+◌, ◌*◌, ◌≤◌, Bool, true, false, ◌&&◌, List, [], ◌∷◌, ◌++◌, Option, Some, None, length, map, refl, sym, ap, ◌∙◌, arith, subst, inl, inr, ◌||◌}
 use Rattle.std.specs.FinSet as set
 use Rattle.std.proofs.lemmas.List.Folds.{list_any-append}
 use Rattle.geom_core.proofs.Tests.{true_or_false, kept, or_left, or_right, is_some-None}
 use Rattle.geom_core.proofs.Keys.{key_of_any_held}
 use Rattle.geom_core.specs.Points.{Point}
-use Rattle.geom_core.specs.Areas.{any_holds}
+use Rattle.geom_core.specs.Areas.{any_holds, Area, holds}
 use Rattle.geom_core.specs.Grid.{Key, key_cmp_total, key_of, key_set, all_keys_of}
 use Rattle.doc_model.specs.declared.job.Job.{Job}
 use Rattle.doc_model.specs.declared.job.Kind.{Kind}
@@ -55,8 +55,8 @@ shown_none : (jobs : Jobs) (layer : Layer) (d : ℕ → Key → Bool) (n : ℕ) 
 shown_none jobs layer d zero p out = refl
 shown_none jobs layer d (suc n) p out = kept (any_holds (writes_at jobs n) p && d n (key_of p)) _ _ (ap (λ b. b && d n (key_of p)) (out n)) ∙ shown_none jobs layer d n p out
 
-any_areas : (p : Point) (xs ys : List Rattle.geom_core.specs.Areas.Area) → any_holds (xs ++ ys) p ≡ Rattle.std.proofs.Common.◌||◌ (any_holds xs p) (any_holds ys p)
-any_areas p xs ys = list_any-append (λ a. Rattle.geom_core.specs.Areas.holds a p) xs ys
+any_areas : (p : Point) (xs ys : List Area) → any_holds (xs ++ ys) p ≡ (any_holds xs p || any_holds ys p)
+any_areas p xs ys = list_any-append (λ a. holds a p) xs ys
 
 written : (jobs : Jobs) (j : ℕ) (p : Point) → any_holds (writes_at jobs j) p ≡ true → any_holds (writes_of jobs) p ≡ true
 written [] j p h = h

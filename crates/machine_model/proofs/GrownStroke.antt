@@ -13,6 +13,7 @@ use Rattle.doc_model.specs.Strokes.{Jobs, one_run, runs_at, passes, runs}
 use Rattle.doc_model.proofs.Conflicts.{all_from_same}
 use Rattle.machine_model.specs.State.{Slot, Free, Paints, Walks}
 use Rattle.machine_model.specs.UnderWay.{SlotIsStarted, MayOverlap, both_uni, after_jobs, writes_at, shown, ShotIsRight, PixelsAre}
+use Rattle.machine_model.specs.Slots.{done}
 
 -- more items behind change none in front
 pub get_front : {A : Type 0} (xs ys : List A) (i : ℕ) → i < length xs → slice_get (xs ++ ys) i ≡ slice_get xs i
@@ -68,5 +69,5 @@ pub pixels_grown : (jobs rest : Jobs) (base_layer layer : Layer) (n : ℕ) (slot
 pixels_grown jobs rest base_layer layer n slots l started right = record {
   shots = shots_grown jobs rest base_layer n slots l started right.shots;
   default_pixel = right.default_pixel;
-  pixels = λ p. right.pixels p ∙ sym (shown_grown jobs rest base_layer (Rattle.machine_model.specs.Slots.done slots) n p l);
+  pixels = λ p. right.pixels p ∙ sym (shown_grown jobs rest base_layer (done slots) n p l);
 }

@@ -33,6 +33,7 @@ use Rattle.machine_model.proofs.WalksStand.{shape_same, shape_with, all_stand, g
 use Rattle.machine_model.proofs.StartWay.{way_after_start, not_started}
 use Rattle.machine_model.proofs.PublishWay.{way_after_publish}
 use Rattle.machine_model.proofs.EndWay.{way_after_end}
+use Rattle.std.specs.Option.{unwrap_or}
 
 -- where a job is at work a stroke is under way
 pub painting : (s : State) (place : ℕ) (w : Painter) → slice_get s.slots place ≡ Some (Paints w) → (o : Option ℕ) → IsOnWay s o → (n : ℕ) × (o ≡ Some n) × UnderWay s n
@@ -188,7 +189,7 @@ all_groups canvas doc g (r ∷ rects) ps new h = all_groups canvas doc g rects (
 pub parent_stands : (id : ℕ) (doc : Doc) → IsGroupOf doc (Up (parent_of id doc))
 parent_stands id doc = go (parent id 0 doc) refl
   where
-    go : (o : Option ℕ) → parent id 0 doc ≡ o → IsGroupOf doc (Up (Rattle.std.specs.Option.unwrap_or o 0))
+    go : (o : Option ℕ) → parent id 0 doc ≡ o → IsGroupOf doc (Up (unwrap_or o 0))
     go None e = refl
     go (Some g) e = parent_is_group id 0 g doc e
 

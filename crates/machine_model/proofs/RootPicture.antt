@@ -27,7 +27,7 @@ use Rattle.machine_model.proofs.WalkPaths.{grouped, path_root}
 use Rattle.machine_model.proofs.Covers.{groups_of, slot_on, anyone, up_of, covered_is}
 use Rattle.machine_model.proofs.JobCaches.{either_covers}
 use Rattle.machine_model.proofs.StateTrees.{present_tree}
-use Rattle.machine_model.specs.PictureLaws.{CleanIsPicture}
+use Rattle.machine_model.specs.PictureLaws.{CoveredReachesRoot, CleanIsPicture}
 
 -- where each cache is the fold of the children, the fold is the picture
 folded_laid : (caches : FinMap nat_cmp Layer) (kids : ℕ → Doc) (f : Doc) (p : Point) (b c : Rgba) → b ≡ c → Distinct f → KidsIn kids f → ((g : ℕ) → is_group g f ≡ true → at (cache caches g) p ≡ folded (with_pixels caches (kids g)) p clear)
@@ -68,6 +68,9 @@ root_covered s stands g p h = covered_is s 0 p ∙ either_covers _ _ _ (λ e. or
     ]
 
 -- a sound state whose root isn't covered at a point of the canvas has the picture there
+pub covered_reaches_root : CoveredReachesRoot
+covered_reaches_root s g p sound h = root_covered s sound.walking.walks g p h
+
 pub clean_is_picture : CleanIsPicture
 clean_is_picture s sound p inside clean = fold 0 refl ∙ folded_laid s.caches (λ g. nodes_in g s.present) s.present p clear clear refl (tree_distinct s.present tree) kids (λ g h. fold g (or_right (eqb g 0) _ h))
   where

@@ -1,6 +1,6 @@
 -- Every event keeps the machine orderly, and so does every run.
 use Rattle.std.proofs.Common.{◌≡◌, ℕ, suc, zero, ◌≤◌, Bool, true, false, List, [], ◌∷◌, Option, Some, None, length, take, drop, refl, sym, ap, ◌∙◌, arith, subst}
-use Rattle.std.specs.List.{AllByRecursion, list_any}
+use Rattle.std.specs.List.{AllByRecursion, list_any, list_all}
 use Rattle.doc_model.specs.declared.canvas.Canvas.{Canvas}
 use Rattle.doc_model.specs.Strokes.{Entry, entries}
 use Rattle.doc_model.specs.Meaning.{meaning}
@@ -9,8 +9,8 @@ use Rattle.machine_model.specs.Slots.{is_painter}
 use Rattle.machine_model.specs.Event.{Event, Feed, Init, Start, Publish, End, Finish, Cancel, Act, WalkStart, WalkPublish, WalkEnd}
 use Rattle.machine_model.specs.Step.{Run}
 use Rattle.machine_model.specs.UnderWay.{IsOnWay}
-use Rattle.machine_model.specs.Walking.{WalkStands, all_apart}
-use Rattle.machine_model.specs.Counted.{IsOfLimits, SerialBelow, SerialsDiffer, PublishedOwn}
+use Rattle.machine_model.specs.Walking.{WalkStands, all_apart, walks_apart}
+use Rattle.machine_model.specs.Counted.{IsOfLimits, SerialBelow, SerialsDiffer, PublishedOwn, HasNot}
 use Rattle.machine_model.specs.Sound.{IsOrderly}
 use Rattle.machine_model.specs.SoundnessLaws.{IsNew, StepKeepsOrder, RunsAreOrderly}
 use Rattle.machine_model.specs.MeaningLaws.{SettledHasMeaning, RunsHaveMeaning}
@@ -22,6 +22,8 @@ use Rattle.machine_model.proofs.FinishKeeps.{finish_keeps}
 use Rattle.machine_model.proofs.CancelKeeps.{cancel_keeps}
 use Rattle.machine_model.proofs.ActKeeps.{act_keeps}
 use Rattle.machine_model.proofs.WalkKeeps.{walk_start_keeps, walk_publish_keeps, walk_end_keeps}
+use Rattle.geom_core.proofs.Tests.{both_true, neither}
+use Rattle.std.specs.Prelude.{not}
 
 pub step_keeps : StepKeepsOrder
 step_keeps old new (Feed c) sound step = feed_keeps old new c sound step
@@ -50,13 +52,13 @@ each_free P h (x ∷ slots) free = (subst P (sym free.0) h, each_free P h slots 
 
 none_free : (test : Slot → Bool) → test Free ≡ false → (slots : List Slot) → AllFree slots → list_any test slots ≡ false
 none_free test h [] free = refl
-none_free test h (x ∷ slots) free = Rattle.geom_core.proofs.Tests.neither _ _ (ap test free.0 ∙ h) (none_free test h slots free.1)
+none_free test h (x ∷ slots) free = neither _ _ (ap test free.0 ∙ h) (none_free test h slots free.1)
 
 apart_free : (slots : List Slot) → AllFree slots → all_apart slots ≡ true
 apart_free [] free = refl
-apart_free (x ∷ slots) free = subst (λ y. all_apart (y ∷ slots) ≡ true) (sym free.0) (Rattle.geom_core.proofs.Tests.both_true _ _ (nothing slots) (apart_free slots free.1))
+apart_free (x ∷ slots) free = subst (λ y. all_apart (y ∷ slots) ≡ true) (sym free.0) (both_true _ _ (nothing slots) (apart_free slots free.1))
   where
-    nothing : (ys : List Slot) → Rattle.std.specs.List.list_all (Rattle.machine_model.specs.Walking.walks_apart Free) ys ≡ true
+    nothing : (ys : List Slot) → list_all (walks_apart Free) ys ≡ true
     nothing [] = refl
     nothing (y ∷ ys) = nothing ys
 
@@ -64,7 +66,7 @@ differ_free : (slots : List Slot) → AllFree slots → SerialsDiffer slots
 differ_free [] free = tt
 differ_free (x ∷ slots) free = subst (λ y. SerialsDiffer (y ∷ slots)) (sym free.0) (nothing slots, differ_free slots free.1)
   where
-    nothing : (ys : List Slot) → AllByRecursion (Rattle.machine_model.specs.Counted.HasNot None) ys
+    nothing : (ys : List Slot) → AllByRecursion (HasNot None) ys
     nothing [] = tt
     nothing (y ∷ ys) = (tt, nothing ys)
 
@@ -72,7 +74,7 @@ pub new_orderly : (canvas : Canvas) (n : ℕ) → IsOfLimits canvas → 1 ≤ n 
 new_orderly canvas n limits low high = record {
   told = record { lawful = refl; closed = refl; few = omega arith; means = refl };
   reached = record { past = tt; future = tt };
-  on_way = record { same = refl; idle = ap Rattle.std.specs.Prelude.not (none_free is_painter refl _ free.0) };
+  on_way = record { same = refl; idle = ap not (none_free is_painter refl _ free.0) };
   walking = record {
     queue = record { places = refl; unlike = refl; few = omega arith };
     apart = apart_free _ free.0;

@@ -1,6 +1,6 @@
 -- What one slot set to something else changes for walks, serials and counts.
-use Rattle.std.proofs.Common.{◌≡◌, ◌≢◌, ℕ, suc, zero, ◌+◌, ◌<◌, ◌≤◌, Bool, true, false, ◌&&◌, ◌||◌, not, cond, List, [], ◌∷◌, Option, Some, None, length, refl, sym, ap, ◌∙◌, arith, eqb}
-use Rattle.std.specs.Prelude.{slice_get, slice_set}
+use Rattle.std.proofs.Common.{◌≡◌, ◌≢◌, ℕ, suc, zero, ◌+◌, ◌<◌, ◌≤◌, Bool, true, false, ◌&&◌, ◌||◌, not, cond, List, [], ◌∷◌, Option, Some, None, length, refl, sym, ap, ◌∙◌, arith, eqb, subst}
+use Rattle.std.specs.Prelude.{slice_get, slice_set, int_lt}
 use Rattle.std.specs.List.{list_any, list_all, AllByRecursion}
 use Rattle.std.proofs.lemmas.Bool.Decides.{nat_tests}
 use Rattle.geom_core.proofs.Tests.{taken, kept, and_left, and_right, both_true, none_left, none_right}
@@ -10,6 +10,7 @@ use Rattle.machine_model.specs.Slots.{runs_in, is_painter, is_walker}
 use Rattle.machine_model.specs.Guards.{meets_walker}
 use Rattle.machine_model.specs.Walking.{walks_apart, all_apart}
 use Rattle.machine_model.specs.Counted.{serial_of, SerialBelow, HasNot, SerialsDiffer, painters, ended}
+use Rattle.doc_model.specs.declared.canvas.Patch.{Patch}
 
 pub length_set : {A : Type 0} (xs : List A) (s : ℕ) (x : A) → length (slice_set xs s x) ≡ length xs
 length_set [] s x = refl
@@ -67,7 +68,7 @@ clear_unless_walks y (z ∷ slots) h = both_true _ _ (one y z h) (clear_unless_w
     one (Walks w) z h = cc
 
 pub meets_swapped : (a b : Area) → meets a b ≡ meets b a
-meets_swapped a b = (λ i. swap (Rattle.std.specs.Prelude.int_lt a.x (right b)) (Rattle.std.specs.Prelude.int_lt b.x (right a)) i && swap (Rattle.std.specs.Prelude.int_lt a.y (bottom b)) (Rattle.std.specs.Prelude.int_lt b.y (bottom a)) i)
+meets_swapped a b = (λ i. swap (int_lt a.x (right b)) (int_lt b.x (right a)) i && swap (int_lt a.y (bottom b)) (int_lt b.y (bottom a)) i)
   where
     swap : (s t : Bool) → (s && t) ≡ (t && s)
     swap true true = refl
@@ -106,7 +107,7 @@ apart_same (z ∷ slots) (suc s) w v h e = (λ i. apart_like z (Walks v) (Walks 
     from : (u : Slot) → walks_apart u (Walks v) ≡ walks_apart u (Walks w)
     from Free = refl
     from (Paints u) = refl
-    from (Walks u) = ap (λ (p : Rattle.doc_model.specs.declared.canvas.Patch.Patch). not (meets u.patch.rect p.rect)) e
+    from (Walks u) = ap (λ (p : Patch). not (meets u.patch.rect p.rect)) e
 
 -- serials
 abbrev Other : Slot → Slot → Type 0
@@ -170,7 +171,7 @@ has_not_same o x y (z ∷ slots) (suc s) h e all = (all.0, has_not_same o x y sl
 
 pub differ_same : (slots : List Slot) (s : ℕ) (x y : Slot) → slice_get slots s ≡ Some x → serial_of y ≡ serial_of x → SerialsDiffer slots → SerialsDiffer (slice_set slots s y)
 differ_same [] s x y h e d = tt
-differ_same (z ∷ slots) zero x y h e d = let same : z ≡ x = cc in (Rattle.std.proofs.Common.subst (λ o. AllByRecursion (HasNot o) slots) (ap serial_of same ∙ sym e) d.0, d.1)
+differ_same (z ∷ slots) zero x y h e d = let same : z ≡ x = cc in (subst (λ o. AllByRecursion (HasNot o) slots) (ap serial_of same ∙ sym e) d.0, d.1)
 differ_same (z ∷ slots) (suc s) x y h e d = (has_not_same (serial_of z) x y slots s h e d.0, differ_same slots s x y h e d.1)
 
 pub below_more : (n : ℕ) (slots : List Slot) → AllByRecursion (SerialBelow n) slots → AllByRecursion (SerialBelow (suc n)) slots

@@ -3,7 +3,7 @@ use Rattle.machine_model.proofs.WalkPaths.{path_of_with}
 use Rattle.std.proofs.Common.{◌≡◌, ℕ, false, ◌||◌, List, [], ◌∷◌, map, refl, sym, ap, ◌∙◌, eqb, subst}
 use Rattle.std.specs.Ordering.{nat_cmp}
 use Rattle.std.specs.FinMap.{FinMap}
-use Rattle.std.specs.List.{AllByRecursion}
+use Rattle.std.specs.List.{AllByRecursion, list_any}
 use Rattle.geom_core.specs.Areas.{Area}
 use Rattle.doc_model.specs.declared.canvas.Walk.{Walk}
 use Rattle.doc_model.specs.declared.canvas.Walk.TheVariants.{Up, All}
@@ -18,6 +18,7 @@ use Rattle.machine_model.specs.Walks.{cut_child, shots_of}
 use Rattle.machine_model.specs.Walking.{IsGroupOf, SameChildren, WalkStands}
 use Rattle.machine_model.proofs.GroupChildren.{nodes_with}
 use Rattle.machine_model.proofs.Lists.{all_map}
+use Rattle.machine_model.specs.Slots.{is_walker}
 
 -- other caches
 like_caches : (c d : FinMap nat_cmp Layer) (xs : List Child) (f : Doc) → SameChildren xs (with_pixels c f) → SameChildren xs (with_pixels d f)
@@ -76,7 +77,7 @@ pub all_stand : (s t : State) → SameShape s t → (slots : List Slot) → AllB
 all_stand s t shape slots h = all_map (WalkStands s) (WalkStands t) slots (stands s t shape) h
 
 -- where nobody walks
-pub none_stand : (s : State) (slots : List Slot) → Rattle.std.specs.List.list_any Rattle.machine_model.specs.Slots.is_walker slots ≡ false → AllByRecursion (WalkStands s) slots
+pub none_stand : (s : State) (slots : List Slot) → list_any is_walker slots ≡ false → AllByRecursion (WalkStands s) slots
 none_stand s [] h = tt
 none_stand s (Free ∷ slots) h = (tt, none_stand s slots h)
 none_stand s (Paints w ∷ slots) h = (tt, none_stand s slots h)

@@ -1,5 +1,5 @@
 -- What the caches show.
-use Rattle.std.specs.Prelude.{◌≡◌, true, false, Some, [], ◌∷◌, ◌++◌, map}
+use Rattle.std.specs.Prelude.{◌≡◌, ℕ, true, false, Some, [], ◌∷◌, ◌++◌, map}
 use Rattle.pixel_core.specs.Compose.{on_paper}
 use Rattle.geom_core.specs.Points.{Point}
 use Rattle.geom_core.specs.Areas.{holds, points_of}
@@ -11,11 +11,15 @@ use Rattle.machine_model.specs.Groups.{cache, covered}
 use Rattle.machine_model.specs.Event.{Act}
 use Rattle.machine_model.specs.Step.{Step}
 use Rattle.machine_model.specs.Caches.{CachesFold}
-use Rattle.machine_model.specs.Sound.{IsSound}
+use Rattle.machine_model.specs.Sound.{IsOrderly, IsSound}
 
 -- each group's cache is the fold of its children as they are now, but where something will compose the group again
 abbrev pub CachesAreFolds : Type 0
 CachesAreFolds = (s : State) → IsSound s → CachesFold s
+
+-- where something will compose a group again, it will compose the root again
+abbrev pub CoveredReachesRoot : Type 0
+CoveredReachesRoot = (s : State) (g : ℕ) (p : Point) → IsOrderly s → covered s g p ≡ true → covered s 0 p ≡ true
 
 -- where the root isn't covered its cache is the picture of the present document
 abbrev pub CleanIsPicture : Type 0

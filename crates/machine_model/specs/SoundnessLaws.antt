@@ -51,13 +51,14 @@ fed_by [] = []
 fed_by (Feed c ∷ events) = c ∷ fed_by events
 fed_by (e ∷ events) = fed_by events
 
--- the canvas and the number of slots stay, what is fed joins the commands, and no outcome or frame is taken back
+-- the canvas and the number of slots stay, what is fed joins the commands, no outcome or frame is taken back, and the next serial never falls
 pub record Continues (commands : List Command) (old new : State) : Type 0 where
   pub canvas : new.canvas ≡ old.canvas
   pub slots : length new.slots ≡ length old.slots
   pub fed : new.fed ≡ old.fed ++ commands
   pub outcomes : (more : List Outcome) × (new.outcomes ≡ old.outcomes ++ more)
   pub frames : (more : List Frame) × (new.frames ≡ old.frames ++ more)
+  pub serials : old.next ≤ new.next
 
 -- every run goes on from what was there
 abbrev pub RunsContinue : Type 0

@@ -1,10 +1,15 @@
 //! What the caches show, and what an export takes from them.
 
-ghost use Rattle.machine_model.specs.PictureLaws.{CachesAreFolds, CleanIsPicture, CleanIsFrame, ExportIsFrame};
+ghost use Rattle.machine_model.specs.PictureLaws.{CachesAreFolds, CoveredReachesRoot, CleanIsPicture, CleanIsFrame, ExportIsFrame};
 
 /// Each cache is the fold of its group's children, but where something will compose the group again.
 pub fn caches_are_folds()
     ensures { CachesAreFolds }
+{}
+
+/// Where something will compose a group again, it will compose the root again.
+pub fn covered_reaches_root()
+    ensures { CoveredReachesRoot }
 {}
 
 /// Where the root is not covered its cache is the picture of the present document.

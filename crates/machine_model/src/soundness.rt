@@ -27,7 +27,7 @@ pub fn runs_are_sound()
     ensures { RunsAreSound }
 {}
 
-/// A run keeps its canvas and slots; what is fed joins the commands, and no outcome or frame is taken back.
+/// A run keeps its canvas and slots; what is fed joins the commands, no outcome or frame is taken back, and no serial is used again.
 pub fn runs_continue()
     ensures { RunsContinue }
 {}
