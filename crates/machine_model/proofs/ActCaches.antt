@@ -17,13 +17,15 @@ use Rattle.doc_model.specs.Forest.{content, with_content}
 use Rattle.doc_model.specs.Strokes.{Entry, Strokes, Changes, Undoes, Redoes, Purges, Exports}
 use Rattle.doc_model.specs.Updates.{queued, refreshed}
 use Rattle.doc_model.proofs.Contents.{with_content-with_content, content-with_content}
-use Rattle.doc_model.proofs.Weights.{IsTree, tree_distinct}
-use Rattle.doc_model.proofs.QueueLaws.{queued_for, in_grid}
+use Rattle.doc_model.proofs.Weights.{tree_distinct}
+use Rattle.doc_model.specs.Ids.{IsTree}
+use Rattle.doc_model.proofs.QueueLaws.{in_grid}
+use Rattle.doc_model.specs.Updates.{queued_for}
 use Rattle.doc_model.proofs.QueueWhole.{refreshed_takes}
 use Rattle.doc_model.proofs.Paths.{content_put_back}
 use Rattle.geom_core.proofs.Tests.{or_left, or_right, not_true}
 use Rattle.machine_model.specs.State.{Reach, Whole, Part, Slot, Free, Paints, Walks, State, head_stroke, head, stroke_of}
-use Rattle.machine_model.specs.Groups.{path_of, on, parent_of}
+use Rattle.machine_model.specs.Groups.{path_of, on, parent_of, composes}
 use Rattle.machine_model.specs.Slots.{is_walker}
 use Rattle.machine_model.specs.Step.{ActStep}
 use Rattle.machine_model.specs.Effects.{updates_with, bound_of, after_entry, after_change, after_undo, after_redo, moved_to, with_outcome}
@@ -54,9 +56,9 @@ caches_rest old new rest canvas present caches updates slots = caches_by old new
 caches_whole : (old new : State) → ((p : Point) → holds (canvas_area old.canvas) p ≡ true → in_grid p ≡ true) → new.canvas ≡ old.canvas → new.updates ≡ refreshed (canvas_area old.canvas) old.updates (canvas_area old.canvas) → CachesFold new
 caches_whole old new grid canvas updates g p is inside' =
     let inside : holds (canvas_area old.canvas) p ≡ true = ap (λ c. holds (canvas_area c) p) (sym canvas) ∙ inside' in
-    let queued : queued_for (λ w. on g (path_of w new.present)) (refreshed (canvas_area old.canvas) old.updates (canvas_area old.canvas)) p ≡ true =
-    refreshed_takes (λ w. on g (path_of w new.present)) (path_all g new.present is) (canvas_area old.canvas) old.updates (canvas_area old.canvas) p (grid p inside) inside inside in
-    fold_out new g p (fold_new (or_left _ _ (ap (λ q. queued_for (λ w. on g (path_of w new.present)) q p) updates ∙ queued)))
+    let queued : queued_for (composes g new.present) (refreshed (canvas_area old.canvas) old.updates (canvas_area old.canvas)) p ≡ true =
+    refreshed_takes (composes g new.present) (path_all g new.present is) (canvas_area old.canvas) old.updates (canvas_area old.canvas) p (grid p inside) inside inside in
+    fold_out new g p (fold_new (or_left _ _ (ap (λ q. queued_for (composes g new.present) q p) updates ∙ queued)))
 
 -- other pixels in the tiles of one layer
 caches_part : (old new : State) (q : ℕ) (x y : Layer) (keys : FinSet key_cmp) → AtRest old → ((p : Point) → holds (canvas_area old.canvas) p ≡ true → in_grid p ≡ true) → IsTree old.base → content q old.base ≡ Some x → DifferWithin keys x y
@@ -76,14 +78,14 @@ caches_part old new q x y keys rest grid tree there same canvas present caches s
 
     covers : (g : ℕ) (p : Point) → grouped g old.base ≡ true → in_grid p ≡ true → cov anyone old.base (up_of old) old.updates old.slots g p ≡ true → cov anyone doc' (up_of new) queue old.slots g p ≡ true
     covers g p is grid h = either_covers _ _ _
-        (λ e. or_left _ _ (queue_bound_stays (λ w. on g (path_of w doc')) (λ w e. path_all g doc' (is' g is)) old (parent_of q doc') (bound_of (set.items keys)) p grid e))
-        (λ e. or_right (queued_for (λ w. on g (path_of w doc')) queue p) _ e)
+        (λ e. or_left _ _ (queue_bound_stays (composes g doc') (λ w e. path_all g doc' (is' g is)) old (parent_of q doc') (bound_of (set.items keys)) p grid e))
+        (λ e. or_right (queued_for (composes g doc') queue p) _ e)
         (cov_with anyone q y old.base (up_of new) old.updates old.slots g p ∙ sym (cov_idle anyone old.base (up_of old) (up_of new) old.updates old.slots g p (not_true _ rest.idle)) ∙ h)
 
     point : (g : ℕ) (p : Point) → grouped g old.base ≡ true → holds (canvas_area old.canvas) p ≡ true → FoldsAt old.caches old.base (up_of old) old.updates old.slots g p → FoldsAt old.caches doc' (up_of new) queue old.slots g p
     point g p is inside h = elim (moved_from old.caches q x y old.base g p (set.contains keys (key_of p)) tree there (λ e. same.pixels p e)) [
       | inl at_same ↦ fold_moves refl at_same (covers g p is (grid p inside)) h
-      | inr hit ↦ fold_new (or_left _ _ (queue_bound_takes (λ w. on g (path_of w doc')) (λ w e. path_all g doc' (is' g is)) old (parent_of q doc') (bound_of (set.items keys)) p (grid p inside) inside
+      | inr hit ↦ fold_new (or_left _ _ (queue_bound_takes (composes g doc') (λ w e. path_all g doc' (is' g is)) old (parent_of q doc') (bound_of (set.items keys)) p (grid p inside) inside
           (ap (λ h. on g (path_of (Up h) doc')) (parent_of_with q q y old.base ∙ hit.1) ∙ path_here g doc' (is' g is)) (set_holds keys p hit.0)))
     ]
 

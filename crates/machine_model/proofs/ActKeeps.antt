@@ -23,7 +23,8 @@ use Rattle.doc_model.specs.Updates.{IsQueue, refreshed}
 use Rattle.doc_model.proofs.Patches.{refreshed_right}
 use Rattle.doc_model.proofs.QueuedWalks.{refreshed_whole}
 use Rattle.doc_model.proofs.SameContent.{with_same}
-use Rattle.doc_model.proofs.Weights.{IsTree, tree_distinct}
+use Rattle.doc_model.proofs.Weights.{tree_distinct}
+use Rattle.doc_model.specs.Ids.{IsTree}
 use Rattle.doc_model.proofs.TreeChanges.{TreeStory}
 use Rattle.machine_model.specs.State.{Reach, Whole, Part, State, Slot, story, head, head_stroke, stroke_of}
 use Rattle.machine_model.specs.Slots.{is_walker, is_painter}
@@ -34,7 +35,8 @@ use Rattle.machine_model.specs.Step.{ActStep}
 use Rattle.machine_model.specs.Reached.{PastReaches, FutureReaches, Reached}
 use Rattle.machine_model.specs.UnderWay.{AtRest, UnderWay, IsOnWay}
 use Rattle.machine_model.specs.Walking.{IsGroupOf, all_apart}
-use Rattle.machine_model.specs.Counted.{IsOfLimits, painters, ended_jobs, PublishedOwn, SerialBelow, SerialsDiffer}
+use Rattle.machine_model.specs.Counted.{painters, ended_jobs, PublishedOwn, SerialBelow, SerialsDiffer}
+use Rattle.doc_model.specs.Canvases.{IsOfLimits}
 use Rattle.machine_model.specs.Sound.{IsOrderly}
 use Rattle.machine_model.proofs.Lists.{all_map}
 use Rattle.machine_model.proofs.StateTrees.{trees}

@@ -19,11 +19,13 @@ use Rattle.doc_model.specs.Picture.{Doc, canvas_area}
 use Rattle.doc_model.specs.Forest.{content, with_content}
 use Rattle.doc_model.specs.Strokes.{Jobs, Stroke}
 use Rattle.doc_model.proofs.Contents.{with_content-with_content, content-with_content}
-use Rattle.doc_model.proofs.Weights.{IsTree, tree_distinct}
-use Rattle.doc_model.proofs.QueueLaws.{queued_for, in_grid}
+use Rattle.doc_model.proofs.Weights.{tree_distinct}
+use Rattle.doc_model.specs.Ids.{IsTree}
+use Rattle.doc_model.proofs.QueueLaws.{in_grid}
+use Rattle.doc_model.specs.Updates.{queued_for}
 use Rattle.doc_model.proofs.Paths.{content_put_back}
 use Rattle.machine_model.specs.State.{Child, Walker, Slot, State}
-use Rattle.machine_model.specs.Groups.{with_pixels, nodes_in, path_of, on, parent_of}
+use Rattle.machine_model.specs.Groups.{with_pixels, nodes_in, path_of, on, parent_of, composes}
 use Rattle.machine_model.specs.Slots.{is_painter, done}
 use Rattle.machine_model.specs.Step.{CancelStep}
 use Rattle.machine_model.specs.Effects.{updates_with, bound_of, writes_of, started_jobs}
@@ -120,12 +122,12 @@ module _ (old new : State) (tree : IsTree old.base) (present_tree : IsTree old.p
   -- what was covered stays so, and what was touched is covered for the layer's parent
   covers : (keep : Slot → Bool) (up : List ℕ) (g : ℕ) (p : Point) → grouped g old.base ≡ true → in_grid p ≡ true → cov keep old.present (up_of old) old.updates old.slots g p ≡ true → cov keep old.base up queue old.slots g p ≡ true
   covers keep up g p is grid h = either_covers _ _ _
-      (λ e. or_left _ _ (queue_bound_stays (λ w. on g (path_of w old.base)) (λ w e. path_all g old.base is) old (parent_of q old.present) (bound_of (set.items (key_set rects))) p grid e))
-      (λ e. or_right (queued_for (λ w. on g (path_of w old.base)) queue p) _ e)
+      (λ e. or_left _ _ (queue_bound_stays (composes g old.base) (λ w e. path_all g old.base is) old (parent_of q old.present) (bound_of (set.items (key_set rects))) p grid e))
+      (λ e. or_right (queued_for (composes g old.base) queue p) _ e)
       (sym (cov_idle keep old.base (up_of old) up old.updates old.slots g p idle) ∙ sym (cov_docs keep old.present old.base (up_of old) old.updates old.slots g p (base_paths old way)) ∙ h)
 
   touched_covered : (keep : Slot → Bool) (up : List ℕ) (g : ℕ) (p : Point) → grouped g old.base ≡ true → in_grid p ≡ true → holds (canvas_area old.canvas) p ≡ true → touched p ≡ true → parent_of q old.present ≡ g → cov keep old.base up queue old.slots g p ≡ true
-  touched_covered keep up g p is grid inside hit above = or_left _ _ (queue_bound_takes (λ w. on g (path_of w old.base)) (λ w e. path_all g old.base is) old (parent_of q old.present) (bound_of (set.items (key_set rects))) p grid inside
+  touched_covered keep up g p is grid inside hit above = or_left _ _ (queue_bound_takes (composes g old.base) (λ w e. path_all g old.base is) old (parent_of q old.present) (bound_of (set.items (key_set rects))) p grid inside
       (ap (λ h. on g (path_of (Up h) old.base)) above ∙ path_here g old.base is) (areas_hold rects p hit))
 
   abbrev by_present : (g : ℕ) → grouped g old.present ≡ true → grouped g old.base ≡ true

@@ -9,7 +9,7 @@ use Rattle.geom_core.proofs.Tests.{and_left, and_right, both_true}
 use Rattle.doc_model.specs.declared.canvas.Canvas.{Canvas}
 use Rattle.doc_model.specs.Picture.{canvas_area}
 use Rattle.doc_model.proofs.QueueLaws.{in_grid}
-use Rattle.machine_model.specs.Counted.{IsOfLimits}
+use Rattle.doc_model.specs.Canvases.{IsOfLimits}
 
 in_axis : (p : ℤ) (n : ℕ) → n ≤ 2048 → (int_le (pos 0) p && int_lt p (pos 0 +ℤ pos n)) ≡ true → (int_le (pos 0) p && int_lt p (pos 0 +ℤ pos 2048)) ≡ true
 in_axis p n few h = grind (arith, ints)

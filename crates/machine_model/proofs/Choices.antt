@@ -14,12 +14,6 @@ and_none a b e = grind arith
 pub none_and : (a b : Bool) → a ≡ false → (a && b) ≡ false
 none_and a b e = rw e refl
 
-pub and_turned : (a b : Bool) → (a && b) ≡ (b && a)
-and_turned true true = refl
-and_turned true false = refl
-and_turned false true = refl
-and_turned false false = refl
-
 pub same_and : (a b c : Bool) → (a ≡ true → b ≡ c) → (a && b) ≡ (a && c)
 same_and true b c e = e refl
 same_and false b c e = refl

@@ -1,5 +1,4 @@
 -- What caches and running walks hold, point by point and as a fact of the parts of a state.
-use Rattle.machine_model.proofs.Choices.{and_turned}
 use Rattle.std.proofs.Common.{◌≡◌, ℕ, suc, zero, Bool, true, false, ◌&&◌, ◌||◌, List, [], ◌∷◌, Some, map, refl, sym, ap, ◌∙◌, arith, eqb, subst, ◌⊎◌, inl, inr}
 use Rattle.std.specs.Prelude.{slice_get, slice_set}
 use Rattle.std.specs.Ordering.{nat_cmp}
@@ -14,10 +13,10 @@ use Rattle.doc_model.specs.declared.canvas.Patch.{Patch}
 use Rattle.doc_model.specs.Layers.{Layer, at}
 use Rattle.doc_model.specs.Jobs.{writes}
 use Rattle.doc_model.specs.Picture.{Doc, canvas_area}
-use Rattle.doc_model.proofs.QueueLaws.{queued_for}
+use Rattle.doc_model.specs.Updates.{queued_for}
 use Rattle.geom_core.proofs.Tests.{or_cases, or_left, or_right}
 use Rattle.machine_model.specs.State.{Child, Walker, Slot, Free, Paints, Walks, State, head_stroke}
-use Rattle.machine_model.specs.Groups.{cache, with_pixels, nodes_in, children_of, folded, path_of, on, painted_group, covered, patch_covers, slot_covers}
+use Rattle.machine_model.specs.Groups.{cache, with_pixels, nodes_in, children_of, folded, path_of, on, painted_group, covered, composes, slot_covers}
 use Rattle.machine_model.specs.Slots.{is_painter}
 use Rattle.machine_model.specs.Guards.{same_pair}
 use Rattle.machine_model.specs.Walks.{walk_value}
@@ -40,7 +39,7 @@ anyone slot = true
 
 -- whether a patch or one of the slots that pass the test composes the group at the point
 abbrev pub cov : (Slot → Bool) → Doc → List ℕ → List Patch → List Slot → ℕ → Point → Bool
-cov keep doc up updates slots g p = queued_for (λ w. on g (path_of w doc)) updates p || list_any (λ slot. keep slot && slot_on up g p slot) slots
+cov keep doc up updates slots g p = queued_for (composes g doc) updates p || list_any (λ slot. keep slot && slot_on up g p slot) slots
 
 abbrev pub up_of : State → List ℕ
 up_of s = path_of (Up (painted_group s (head_stroke s))) s.present
@@ -54,17 +53,11 @@ slot_is s g p Free = refl
 slot_is s g p (Paints w) = refl
 slot_is s g p (Walks w) = refl
 
-pub patches_are : (doc : Doc) (patches : List Patch) (g : ℕ) (p : Point) → list_any (patch_covers doc g p) patches ≡ queued_for (λ w. on g (path_of w doc)) patches p
-patches_are doc patches g p = any_same (patch_covers doc g p) (λ (q : Patch). on g (path_of q.walk doc) && holds q.rect p) patches (λ q. and_turned (holds q.rect p) (on g (path_of q.walk doc)))
-
-both_same : (a a' b b' : Bool) → a ≡ a' → b ≡ b' → (a || b) ≡ (a' || b')
-both_same a a' b b' e h = rw (e, h) refl
-
 pub covered_is : (s : State) (g : ℕ) (p : Point) → covered s g p ≡ cov anyone s.present (up_of s) s.updates s.slots g p
-covered_is s g p = both_same _ _ _ _ (patches_are s.present s.updates g p) (any_same (slot_covers s g p) (λ slot. anyone slot && slot_on (up_of s) g p slot) s.slots (λ slot. slot_is s g p slot))
+covered_is s g p = ap (λ b. queued_for (composes g s.present) s.updates p || b) (any_same (slot_covers s g p) (λ slot. anyone slot && slot_on (up_of s) g p slot) s.slots (λ slot. slot_is s g p slot))
 
 pub others_is : (s : State) (g : ℕ) (p : Point) → covered_by_others s g p ≡ cov is_painter s.present (up_of s) s.updates s.slots g p
-others_is s g p = both_same _ _ _ _ (patches_are s.present s.updates g p) (any_same (λ slot. is_painter slot && slot_covers s g p slot) (λ slot. is_painter slot && slot_on (up_of s) g p slot) s.slots (λ slot. ap (λ b. is_painter slot && b) (slot_is s g p slot)))
+others_is s g p = ap (λ b. queued_for (composes g s.present) s.updates p || b) (any_same (λ slot. is_painter slot && slot_covers s g p slot) (λ slot. is_painter slot && slot_on (up_of s) g p slot) s.slots (λ slot. ap (λ b. is_painter slot && b) (slot_is s g p slot)))
 
 -- the cache of one group at one point
 pub record FoldsAt (caches : FinMap nat_cmp Layer) (doc : Doc) (up : List ℕ) (updates : List Patch) (slots : List Slot) (g : ℕ) (p : Point) : Type 0 where

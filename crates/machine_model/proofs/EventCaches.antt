@@ -5,7 +5,8 @@ use Rattle.geom_core.specs.Points.{Point}
 use Rattle.geom_core.specs.Areas.{holds}
 use Rattle.doc_model.specs.declared.canvas.Walk.{Walk}
 use Rattle.doc_model.specs.Picture.{Doc, canvas_area}
-use Rattle.doc_model.proofs.Weights.{IsTree, tree_distinct}
+use Rattle.doc_model.proofs.Weights.{tree_distinct}
+use Rattle.doc_model.specs.Ids.{IsTree}
 use Rattle.doc_model.proofs.QueueLaws.{in_grid}
 use Rattle.machine_model.specs.State.{Reach, State}
 use Rattle.machine_model.specs.Groups.{path_of, on}

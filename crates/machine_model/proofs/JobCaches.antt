@@ -14,11 +14,12 @@ use Rattle.doc_model.specs.Picture.{Doc, canvas_area}
 use Rattle.doc_model.specs.Forest.{content}
 use Rattle.doc_model.specs.Strokes.{Stroke}
 use Rattle.doc_model.specs.Updates.{queued}
-use Rattle.doc_model.proofs.QueueLaws.{queued_for, in_grid}
+use Rattle.doc_model.proofs.QueueLaws.{in_grid}
+use Rattle.doc_model.specs.Updates.{queued_for}
 use Rattle.doc_model.proofs.QueueWhole.{queued_stays, queued_takes}
 use Rattle.machine_model.specs.State.{Painter, Slot, Free, Paints, Walks, State, head_stroke}
 use Rattle.machine_model.specs.Guards.{is_paint}
-use Rattle.machine_model.specs.Groups.{path_of, on, parent_of, painted_group}
+use Rattle.machine_model.specs.Groups.{path_of, on, parent_of, painted_group, composes}
 use Rattle.machine_model.specs.Slots.{is_painter, no_painter}
 use Rattle.machine_model.specs.Step.{InitStep, StartStep, EndStep, FinishStep}
 use Rattle.machine_model.specs.Effects.{after_finish, updates_with_all}
@@ -47,7 +48,7 @@ cov_filled : (keep : Slot → Bool) (doc : Doc) (up : List ℕ) (updates : List 
     → cov keep doc up updates slots g p ≡ true → cov keep doc up updates (slice_set slots i slot) g p ≡ true
 cov_filled keep doc up updates slots i slot g p free = either_covers _ _ _
     (λ e. or_left _ _ e)
-    (λ e. or_right (queued_for (λ w. on g (path_of w doc)) updates p) _ (any_set_grow (λ slot. keep slot && slot_on up g p slot) slots i Free slot free (and-false (keep Free)) e))
+    (λ e. or_right (queued_for (composes g doc) updates p) _ (any_set_grow (λ slot. keep slot && slot_on up g p slot) slots i Free slot free (and-false (keep Free)) e))
 
 pub caches_start : (old new : State) (place : ℕ) → StartStep old place new → CachesFold old → CachesFold new
 caches_start old new place step = caches_by old new (ap (λ (s : State). s.canvas) step.new_is) (λ g h. ap (λ (s : State). grouped g s.present) (sym step.new_is) ∙ h)
@@ -122,7 +123,7 @@ walks_end old new place grid groups step stands inside right = subst (AllByRecur
 -- where no job is at work it doesn't matter which layer is painted
 pub cov_idle : (keep : Slot → Bool) (doc : Doc) (up up' : List ℕ) (updates : List Patch) (slots : List Slot) (g : ℕ) (p : Point) → list_any is_painter slots ≡ false
     → cov keep doc up updates slots g p ≡ cov keep doc up' updates slots g p
-cov_idle keep doc up up' updates slots g p idle = ap (λ b. queued_for (λ w. on g (path_of w doc)) updates p || b) (go slots idle)
+cov_idle keep doc up up' updates slots g p idle = ap (λ b. queued_for (composes g doc) updates p || b) (go slots idle)
   where
     go : (slots : List Slot) → list_any is_painter slots ≡ false → list_any (λ slot. keep slot && slot_on up g p slot) slots ≡ list_any (λ slot. keep slot && slot_on up' g p slot) slots
     go [] e = refl

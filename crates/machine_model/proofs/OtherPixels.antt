@@ -14,8 +14,10 @@ use Rattle.doc_model.specs.Layers.{Layer, at}
 use Rattle.doc_model.specs.Picture.{Doc, canvas_area}
 use Rattle.doc_model.specs.Forest.{none, paint, group, content, with_content}
 use Rattle.doc_model.specs.Strokes.{Stroke}
-use Rattle.doc_model.proofs.Weights.{IsTree, tree_distinct}
-use Rattle.doc_model.proofs.QueueLaws.{queued_for, in_grid}
+use Rattle.doc_model.proofs.Weights.{tree_distinct}
+use Rattle.doc_model.specs.Ids.{IsTree}
+use Rattle.doc_model.proofs.QueueLaws.{in_grid}
+use Rattle.doc_model.specs.Updates.{queued_for}
 use Rattle.doc_model.proofs.QueueWhole.{queued_stays, queued_takes}
 use Rattle.doc_model.proofs.Paths.{content_put_back}
 use Rattle.machine_model.specs.State.{Child, Walker, Slot, State, head_stroke}

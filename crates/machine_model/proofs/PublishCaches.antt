@@ -12,12 +12,13 @@ use Rattle.doc_model.specs.Jobs.{writes, published, in_tile, apply}
 use Rattle.doc_model.specs.Picture.{Doc, canvas_area}
 use Rattle.doc_model.specs.Forest.{content, with_content}
 use Rattle.doc_model.proofs.Shots.{at-published}
-use Rattle.doc_model.proofs.Weights.{IsTree, tree_distinct}
-use Rattle.doc_model.proofs.QueueLaws.{queued_for}
+use Rattle.doc_model.proofs.Weights.{tree_distinct}
+use Rattle.doc_model.specs.Ids.{IsTree}
+use Rattle.doc_model.specs.Updates.{queued_for}
 use Rattle.geom_core.proofs.Tests.{or_right, both_true, and_left}
 use Rattle.doc_model.proofs.SameContent.{adjusted_is}
 use Rattle.machine_model.specs.State.{Child, Painter, Walker, Slot, Paints, State}
-use Rattle.machine_model.specs.Groups.{with_pixels, nodes_in, path_of, on, parent_of}
+use Rattle.machine_model.specs.Groups.{with_pixels, nodes_in, path_of, on, parent_of, composes}
 use Rattle.machine_model.specs.Slots.{is_painter}
 use Rattle.machine_model.specs.Step.{PublishStep}
 use Rattle.machine_model.specs.Caches.{CachesFold, WalkIsRight}
@@ -58,14 +59,14 @@ module _ (old new : State) (place : ℕ) (key : Key) (tree : IsTree old.present)
       → cov keep doc' (up_of next) old.updates slots' g p ≡ cov keep old.present (up_of old) old.updates old.slots g p
   covers keep same g p = cov_with keep q after old.present (up_of next) old.updates slots' g p
       ∙ ap (λ up. cov keep old.present up old.updates slots' g p) (up_with old q after)
-      ∙ ap (λ b. queued_for (λ w. on g (path_of w old.present)) old.updates p || b)
+      ∙ ap (λ b. queued_for (composes g old.present) old.updates p || b)
       (any_set_same (λ slot. keep slot && slot_on (up_of old) g p slot) old.slots place (Paints w) (Paints (record w { published = key ∷ w.published })) step.runs (ap (λ b. b && (any_holds (writes w.job) p && on g (up_of old))) same))
 
   -- a point that was painted is covered for the layer's parent
   painted_covered : (keep : Slot → Bool) → keep (Paints (record w { published = key ∷ w.published })) ≡ keep (Paints w) → keep (Paints w) ≡ true → (g : ℕ) (p : Point) → grouped g old.present ≡ true → touched p ≡ true → parent_of q old.present ≡ g
       → cov keep doc' (up_of next) old.updates slots' g p ≡ true
   painted_covered keep same keeps g p is hit above = covers keep same g p
-      ∙ or_right (queued_for (λ w. on g (path_of w old.present)) old.updates p) _
+      ∙ or_right (queued_for (composes g old.present) old.updates p) _
       (any_found (λ slot. keep slot && slot_on (up_of old) g p slot) old.slots place (Paints w) step.runs (both_true _ _ keeps (both_true _ _ (and_left (any_holds (writes w.job) p) _ hit) on_up)))
     where
       on_up : on g (up_of old) ≡ true

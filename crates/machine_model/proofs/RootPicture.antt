@@ -16,11 +16,12 @@ use Rattle.doc_model.specs.Jobs.{writes}
 use Rattle.doc_model.specs.Forest.{none, paint, group, has, is_group}
 use Rattle.doc_model.specs.Picture.{Doc, laid}
 use Rattle.doc_model.proofs.Parents.{Distinct}
-use Rattle.doc_model.proofs.Weights.{IsTree, tree_distinct, tree_root}
-use Rattle.doc_model.proofs.QueueLaws.{queued_for}
+use Rattle.doc_model.proofs.Weights.{tree_distinct, tree_root}
+use Rattle.doc_model.specs.Ids.{IsTree}
+use Rattle.doc_model.specs.Updates.{queued_for}
 use Rattle.doc_model.proofs.Paths.{KidsIn, kids_rest, kids_nodes, kids_other, kids_here}
 use Rattle.machine_model.specs.State.{Slot, Free, Paints, Walks, State, head_stroke}
-use Rattle.machine_model.specs.Groups.{cache, with_pixels, nodes_in, children_of, path_of, on, folded, covered, painted_group}
+use Rattle.machine_model.specs.Groups.{cache, with_pixels, nodes_in, children_of, path_of, on, folded, covered, painted_group, composes}
 use Rattle.machine_model.specs.Slots.{is_painter, is_walker, no_painter, no_walker}
 use Rattle.machine_model.specs.Walking.{WalkStands}
 use Rattle.machine_model.proofs.WalkPaths.{grouped, path_root}
@@ -46,9 +47,9 @@ folded_laid caches kids (group id look nodes rest) p b c e d k fold =
 
 -- what covers a group covers the root
 root_covered : (s : State) → AllByRecursion (WalkStands s) s.slots → (g : ℕ) (p : Point) → covered s g p ≡ true → covered s 0 p ≡ true
-root_covered s stands g p h = covered_is s 0 p ∙ either_covers _ _ _ (λ e. or_left _ _ (patches s.updates e)) (λ e. or_right (queued_for (λ w. on 0 (path_of w s.present)) s.updates p) _ (slots s.slots stands e)) (sym (covered_is s g p) ∙ h)
+root_covered s stands g p h = covered_is s 0 p ∙ either_covers _ _ _ (λ e. or_left _ _ (patches s.updates e)) (λ e. or_right (queued_for (composes 0 s.present) s.updates p) _ (slots s.slots stands e)) (sym (covered_is s g p) ∙ h)
   where
-    patches : (ps : List Patch) → queued_for (λ w. on g (path_of w s.present)) ps p ≡ true → queued_for (λ w. on 0 (path_of w s.present)) ps p ≡ true
+    patches : (ps : List Patch) → queued_for (composes g s.present) ps p ≡ true → queued_for (composes 0 s.present) ps p ≡ true
     patches [] e = e
     patches (q ∷ ps) e = elim (or_cases (on g (path_of q.walk s.present) && holds q.rect p) _ e) [
       | inl f ↦ or_left _ _ (both_true _ _ (path_root q.walk s.present) (and_right (on g (path_of q.walk s.present)) _ f))
@@ -93,7 +94,7 @@ clean_is_picture s sound p inside clean = fold 0 refl ∙ folded_laid s.caches (
 -- where nothing is at work and nothing waits, nothing is covered
 pub still_is_clean : (s : State) → s.updates ≡ [] → no_painter s ≡ true → no_walker s ≡ true → (g : ℕ) (p : Point) → covered s g p ≡ false
 still_is_clean s updates painters walkers g p = covered_is s g p
-    ∙ ap (λ q. queued_for (λ w. on g (path_of w s.present)) q p || list_any (λ slot. anyone slot && slot_on (up_of s) g p slot) s.slots) updates
+    ∙ ap (λ q. queued_for (composes g s.present) q p || list_any (λ slot. anyone slot && slot_on (up_of s) g p slot) s.slots) updates
     ∙ slots s.slots (not_true _ painters) (not_true _ walkers)
   where
     slots : (xs : List Slot) → list_any is_painter xs ≡ false → list_any is_walker xs ≡ false → list_any (λ slot. anyone slot && slot_on (up_of s) g p slot) xs ≡ false

@@ -10,7 +10,8 @@ use Rattle.machine_model.specs.Event.{Event, Feed, Init, Start, Publish, End, Fi
 use Rattle.machine_model.specs.Step.{Run}
 use Rattle.machine_model.specs.UnderWay.{IsOnWay}
 use Rattle.machine_model.specs.Walking.{WalkStands, all_apart, walks_apart}
-use Rattle.machine_model.specs.Counted.{IsOfLimits, SerialBelow, SerialsDiffer, PublishedOwn, HasNot}
+use Rattle.machine_model.specs.Counted.{SerialBelow, SerialsDiffer, PublishedOwn, HasNot}
+use Rattle.doc_model.specs.Canvases.{IsOfLimits}
 use Rattle.machine_model.specs.Sound.{IsOrderly}
 use Rattle.machine_model.specs.SoundnessLaws.{IsNew, StepKeepsOrder, RunsAreOrderly}
 use Rattle.machine_model.specs.MeaningLaws.{SettledHasMeaning, RunsHaveMeaning}

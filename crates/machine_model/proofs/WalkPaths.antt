@@ -14,7 +14,8 @@ use Rattle.doc_model.specs.Layers.{Layer, at}
 use Rattle.doc_model.specs.Forest.{none, paint, group, has, is_group, children, with_content, parent, path, order}
 use Rattle.doc_model.specs.Picture.{Doc}
 use Rattle.doc_model.proofs.Parents.{Distinct, side, side_has, child_has, child_parent, parent_side}
-use Rattle.doc_model.proofs.Weights.{IsTree, tree_distinct, tree_root}
+use Rattle.doc_model.proofs.Weights.{tree_distinct, tree_root}
+use Rattle.doc_model.specs.Ids.{IsTree}
 use Rattle.doc_model.proofs.Paths.{Orderly, KidsIn, on_append, on_order, path_self, path_groups, path_up, path_orderly, order_orderly, group_has, child_group, path_with, order_with, is_group_with, parent_with}
 use Rattle.machine_model.specs.State.{Child}
 use Rattle.machine_model.specs.Groups.{with_pixels, nodes_in, path_of, on, parent_of, folded}

@@ -10,10 +10,10 @@ use Rattle.doc_model.specs.Layers.{at}
 use Rattle.doc_model.specs.Picture.{canvas_area}
 use Rattle.doc_model.proofs.Shots.{at-shot_of}
 use Rattle.doc_model.proofs.Conflicts.{meets_at}
-use Rattle.doc_model.proofs.QueueLaws.{queued_for}
+use Rattle.doc_model.specs.Updates.{queued_for}
 use Rattle.geom_core.proofs.Tests.{or_cases, or_left, or_right, none_left, none_right, both_true, and_left, and_right, not_true}
 use Rattle.machine_model.specs.State.{Child, Walker, Slot, Free, Paints, Walks, State}
-use Rattle.machine_model.specs.Groups.{children_of, path_of, on}
+use Rattle.machine_model.specs.Groups.{children_of, path_of, on, composes}
 use Rattle.machine_model.specs.Slots.{is_painter}
 use Rattle.machine_model.specs.Step.{WalkStartStep}
 use Rattle.machine_model.specs.Walks.{shots_of, walk_shot, cut_child}
@@ -58,11 +58,11 @@ module _ (old new : State) (place : ℕ) (patch : Patch) (step : WalkStartStep o
   covers : (g : ℕ) (p : Point) → cov anyone old.present (up_of old) old.updates old.slots g p ≡ true → cov anyone old.present (up_of old) rest slots' g p ≡ true
   covers g p = either_covers _ _ _
       (λ e. elim (any_without (λ (q : Patch). on g (path_of q.walk old.present) && holds q.rect p) old.updates step.i patch step.waits e) [
-        | inl f ↦ or_right (queued_for (λ w. on g (path_of w old.present)) rest p) _ (any_set_new (λ slot. anyone slot && slot_on (up_of old) g p slot) old.slots place Free (Walks nw) step.free
+        | inl f ↦ or_right (queued_for (composes g old.present) rest p) _ (any_set_new (λ slot. anyone slot && slot_on (up_of old) g p slot) old.slots place Free (Walks nw) step.free
             (both_true (holds patch.rect p) _ (and_right (on g (path_of patch.walk old.present)) _ f) (ap (on g) (shot_groups old patch.rect (path_of patch.walk old.present)) ∙ and_left (on g (path_of patch.walk old.present)) _ f)))
         | inr f ↦ or_left _ _ f
       ])
-      (λ e. or_right (queued_for (λ w. on g (path_of w old.present)) rest p) _ (any_set_grow (λ slot. anyone slot && slot_on (up_of old) g p slot) old.slots place Free (Walks nw) step.free refl e))
+      (λ e. or_right (queued_for (composes g old.present) rest p) _ (any_set_grow (λ slot. anyone slot && slot_on (up_of old) g p slot) old.slots place Free (Walks nw) step.free refl e))
 
   pub caches_walk_start : CachesFold old → CachesFold new
   caches_walk_start = caches_by old new (ap (λ (s : State). s.canvas) step.new_is) (λ g h. ap (λ (s : State). grouped g s.present) (sym step.new_is) ∙ h)
@@ -75,7 +75,7 @@ module _ (old new : State) (place : ℕ) (patch : Patch) (step : WalkStartStep o
         | inl f ↦ (let t : holds patch.rect p ≡ true = and_right (on g (path_of patch.walk old.present)) _ f in absurd (cc))
         | inr f ↦ or_left _ _ f
       ])
-      (λ e. or_right (queued_for (λ w. on g (path_of w old.present)) rest p) _ (any_set_grow (λ slot. is_painter slot && slot_on (up_of old) g p slot) old.slots place Free (Walks nw) step.free refl e))
+      (λ e. or_right (queued_for (composes g old.present) rest p) _ (any_set_grow (λ slot. is_painter slot && slot_on (up_of old) g p slot) old.slots place Free (Walks nw) step.free refl e))
 
   away : (slots : List Slot) → list_any (meets_walker patch.rect) slots ≡ false → AllByRecursion (AwayFrom patch.rect) slots
   away [] e = tt

@@ -2,19 +2,13 @@
 use Rattle.std.specs.Prelude.{◌≡◌, ◌≢◌, ℕ, suc, zero, if◌then◌else◌, ◌+◌, ◌*◌, ◌<◌, ◌≤◌, Bool, true, ◌&&◌, not, Option, Some, None, List, [], ◌∷◌, map, length, take}
 use Rattle.std.specs.List.{list_any, AllByRecursion}
 use Rattle.geom_core.specs.Grid.{Key, same_key, keys_of, all_keys_of}
-use Rattle.doc_model.specs.declared.canvas.Canvas.{Canvas}
+use Rattle.doc_model.specs.Canvases.{IsOfLimits}
 use Rattle.doc_model.specs.Jobs.{writes}
 use Rattle.doc_model.specs.Strokes.{Entry, Strokes, entries}
 use Rattle.machine_model.specs.State.{Child, Slot, Free, Paints, Walks, State}
 use Rattle.machine_model.specs.Slots.{runs_in}
 use Rattle.machine_model.specs.Groups.{on}
 use Rattle.machine_model.specs.Guards.{same_pair}
-
--- a canvas of the limits
-pub record IsOfLimits (canvas : Canvas) : Type 0 where
-  pub w : (1 ≤ canvas.w) × (canvas.w ≤ 2048)
-  pub h : (1 ≤ canvas.h) × (canvas.h ≤ 2048)
-  pub paper : canvas.paper.a ≡ 255
 
 -- the serial of a busy slot
 abbrev pub serial_of : Slot → Option ℕ

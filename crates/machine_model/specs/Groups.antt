@@ -10,12 +10,12 @@ use Rattle.geom_core.specs.Points.{Point}
 use Rattle.geom_core.specs.Areas.{any_holds, holds}
 use Rattle.doc_model.specs.declared.canvas.Walk.{Walk}
 use Rattle.doc_model.specs.declared.canvas.Walk.TheVariants.{Up, All}
-use Rattle.doc_model.specs.declared.canvas.Patch.{Patch}
 use Rattle.doc_model.specs.Layers.{Layer, at, plain}
 use Rattle.doc_model.specs.Jobs.{writes}
 use Rattle.doc_model.specs.Forest.{none, paint, group, children, parent, path, order}
 use Rattle.doc_model.specs.Picture.{Doc, with_look}
 use Rattle.doc_model.specs.Strokes.{Stroke}
+use Rattle.doc_model.specs.Updates.{queued_for}
 use Rattle.machine_model.specs.State.{Child, Slot, Free, Paints, Walks, State, head_stroke}
 
 -- the cache of a group, clear where it has none
@@ -65,10 +65,10 @@ slot_covers s g p Free = false
 slot_covers s g p (Paints w) = any_holds (writes w.job) p && on g (path_of (Up (painted_group s (head_stroke s))) s.present)
 slot_covers s g p (Walks w) = holds w.patch.rect p && on g (map (λ (e : ℕ × List Child). e.0) w.shot)
 
--- whether a queued patch will compose the group at the point again
-abbrev pub patch_covers : Doc → ℕ → Point → Patch → Bool
-patch_covers doc g p patch = holds patch.rect p && on g (path_of patch.walk doc)
+-- whether the walk composes the group
+abbrev pub composes : ℕ → Doc → Walk → Bool
+composes g doc walk = on g (path_of walk doc)
 
 -- whether something will compose the group at the point again
 abbrev pub covered : State → ℕ → Point → Bool
-covered s g p = list_any (patch_covers s.present g p) s.updates || list_any (slot_covers s g p) s.slots
+covered s g p = queued_for (composes g s.present) s.updates p || list_any (slot_covers s g p) s.slots

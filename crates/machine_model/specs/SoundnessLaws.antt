@@ -7,7 +7,7 @@ use Rattle.doc_model.specs.Picture.{Frame}
 use Rattle.machine_model.specs.State.{State, new_state}
 use Rattle.machine_model.specs.Event.{Event, Feed}
 use Rattle.machine_model.specs.Step.{Step, Run}
-use Rattle.machine_model.specs.Counted.{IsOfLimits}
+use Rattle.doc_model.specs.Canvases.{IsOfLimits}
 use Rattle.machine_model.specs.Sound.{IsOrderly, IsSound}
 
 -- a new machine has a canvas of the limits and 1 to 17 slots
