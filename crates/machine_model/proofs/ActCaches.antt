@@ -35,7 +35,7 @@ use Rattle.machine_model.specs.Reached.{Reaches, ReachesOneLayer, PastReaches, F
 use Rattle.machine_model.proofs.WalkPaths.{grouped, grouped_with, path_here, path_all, parent_of_with}
 use Rattle.machine_model.proofs.Covers.{anyone, cov, up_of, FoldsAt, caches_by, fold_covers, fold_out}
 use Rattle.machine_model.proofs.JobCaches.{cov_idle, either_covers}
-use Rattle.machine_model.proofs.OtherPixels.{moved_from, fold_moves, fold_new, cov_with, queue_bound_stays, queue_bound_takes}
+use Rattle.machine_model.proofs.OtherPixels.{moved_from, fold_moves, fold_new, cov_with, updates_with_stays, updates_with_takes}
 use Rattle.machine_model.proofs.TileBounds.{set_holds}
 use Rattle.machine_model.proofs.CancelCaches.{fold_at}
 
@@ -78,14 +78,14 @@ caches_part old new q x y keys rest grid tree there same canvas present caches s
 
     covers : (g : ℕ) (p : Point) → grouped g old.base ≡ true → in_grid p ≡ true → cov anyone old.base (up_of old) old.updates old.slots g p ≡ true → cov anyone doc' (up_of new) queue old.slots g p ≡ true
     covers g p is grid h = either_covers _ _ _
-        (λ e. or_left _ _ (queue_bound_stays (composes g doc') (λ w e. path_all g doc' (is' g is)) old (parent_of q doc') (bound_of (set.items keys)) p grid e))
+        (λ e. or_left _ _ (updates_with_stays (composes g doc') (λ w e. path_all g doc' (is' g is)) old (parent_of q doc') (bound_of (set.items keys)) p grid e))
         (λ e. or_right (queued_for (composes g doc') queue p) _ e)
         (cov_with anyone q y old.base (up_of new) old.updates old.slots g p ∙ sym (cov_idle anyone old.base (up_of old) (up_of new) old.updates old.slots g p (not_true _ rest.idle)) ∙ h)
 
     point : (g : ℕ) (p : Point) → grouped g old.base ≡ true → holds (canvas_area old.canvas) p ≡ true → FoldsAt old.caches old.base (up_of old) old.updates old.slots g p → FoldsAt old.caches doc' (up_of new) queue old.slots g p
     point g p is inside h = elim (moved_from old.caches q x y old.base g p (set.contains keys (key_of p)) tree there (λ e. same.pixels p e)) [
       | inl at_same ↦ fold_moves refl at_same (covers g p is (grid p inside)) h
-      | inr hit ↦ fold_new (or_left _ _ (queue_bound_takes (composes g doc') (λ w e. path_all g doc' (is' g is)) old (parent_of q doc') (bound_of (set.items keys)) p (grid p inside) inside
+      | inr hit ↦ fold_new (or_left _ _ (updates_with_takes (composes g doc') (λ w e. path_all g doc' (is' g is)) old (parent_of q doc') (bound_of (set.items keys)) p (grid p inside) inside
           (ap (λ h. on g (path_of (Up h) doc')) (parent_of_with q q y old.base ∙ hit.1) ∙ path_here g doc' (is' g is)) (set_holds keys p hit.0)))
     ]
 

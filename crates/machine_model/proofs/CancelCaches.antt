@@ -36,7 +36,7 @@ use Rattle.machine_model.specs.UnderWay.{IsOnWay, shown, writes_at}
 use Rattle.machine_model.proofs.WalkPaths.{grouped, grouped_with, SameAt, same_at_refl, path_here, path_all, path_of_with}
 use Rattle.machine_model.proofs.Covers.{slot_on, anyone, cov, up_of, IsFold, IsRead, FoldsAt, ReadsAt, caches_by, walks_by, any_same}
 use Rattle.machine_model.proofs.JobCaches.{cov_idle, either_covers}
-use Rattle.machine_model.proofs.OtherPixels.{moved_from, fold_moves, read_moves, fold_new, read_new, queue_bound_stays, queue_bound_takes}
+use Rattle.machine_model.proofs.OtherPixels.{moved_from, fold_moves, read_moves, fold_new, read_new, updates_with_stays, updates_with_takes}
 use Rattle.machine_model.proofs.TileBounds.{areas_hold}
 
 -- a part of a state that is what another part is
@@ -122,12 +122,12 @@ module _ (old new : State) (tree : IsTree old.base) (present_tree : IsTree old.p
   -- what was covered stays so, and what was touched is covered for the layer's parent
   covers : (keep : Slot → Bool) (up : List ℕ) (g : ℕ) (p : Point) → grouped g old.base ≡ true → in_grid p ≡ true → cov keep old.present (up_of old) old.updates old.slots g p ≡ true → cov keep old.base up queue old.slots g p ≡ true
   covers keep up g p is grid h = either_covers _ _ _
-      (λ e. or_left _ _ (queue_bound_stays (composes g old.base) (λ w e. path_all g old.base is) old (parent_of q old.present) (bound_of (set.items (key_set rects))) p grid e))
+      (λ e. or_left _ _ (updates_with_stays (composes g old.base) (λ w e. path_all g old.base is) old (parent_of q old.present) (bound_of (set.items (key_set rects))) p grid e))
       (λ e. or_right (queued_for (composes g old.base) queue p) _ e)
       (sym (cov_idle keep old.base (up_of old) up old.updates old.slots g p idle) ∙ sym (cov_docs keep old.present old.base (up_of old) old.updates old.slots g p (base_paths old way)) ∙ h)
 
   touched_covered : (keep : Slot → Bool) (up : List ℕ) (g : ℕ) (p : Point) → grouped g old.base ≡ true → in_grid p ≡ true → holds (canvas_area old.canvas) p ≡ true → touched p ≡ true → parent_of q old.present ≡ g → cov keep old.base up queue old.slots g p ≡ true
-  touched_covered keep up g p is grid inside hit above = or_left _ _ (queue_bound_takes (composes g old.base) (λ w e. path_all g old.base is) old (parent_of q old.present) (bound_of (set.items (key_set rects))) p grid inside
+  touched_covered keep up g p is grid inside hit above = or_left _ _ (updates_with_takes (composes g old.base) (λ w e. path_all g old.base is) old (parent_of q old.present) (bound_of (set.items (key_set rects))) p grid inside
       (ap (λ h. on g (path_of (Up h) old.base)) above ∙ path_here g old.base is) (areas_hold rects p hit))
 
   abbrev by_present : (g : ℕ) → grouped g old.present ≡ true → grouped g old.base ≡ true

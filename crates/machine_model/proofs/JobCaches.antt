@@ -60,17 +60,18 @@ walks_start old new place step stands inside right = subst (AllByRecursion (Walk
     (walks_by old new (λ w is path p g read held inside on' same h. subst (λ s. IsRead s w g read p) (sym step.new_is) (read_covers (cov_filled is_painter old.present (up_of old) old.updates old.slots place _ g p step.free) h)) old.slots stands inside right) tt)
 
 -- End
-queue_all_stays : (covers : Walk → Bool) → ((w : Walk) → covers w ≡ true → covers All ≡ true) → (canvas : Area) (g : ℕ) (more : List Area) (patches : List Patch) (p : Point)
+updates_with_all_stays : (covers : Walk → Bool) → ((w : Walk) → covers w ≡ true → covers All ≡ true) → (canvas : Area) (g : ℕ) (more : List Area) (patches : List Patch) (p : Point)
     → in_grid p ≡ true → queued_for covers patches p ≡ true → queued_for covers (updates_with_all canvas g more patches) p ≡ true
-queue_all_stays covers all canvas g [] patches p grid h = h
-queue_all_stays covers all canvas g (a ∷ more) patches p grid h = queue_all_stays covers all canvas g more (queued canvas patches (Up g) a) p grid (queued_stays covers all canvas patches (Up g) a p grid h)
+updates_with_all_stays covers all canvas g [] patches p grid h = h
+updates_with_all_stays covers all canvas g (a ∷ more) patches p grid h = updates_with_all_stays covers all canvas g more (queued canvas patches (Up g) a) p grid (queued_stays covers all canvas patches (Up g) a p grid h)
 
-queue_all_takes : (covers : Walk → Bool) → ((w : Walk) → covers w ≡ true → covers All ≡ true) → (canvas : Area) (g : ℕ) (more : List Area) (patches : List Patch) (p : Point)
+-- what the rectangles hold is queued
+pub updates_with_all_takes : (covers : Walk → Bool) → ((w : Walk) → covers w ≡ true → covers All ≡ true) → (canvas : Area) (g : ℕ) (more : List Area) (patches : List Patch) (p : Point)
     → in_grid p ≡ true → holds canvas p ≡ true → covers (Up g) ≡ true → any_holds more p ≡ true → queued_for covers (updates_with_all canvas g more patches) p ≡ true
-queue_all_takes covers all canvas g [] patches p grid inside c h = absurd (let t : false ≡ true = h in cc)
-queue_all_takes covers all canvas g (a ∷ more) patches p grid inside c h = elim (or_cases (holds a p) (any_holds more p) h) [
-  | inl e ↦ queue_all_stays covers all canvas g more (queued canvas patches (Up g) a) p grid (queued_takes covers all canvas patches (Up g) a p grid inside c e)
-  | inr e ↦ queue_all_takes covers all canvas g more (queued canvas patches (Up g) a) p grid inside c e
+updates_with_all_takes covers all canvas g [] patches p grid inside c h = absurd (let t : false ≡ true = h in cc)
+updates_with_all_takes covers all canvas g (a ∷ more) patches p grid inside c h = elim (or_cases (holds a p) (any_holds more p) h) [
+  | inl e ↦ updates_with_all_stays covers all canvas g more (queued canvas patches (Up g) a) p grid (queued_takes covers all canvas patches (Up g) a p grid inside c e)
+  | inr e ↦ updates_with_all_takes covers all canvas g more (queued canvas patches (Up g) a) p grid inside c e
 ]
 
 -- a job that ends leaves what it covered in the queue
@@ -78,9 +79,9 @@ cov_ended : (keep : Slot → Bool) (doc : Doc) (h : ℕ) (canvas : Area) (update
     → grouped g doc ≡ true → in_grid p ≡ true → holds canvas p ≡ true
     → cov keep doc (path_of (Up h) doc) updates slots g p ≡ true → cov keep doc (path_of (Up h) doc) (updates_with_all canvas h (writes w.job) updates) (slice_set slots i Free) g p ≡ true
 cov_ended keep doc h canvas updates slots i w g p runs is grid inside = either_covers _ _ _
-    (λ e. or_left _ _ (queue_all_stays covers all canvas h (writes w.job) updates p grid e))
+    (λ e. or_left _ _ (updates_with_all_stays covers all canvas h (writes w.job) updates p grid e))
     (λ e. elim (any_set_or test slots i (Paints w) Free runs e) [
-      | inl f ↦ or_left _ _ (queue_all_takes covers all canvas h (writes w.job) updates p grid inside (and_right (any_holds (writes w.job) p) _ (and_right (keep (Paints w)) _ f)) (and_left (any_holds (writes w.job) p) _ (and_right (keep (Paints w)) _ f)))
+      | inl f ↦ or_left _ _ (updates_with_all_takes covers all canvas h (writes w.job) updates p grid inside (and_right (any_holds (writes w.job) p) _ (and_right (keep (Paints w)) _ f)) (and_left (any_holds (writes w.job) p) _ (and_right (keep (Paints w)) _ f)))
       | inr f ↦ or_right (queued_for covers (updates_with_all canvas h (writes w.job) updates) p) _ f
     ])
   where

@@ -97,12 +97,12 @@ up_with s q x = go (head_stroke s)
     go (Some stroke) = path_of_with (Up (parent_of stroke.layer (with_content q x s.present))) q x s.present ∙ ap (λ h. path_of (Up h) s.present) (parent_of_with stroke.layer q x s.present)
 
 -- a bounding rectangle that is queued
-pub queue_bound_stays : (covers : Walk → Bool) → ((w : Walk) → covers w ≡ true → covers All ≡ true) → (s : State) (h : ℕ) (o : Option Area) (p : Point)
+pub updates_with_stays : (covers : Walk → Bool) → ((w : Walk) → covers w ≡ true → covers All ≡ true) → (s : State) (h : ℕ) (o : Option Area) (p : Point)
     → in_grid p ≡ true → queued_for covers s.updates p ≡ true → queued_for covers (updates_with s h o) p ≡ true
-queue_bound_stays covers all s h None p grid e = e
-queue_bound_stays covers all s h (Some rect) p grid e = queued_stays covers all (canvas_area s.canvas) s.updates (Up h) rect p grid e
+updates_with_stays covers all s h None p grid e = e
+updates_with_stays covers all s h (Some rect) p grid e = queued_stays covers all (canvas_area s.canvas) s.updates (Up h) rect p grid e
 
-pub queue_bound_takes : (covers : Walk → Bool) → ((w : Walk) → covers w ≡ true → covers All ≡ true) → (s : State) (h : ℕ) (o : Option Area) (p : Point)
+pub updates_with_takes : (covers : Walk → Bool) → ((w : Walk) → covers w ≡ true → covers All ≡ true) → (s : State) (h : ℕ) (o : Option Area) (p : Point)
     → in_grid p ≡ true → holds (canvas_area s.canvas) p ≡ true → covers (Up h) ≡ true → held_by o p ≡ true → queued_for covers (updates_with s h o) p ≡ true
-queue_bound_takes covers all s h None p grid inside c e = absurd (let t : false ≡ true = e in cc)
-queue_bound_takes covers all s h (Some rect) p grid inside c e = queued_takes covers all (canvas_area s.canvas) s.updates (Up h) rect p grid inside c e
+updates_with_takes covers all s h None p grid inside c e = absurd (let t : false ≡ true = e in cc)
+updates_with_takes covers all s h (Some rect) p grid inside c e = queued_takes covers all (canvas_area s.canvas) s.updates (Up h) rect p grid inside c e

@@ -1,18 +1,11 @@
 -- Who is never at work beside whom, and what the events leave alone.
-use Rattle.std.specs.Prelude.{◌≡◌, ◌≢◌, ℕ, suc, true, false, ◌&&◌, Some, None, [], ◌∷◌, ◌++◌, slice_get, List}
-use Rattle.geom_core.specs.Points.{Point}
-use Rattle.geom_core.specs.Areas.{any_holds, meets}
-use Rattle.geom_core.specs.Grid.{Key}
+use Rattle.std.specs.Prelude.{◌≡◌, ◌≢◌, ℕ, true, false, ◌&&◌, Some, [], slice_get, List}
+use Rattle.geom_core.specs.Areas.{meets}
 use Rattle.doc_model.specs.declared.job.Kind.{Kind}
 use Rattle.doc_model.specs.declared.job.Kind.TheVariants.{Bar}
-use Rattle.doc_model.specs.declared.command.Outcome.{Outcome}
-use Rattle.doc_model.specs.declared.command.Outcome.TheVariants.{Done}
-use Rattle.doc_model.specs.Layers.{Layer, at}
-use Rattle.doc_model.specs.Jobs.{writes, apply, in_tile}
-use Rattle.doc_model.specs.Forest.{content, with_content}
 use Rattle.doc_model.specs.Strokes.{Stroke, Exports, runs, is_uni}
 use Rattle.machine_model.specs.State.{Painter, Walker, Paints, Walks, State, head, head_stroke}
-use Rattle.machine_model.specs.Event.{Event, Start, Publish, Cancel, Act}
+use Rattle.machine_model.specs.Event.{Event, Start, Act}
 use Rattle.machine_model.specs.Slots.{no_painter, no_walker}
 use Rattle.machine_model.specs.Guards.{kept_jobs}
 use Rattle.machine_model.specs.Step.{Step}
@@ -45,18 +38,6 @@ BarrierStartsClean = (old new : State) (place : ℕ) → Step old (Start place) 
 abbrev pub BarrierStaysClean : Type 0
 BarrierStaysClean = (events : List Event) (s : State) (place : ℕ) → IsReached events s → (job : RunsAs s place Bar) → job.stroke.exclusive ≡ false → (no_walker s ≡ true) × (s.updates ≡ [])
 
--- the job in the slot is the next of the list, and has the next serial
-pub record StartsNext (old new : State) (place : ℕ) : Type 0 where
-  pub painter : Painter
-  pub at_work : slice_get new.slots place ≡ Some (Paints painter)
-  pub started_before : old.way ≡ Some painter.index
-  pub started_now : new.way ≡ Some (suc painter.index)
-  pub serial : painter.serial ≡ old.next
-
--- each start takes the next job of the list
-abbrev pub JobsStartInOrder : Type 0
-JobsStartInOrder = (old new : State) (place : ℕ) → Step old (Start place) new → StartsNext old new place
-
 -- while an exclusive stroke is under way no walk is at work
 abbrev pub ExclusiveHasNoWalk : Type 0
 ExclusiveHasNoWalk = (s : State) (stroke : Stroke) (n : ℕ) → IsOrderly s → head_stroke s ≡ Some stroke → s.way ≡ Some n → stroke.exclusive ≡ true → no_walker s ≡ true
@@ -64,41 +45,6 @@ ExclusiveHasNoWalk = (s : State) (stroke : Stroke) (n : ℕ) → IsOrderly s →
 -- the patches of walks at work never meet
 abbrev pub WalksNeverMeet : Type 0
 WalksNeverMeet = (s : State) (p q : ℕ) (a b : Walker) → IsOrderly s → slice_get s.slots p ≡ Some (Walks a) → slice_get s.slots q ≡ Some (Walks b) → p ≢ q → meets a.patch.rect b.patch.rect ≡ false
-
--- of the document only the stroke's layer changes, there only points of the job's writes in that tile, and these take the job's value on its shot
-pub record PublishesTile (old new : State) (place : ℕ) (key : Key) : Type 0 where
-  pub painter : Painter
-  pub at_work : slice_get old.slots place ≡ Some (Paints painter)
-  pub stroke : Stroke
-  pub at_head : head_stroke old ≡ Some stroke
-  pub before : Layer
-  pub was : content stroke.layer old.present ≡ Some before
-  pub after : Layer
-  pub is : new.present ≡ with_content stroke.layer after old.present
-  pub default_pixel : after.default_pixel ≡ before.default_pixel
-  pub inside : (p : Point) → any_holds (writes painter.job) p ≡ true → in_tile key p ≡ true → at after p ≡ at (apply painter.job painter.shot) p
-  pub out_of_tile : (p : Point) → in_tile key p ≡ false → at after p ≡ at before p
-  pub out_of_writes : (p : Point) → any_holds (writes painter.job) p ≡ false → at after p ≡ at before p
-
--- each publish is one of these
-abbrev pub PublishStaysInTile : Type 0
-PublishStaysInTile = (old new : State) (place : ℕ) (key : Key) → IsOrderly old → Step old (Publish place key) new → PublishesTile old new place key
-
--- the document is the one from before the stroke, and nothing is left of the stroke but an outcome that isn't Done
-pub record PutsBack (old new : State) : Type 0 where
-  pub present : new.present ≡ old.base
-  pub base : new.base ≡ old.base
-  pub past : new.past ≡ old.past
-  pub future : new.future ≡ old.future
-  pub frames : new.frames ≡ old.frames
-  pub way : new.way ≡ None
-  pub outcome : Outcome
-  pub told : new.outcomes ≡ old.outcomes ++ outcome ∷ []
-  pub not_done : outcome ≢ Done
-
--- each cancel is one of these
-abbrev pub CancelPutsBack : Type 0
-CancelPutsBack = (old new : State) → Step old Cancel new → PutsBack old new
 
 -- nothing is at work and nothing waits as an export takes effect
 pub record IsStill (s : State) : Type 0 where

@@ -1,5 +1,0 @@
-use Rattle.machine_model.proofs.GuardsHold.{publish_stays_in_tile}
-use Rattle.machine_model.proofs.guards.publish_stays_in_tile.Goals as goal
-
-pub returns : goal.returns
-returns c = publish_stays_in_tile
