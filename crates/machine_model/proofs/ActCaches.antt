@@ -33,9 +33,9 @@ use Rattle.machine_model.specs.Caches.{CachesFold, WalkIsRight}
 use Rattle.machine_model.specs.UnderWay.{IsOnWay, AtRest}
 use Rattle.machine_model.specs.Reached.{Reaches, ReachesOneLayer, PastReaches, FutureReaches, DifferWithin}
 use Rattle.machine_model.proofs.WalkPaths.{grouped, grouped_with, path_here, path_all, parent_of_with}
-use Rattle.machine_model.proofs.Covers.{anyone, cov, up_of, FoldsAt, caches_by, fold_covers, fold_out}
-use Rattle.machine_model.proofs.JobCaches.{cov_idle, either_covers}
-use Rattle.machine_model.proofs.OtherPixels.{moved_from, fold_moves, fold_new, cov_with, updates_with_stays, updates_with_takes}
+use Rattle.machine_model.proofs.Covers.{any_slot, covered_by, painted_path, FoldsAt, caches_by, fold_covers, fold_out}
+use Rattle.machine_model.proofs.JobCaches.{covered_by_idle, either_covers}
+use Rattle.machine_model.proofs.OtherPixels.{moved_from, fold_moves, fold_new, covered_by_with, updates_with_stays, updates_with_takes}
 use Rattle.machine_model.proofs.TileBounds.{set_holds}
 use Rattle.machine_model.proofs.CancelCaches.{fold_at}
 
@@ -50,7 +50,7 @@ at_rest s e way = go s.way way
 -- nothing but the story changes
 caches_rest : (old new : State) → AtRest old → new.canvas ≡ old.canvas → new.present ≡ old.base → new.caches ≡ old.caches → new.updates ≡ old.updates → new.slots ≡ old.slots → CachesFold old → CachesFold new
 caches_rest old new rest canvas present caches updates slots = caches_by old new canvas (λ g h. ap (grouped g) (sym (present ∙ sym rest.same)) ∙ h)
-    (λ g p is inside h. fold_at new caches (present ∙ sym rest.same) updates slots (fold_covers (λ c. cov_idle anyone old.present (up_of new) (up_of old) old.updates old.slots g p (not_true _ rest.idle) ∙ c) h))
+    (λ g p is inside h. fold_at new caches (present ∙ sym rest.same) updates slots (fold_covers (λ c. covered_by_idle any_slot old.present (painted_path new) (painted_path old) old.updates old.slots g p (not_true _ rest.idle) ∙ c) h))
 
 -- the whole canvas is refreshed
 caches_whole : (old new : State) → ((p : Point) → holds (canvas_area old.canvas) p ≡ true → in_grid p ≡ true) → new.canvas ≡ old.canvas → new.updates ≡ refreshed (canvas_area old.canvas) old.updates (canvas_area old.canvas) → CachesFold new
@@ -65,7 +65,7 @@ caches_part : (old new : State) (q : ℕ) (x y : Layer) (keys : FinSet key_cmp) 
     → new.canvas ≡ old.canvas → new.present ≡ with_content q y old.base → new.caches ≡ old.caches → new.slots ≡ old.slots → new.updates ≡ updates_with old (parent_of q (with_content q y old.base)) (bound_of (set.items keys)) → CachesFold old → CachesFold new
 caches_part old new q x y keys rest grid tree there same canvas present caches slots updates =
     caches_by old new canvas (λ g h. ap (grouped g) rest.same ∙ sym (grouped_with g q y old.base) ∙ ap (grouped g) (sym present) ∙ h)
-    (λ g p is inside h. fold_at new caches present updates slots (point g p (ap (grouped g) (sym rest.same) ∙ is) inside (subst (λ d. FoldsAt old.caches d (up_of old) old.updates old.slots g p) rest.same h)))
+    (λ g p is inside h. fold_at new caches present updates slots (point g p (ap (grouped g) (sym rest.same) ∙ is) inside (subst (λ d. FoldsAt old.caches d (painted_path old) old.updates old.slots g p) rest.same h)))
   where
     doc' : Doc
     doc' = with_content q y old.base
@@ -76,13 +76,13 @@ caches_part old new q x y keys rest grid tree there same canvas present caches s
     is' : (g : ℕ) → grouped g old.base ≡ true → grouped g doc' ≡ true
     is' g is = grouped_with g q y old.base ∙ is
 
-    covers : (g : ℕ) (p : Point) → grouped g old.base ≡ true → in_grid p ≡ true → cov anyone old.base (up_of old) old.updates old.slots g p ≡ true → cov anyone doc' (up_of new) queue old.slots g p ≡ true
+    covers : (g : ℕ) (p : Point) → grouped g old.base ≡ true → in_grid p ≡ true → covered_by any_slot old.base (painted_path old) old.updates old.slots g p ≡ true → covered_by any_slot doc' (painted_path new) queue old.slots g p ≡ true
     covers g p is grid h = either_covers _ _ _
         (λ e. or_left _ _ (updates_with_stays (composes g doc') (λ w e. path_all g doc' (is' g is)) old (parent_of q doc') (bound_of (set.items keys)) p grid e))
         (λ e. or_right (queued_for (composes g doc') queue p) _ e)
-        (cov_with anyone q y old.base (up_of new) old.updates old.slots g p ∙ sym (cov_idle anyone old.base (up_of old) (up_of new) old.updates old.slots g p (not_true _ rest.idle)) ∙ h)
+        (covered_by_with any_slot q y old.base (painted_path new) old.updates old.slots g p ∙ sym (covered_by_idle any_slot old.base (painted_path old) (painted_path new) old.updates old.slots g p (not_true _ rest.idle)) ∙ h)
 
-    point : (g : ℕ) (p : Point) → grouped g old.base ≡ true → holds (canvas_area old.canvas) p ≡ true → FoldsAt old.caches old.base (up_of old) old.updates old.slots g p → FoldsAt old.caches doc' (up_of new) queue old.slots g p
+    point : (g : ℕ) (p : Point) → grouped g old.base ≡ true → holds (canvas_area old.canvas) p ≡ true → FoldsAt old.caches old.base (painted_path old) old.updates old.slots g p → FoldsAt old.caches doc' (painted_path new) queue old.slots g p
     point g p is inside h = elim (moved_from old.caches q x y old.base g p (set.contains keys (key_of p)) tree there (λ e. same.pixels p e)) [
       | inl at_same ↦ fold_moves refl at_same (covers g p is (grid p inside)) h
       | inr hit ↦ fold_new (or_left _ _ (updates_with_takes (composes g doc') (λ w e. path_all g doc' (is' g is)) old (parent_of q doc') (bound_of (set.items keys)) p (grid p inside) inside
@@ -108,6 +108,7 @@ caches_moved old new target d (Part q keys) rest grid tree part canvas updates s
     queue_same None = updates
     queue_same (Some rect) = λ i. queued (canvas_area (canvas i)) (updates i) (Up (parent_of q d)) rect
 
+-- the entry is no stroke
 abbrev stroke_free : Entry → Type 0
 stroke_free (Strokes stroke) = ⊥
 stroke_free e = Unit {0}
@@ -166,6 +167,7 @@ free_entry s Redoes h free = tt
 free_entry s (Purges n) h free = tt
 free_entry s Exports h free = tt
 
+-- what an act leaves in the caches
 pub caches_act : (old new : State) → ActStep old new → IsOnWay old old.way → ((p : Point) → holds (canvas_area old.canvas) p ≡ true → in_grid p ≡ true) → IsTree old.base → AllTrees old.past → PastReaches old.past old.base → FutureReaches old.base old.future
     → CachesFold old → CachesFold new
 caches_act old new step way grid tree trees past future = by_entry old new (at_rest old step.no_stroke way) grid tree step.entry (free_entry old step.entry step.at_head step.no_stroke) trees past future step.new_is
@@ -176,6 +178,7 @@ no_walks s (Free ∷ slots) e = (tt, no_walks s slots e)
 no_walks s (Paints w ∷ slots) e = (tt, no_walks s slots e)
 no_walks s (Walks w ∷ slots) e = absurd (let t : true ≡ false = e in cc)
 
+-- an act leaves the slots
 pub slots_act : (old : State) (e : Entry) → (after_entry old e).slots ≡ old.slots
 slots_act old (Strokes stroke) = refl
 slots_act old (Changes change) = go (changed plain change old.base)
@@ -208,6 +211,7 @@ moved_canvas : (t : State) (d : Doc) (r : Reach) → (moved_to t d r).canvas ≡
 moved_canvas t d Whole = refl
 moved_canvas t d (Part q keys) = refl
 
+-- and the canvas
 pub canvas_act : (old : State) (e : Entry) → (after_entry old e).canvas ≡ old.canvas
 canvas_act old (Strokes stroke) = refl
 canvas_act old (Changes change) = go (changed plain change old.base)

@@ -48,6 +48,7 @@ use Rattle.machine_model.proofs.JobKeeps.{parent_stands}
 use Rattle.machine_model.proofs.CancelKeeps.{bound_right, bound_groups}
 use Rattle.doc_model.specs.Meaning.{Story, told}
 
+-- each patch is of a group of the document
 abbrev GroupsOf : Doc → List Patch → Type 0
 GroupsOf doc ps = AllByRecursion (λ (p : Patch). IsGroupOf doc p.walk) ps
 
@@ -209,6 +210,7 @@ plain_closed Redoes p = refl
 plain_closed (Purges n) p = refl
 plain_closed Exports p = refl
 
+-- an act keeps the machine orderly
 pub act_keeps : (old new : State) → IsOrderly old → ActStep old new → IsOrderly new
 act_keeps old new sound step = subst IsOrderly (sym step.new_is) (record {
   told = told_more old next step.entry sound.told step.at_head (plain_closed step.entry plain_entry) a.fed a.canvas means;

@@ -35,6 +35,7 @@ use Rattle.machine_model.proofs.RunsOrderly.{step_keeps, new_orderly}
 abbrev IsClear : State → Type 0
 IsClear s = (no_walker s ≡ true) × (s.updates ≡ [])
 
+-- where a barrier of a stroke that isn't exclusive is at work
 abbrev BarrierIsClear : State → Type 0
 BarrierIsClear s = (place : ℕ) (job : RunsAs s place Bar) → job.stroke.exclusive ≡ false → IsClear s
 

@@ -34,23 +34,23 @@ use Rattle.machine_model.specs.Caches.{CachesFold, WalkIsRight}
 use Rattle.machine_model.specs.Walking.{WalkStands, IsGroupOf, WalkInside}
 use Rattle.machine_model.specs.UnderWay.{IsOnWay, shown, writes_at}
 use Rattle.machine_model.proofs.WalkPaths.{grouped, grouped_with, SameAt, same_at_refl, path_here, path_all, path_of_with}
-use Rattle.machine_model.proofs.Covers.{slot_on, anyone, cov, up_of, IsFold, IsRead, FoldsAt, ReadsAt, caches_by, walks_by, any_same}
-use Rattle.machine_model.proofs.JobCaches.{cov_idle, either_covers}
+use Rattle.machine_model.proofs.Covers.{slot_on, any_slot, covered_by, painted_path, IsFold, IsRead, FoldsAt, ReadsAt, caches_by, walks_by, any_same}
+use Rattle.machine_model.proofs.JobCaches.{covered_by_idle, either_covers}
 use Rattle.machine_model.proofs.OtherPixels.{moved_from, fold_moves, read_moves, fold_new, read_new, updates_with_stays, updates_with_takes}
 use Rattle.machine_model.proofs.TileBounds.{areas_hold}
 
 -- a part of a state that is what another part is
 pub fold_at : (new : State) {caches : FinMap nat_cmp Layer} {doc : Doc} {updates : List Patch} {slots : List Slot} {g : ℕ} {p : Point} → new.caches ≡ caches → new.present ≡ doc → new.updates ≡ updates → new.slots ≡ slots
-    → FoldsAt caches doc (up_of new) updates slots g p → IsFold new g p
-fold_at new {g = g} {p = p} a b c d h = subst (λ (v : FinMap nat_cmp Layer × (Doc × (List Patch × List Slot))). FoldsAt v.0 v.1.0 (up_of new) v.1.1.0 v.1.1.1 g p) (λ i. (sym a i, (sym b i, (sym c i, sym d i)))) h
+    → FoldsAt caches doc (painted_path new) updates slots g p → IsFold new g p
+fold_at new {g = g} {p = p} a b c d h = subst (λ (v : FinMap nat_cmp Layer × (Doc × (List Patch × List Slot))). FoldsAt v.0 v.1.0 (painted_path new) v.1.1.0 v.1.1.1 g p) (λ i. (sym a i, (sym b i, (sym c i, sym d i)))) h
 
 read_at : (new : State) {caches : FinMap nat_cmp Layer} {doc : Doc} {updates : List Patch} {slots : List Slot} {w : Walker} {g : ℕ} {read : List Child} {p : Point} → new.caches ≡ caches → new.present ≡ doc → new.updates ≡ updates → new.slots ≡ slots
-    → ReadsAt caches doc (up_of new) updates slots w g read p → IsRead new w g read p
-read_at new {w = w} {g = g} {read = read} {p = p} a b c d h = subst (λ (v : FinMap nat_cmp Layer × (Doc × (List Patch × List Slot))). ReadsAt v.0 v.1.0 (up_of new) v.1.1.0 v.1.1.1 w g read p) (λ i. (sym a i, (sym b i, (sym c i, sym d i)))) h
+    → ReadsAt caches doc (painted_path new) updates slots w g read p → IsRead new w g read p
+read_at new {w = w} {g = g} {read = read} {p = p} a b c d h = subst (λ (v : FinMap nat_cmp Layer × (Doc × (List Patch × List Slot))). ReadsAt v.0 v.1.0 (painted_path new) v.1.1.0 v.1.1.1 w g read p) (λ i. (sym a i, (sym b i, (sym c i, sym d i)))) h
 
 -- documents with the same paths
-cov_docs : (keep : Slot → Bool) (d d' : Doc) (up : List ℕ) (updates : List Patch) (slots : List Slot) (g : ℕ) (p : Point) → ((w : Walk) → path_of w d ≡ path_of w d') → cov keep d up updates slots g p ≡ cov keep d' up updates slots g p
-cov_docs keep d d' up updates slots g p same = ap (λ b. b || list_any (λ slot. keep slot && slot_on up g p slot) slots)
+covered_by_docs : (keep : Slot → Bool) (d d' : Doc) (up : List ℕ) (updates : List Patch) (slots : List Slot) (g : ℕ) (p : Point) → ((w : Walk) → path_of w d ≡ path_of w d') → covered_by keep d up updates slots g p ≡ covered_by keep d' up updates slots g p
+covered_by_docs keep d d' up updates slots g p same = ap (λ b. b || list_any (λ slot. keep slot && slot_on up g p slot) slots)
     (any_same (λ (r : Patch). on g (path_of r.walk d) && holds r.rect p) (λ (r : Patch). on g (path_of r.walk d') && holds r.rect p) updates (λ r. ap (λ gs. on g gs && holds r.rect p) (same r.walk)))
 
 -- present and base have the same paths and groups
@@ -80,15 +80,19 @@ shown_outside jobs layer d zero p out = refl
 shown_outside jobs layer d (suc n) p out = kept _ _ _ (none_and _ _ (out n (omega arith))) ∙ shown_outside jobs layer d n p (λ j h. out j (omega arith))
 
 module _ (old new : State) (tree : IsTree old.base) (present_tree : IsTree old.present) (way : IsOnWay old old.way) (step : CancelStep old new) where
+  -- the stroke's layer
   abbrev q : ℕ
   q = step.stroke.layer
 
+  -- the rectangles of the jobs that were started
   abbrev rects : List Area
   rects = writes_of (started_jobs old step.stroke)
 
+  -- the patches that wait afterwards
   abbrev queue : List Patch
   queue = updates_with old (parent_of q old.present) (bound_of (set.items (key_set rects)))
 
+  -- whether one of them may have painted the point
   abbrev touched : Point → Bool
   touched p = any_holds rects p
 
@@ -120,16 +124,17 @@ module _ (old new : State) (tree : IsTree old.base) (present_tree : IsTree old.p
           outside f = u.painted.pixels p ∙ shown_outside (kept_jobs u.stroke) u.base_layer (done old.slots) n p (λ j h. areas_outside (kept_jobs u.stroke) n j p (ap (λ rs. any_holds rs p) (sym rects_are) ∙ f) h)
 
   -- what was covered stays so, and what was touched is covered for the layer's parent
-  covers : (keep : Slot → Bool) (up : List ℕ) (g : ℕ) (p : Point) → grouped g old.base ≡ true → in_grid p ≡ true → cov keep old.present (up_of old) old.updates old.slots g p ≡ true → cov keep old.base up queue old.slots g p ≡ true
+  covers : (keep : Slot → Bool) (up : List ℕ) (g : ℕ) (p : Point) → grouped g old.base ≡ true → in_grid p ≡ true → covered_by keep old.present (painted_path old) old.updates old.slots g p ≡ true → covered_by keep old.base up queue old.slots g p ≡ true
   covers keep up g p is grid h = either_covers _ _ _
       (λ e. or_left _ _ (updates_with_stays (composes g old.base) (λ w e. path_all g old.base is) old (parent_of q old.present) (bound_of (set.items (key_set rects))) p grid e))
       (λ e. or_right (queued_for (composes g old.base) queue p) _ e)
-      (sym (cov_idle keep old.base (up_of old) up old.updates old.slots g p idle) ∙ sym (cov_docs keep old.present old.base (up_of old) old.updates old.slots g p (base_paths old way)) ∙ h)
+      (sym (covered_by_idle keep old.base (painted_path old) up old.updates old.slots g p idle) ∙ sym (covered_by_docs keep old.present old.base (painted_path old) old.updates old.slots g p (base_paths old way)) ∙ h)
 
-  touched_covered : (keep : Slot → Bool) (up : List ℕ) (g : ℕ) (p : Point) → grouped g old.base ≡ true → in_grid p ≡ true → holds (canvas_area old.canvas) p ≡ true → touched p ≡ true → parent_of q old.present ≡ g → cov keep old.base up queue old.slots g p ≡ true
+  touched_covered : (keep : Slot → Bool) (up : List ℕ) (g : ℕ) (p : Point) → grouped g old.base ≡ true → in_grid p ≡ true → holds (canvas_area old.canvas) p ≡ true → touched p ≡ true → parent_of q old.present ≡ g → covered_by keep old.base up queue old.slots g p ≡ true
   touched_covered keep up g p is grid inside hit above = or_left _ _ (updates_with_takes (composes g old.base) (λ w e. path_all g old.base is) old (parent_of q old.present) (bound_of (set.items (key_set rects))) p grid inside
       (ap (λ h. on g (path_of (Up h) old.base)) above ∙ path_here g old.base is) (areas_hold rects p hit))
 
+  -- groups of present are groups of base
   abbrev by_present : (g : ℕ) → grouped g old.present ≡ true → grouped g old.base ≡ true
   by_present g is = sym (base_grouped old way g) ∙ is
 
@@ -138,8 +143,8 @@ module _ (old new : State) (tree : IsTree old.base) (present_tree : IsTree old.p
       (λ g h. base_grouped old way g ∙ ap (λ (s : State). grouped g s.present) (sym step.new_is) ∙ h)
       (λ g p is inside h. fold_at new (ap (λ (s : State). s.caches) step.new_is) (ap (λ (s : State). s.present) step.new_is) (ap (λ (s : State). s.updates) step.new_is) (ap (λ (s : State). s.slots) step.new_is)
       (elim (back_move g p) [
-        | inl same ↦ fold_moves refl same (covers anyone (up_of new) g p (by_present g is) (grid p inside)) h
-        | inr hit ↦ fold_new (touched_covered anyone (up_of new) g p (by_present g is) (grid p inside) inside hit.0 hit.1)
+        | inl same ↦ fold_moves refl same (covers any_slot (painted_path new) g p (by_present g is) (grid p inside)) h
+        | inr hit ↦ fold_new (touched_covered any_slot (painted_path new) g p (by_present g is) (grid p inside) inside hit.0 hit.1)
       ]))
 
   pub walks_cancel : ((p : Point) → holds (canvas_area old.canvas) p ≡ true → in_grid p ≡ true) → ((v : Walk) (g : ℕ) → IsGroupOf old.present v → on g (path_of v old.present) ≡ true → grouped g old.present ≡ true)
@@ -150,6 +155,6 @@ module _ (old new : State) (tree : IsTree old.base) (present_tree : IsTree old.p
       point : (v : Walker) (g : ℕ) (read : List Child) (p : Point) → grouped g old.present ≡ true → holds (canvas_area old.canvas) p ≡ true → IsRead old v g read p → IsRead new v g read p
       point v g read p is inside h = read_at new (ap (λ (s : State). s.caches) step.new_is) (ap (λ (s : State). s.present) step.new_is) (ap (λ (s : State). s.updates) step.new_is) (ap (λ (s : State). s.slots) step.new_is)
           (elim (back_move g p) [
-            | inl same ↦ read_moves same (covers is_painter (up_of new) g p (by_present g is) (grid p inside)) h
-            | inr hit ↦ read_new (touched_covered is_painter (up_of new) g p (by_present g is) (grid p inside) inside hit.0 hit.1) h
+            | inl same ↦ read_moves same (covers is_painter (painted_path new) g p (by_present g is) (grid p inside)) h
+            | inr hit ↦ read_new (touched_covered is_painter (painted_path new) g p (by_present g is) (grid p inside) inside hit.0 hit.1) h
           ])

@@ -37,6 +37,7 @@ pub bound_right : (s : State) (g : ℕ) (o : Option Area) → IsQueue (canvas_ar
 bound_right s g None q = q
 bound_right s g (Some rect) q = queued_right (canvas_area s.canvas) s.updates (Up g) rect q
 
+-- each patch is of a group still
 pub bound_groups : (s : State) (doc : Doc) (g : ℕ) (o : Option Area) → IsGroupOf doc (Up g) → AllByRecursion (λ (p : Patch). IsGroupOf doc p.walk) s.updates → AllByRecursion (λ (p : Patch). IsGroupOf doc p.walk) (updates_with s g o)
 bound_groups s doc g None new h = h
 bound_groups s doc g (Some rect) new h = queued_each (IsGroupOf doc) (canvas_area s.canvas) s.updates (Up g) rect new tt h
@@ -62,6 +63,7 @@ refused_told s stroke refused = go (conflict stroke.jobs) refl
     go (Some pair) e = refl
     go None e = last stroke.fate refl e
 
+-- a cancel keeps the machine orderly
 pub cancel_keeps : (old new : State) → IsOrderly old → CancelStep old new → IsOrderly new
 cancel_keeps old new sound step = subst IsOrderly (sym step.new_is) (record {
   told = told_more old next (Strokes step.stroke) sound.told is_head (closed_is step.stroke step.closed) refl refl (sym (refused_told (story old) step.stroke step.refused));

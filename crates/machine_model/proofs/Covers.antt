@@ -25,6 +25,7 @@ use Rattle.machine_model.specs.Walking.{WalkInside, WalkStands, SameChildren, Is
 use Rattle.machine_model.proofs.WalkPaths.{grouped}
 use Rattle.std.proofs.lemmas.Bool.Decides.{nat_tests}
 
+-- the groups that a walk composes
 abbrev pub groups_of : Walker → List ℕ
 groups_of w = map (λ (e : ℕ × List Child). e.0) w.shot
 
@@ -34,49 +35,57 @@ slot_on up g p Free = false
 slot_on up g p (Paints w) = any_holds (writes w.job) p && on g up
 slot_on up g p (Walks w) = holds w.patch.rect p && on g (groups_of w)
 
-abbrev pub anyone : Slot → Bool
-anyone slot = true
+-- every slot passes
+abbrev pub any_slot : Slot → Bool
+any_slot slot = true
 
 -- whether a patch or one of the slots that pass the test composes the group at the point
-abbrev pub cov : (Slot → Bool) → Doc → List ℕ → List Patch → List Slot → ℕ → Point → Bool
-cov keep doc up updates slots g p = queued_for (composes g doc) updates p || list_any (λ slot. keep slot && slot_on up g p slot) slots
+abbrev pub covered_by : (Slot → Bool) → Doc → List ℕ → List Patch → List Slot → ℕ → Point → Bool
+covered_by keep doc up updates slots g p = queued_for (composes g doc) updates p || list_any (λ slot. keep slot && slot_on up g p slot) slots
 
-abbrev pub up_of : State → List ℕ
-up_of s = path_of (Up (painted_group s (head_stroke s))) s.present
+-- the path of the layer that the stroke under way paints
+abbrev pub painted_path : State → List ℕ
+painted_path s = path_of (Up (painted_group s (head_stroke s))) s.present
 
+-- tests that agree
 pub any_same : {A : Type 0} (f g : A → Bool) (xs : List A) → ((x : A) → f x ≡ g x) → list_any f xs ≡ list_any g xs
 any_same f g [] same = refl
 any_same f g (x ∷ xs) same = rw (same x, any_same f g xs same) refl
 
-slot_is : (s : State) (g : ℕ) (p : Point) (slot : Slot) → slot_covers s g p slot ≡ slot_on (up_of s) g p slot
+slot_is : (s : State) (g : ℕ) (p : Point) (slot : Slot) → slot_covers s g p slot ≡ slot_on (painted_path s) g p slot
 slot_is s g p Free = refl
 slot_is s g p (Paints w) = refl
 slot_is s g p (Walks w) = refl
 
-pub covered_is : (s : State) (g : ℕ) (p : Point) → covered s g p ≡ cov anyone s.present (up_of s) s.updates s.slots g p
-covered_is s g p = ap (λ b. queued_for (composes g s.present) s.updates p || b) (any_same (slot_covers s g p) (λ slot. anyone slot && slot_on (up_of s) g p slot) s.slots (λ slot. slot_is s g p slot))
+-- to be covered, in these words
+pub covered_is : (s : State) (g : ℕ) (p : Point) → covered s g p ≡ covered_by any_slot s.present (painted_path s) s.updates s.slots g p
+covered_is s g p = ap (λ b. queued_for (composes g s.present) s.updates p || b) (any_same (slot_covers s g p) (λ slot. any_slot slot && slot_on (painted_path s) g p slot) s.slots (λ slot. slot_is s g p slot))
 
-pub others_is : (s : State) (g : ℕ) (p : Point) → covered_by_others s g p ≡ cov is_painter s.present (up_of s) s.updates s.slots g p
-others_is s g p = ap (λ b. queued_for (composes g s.present) s.updates p || b) (any_same (λ slot. is_painter slot && slot_covers s g p slot) (λ slot. is_painter slot && slot_on (up_of s) g p slot) s.slots (λ slot. ap (λ b. is_painter slot && b) (slot_is s g p slot)))
+-- to be covered by a patch or a job, in these words
+pub others_is : (s : State) (g : ℕ) (p : Point) → covered_by_others s g p ≡ covered_by is_painter s.present (painted_path s) s.updates s.slots g p
+others_is s g p = ap (λ b. queued_for (composes g s.present) s.updates p || b) (any_same (λ slot. is_painter slot && slot_covers s g p slot) (λ slot. is_painter slot && slot_on (painted_path s) g p slot) s.slots (λ slot. ap (λ b. is_painter slot && b) (slot_is s g p slot)))
 
 -- the cache of one group at one point
 pub record FoldsAt (caches : FinMap nat_cmp Layer) (doc : Doc) (up : List ℕ) (updates : List Patch) (slots : List Slot) (g : ℕ) (p : Point) : Type 0 where
-  pub is : (at (cache caches g) p ≡ folded (with_pixels caches (nodes_in g doc)) p clear) ⊎ (cov anyone doc up updates slots g p ≡ true)
+  pub is : (at (cache caches g) p ≡ folded (with_pixels caches (nodes_in g doc)) p clear) ⊎ (covered_by any_slot doc up updates slots g p ≡ true)
 
+-- for the parts of a state
 abbrev pub IsFold : State → ℕ → Point → Type 0
-IsFold s g p = FoldsAt s.caches s.present (up_of s) s.updates s.slots g p
+IsFold s g p = FoldsAt s.caches s.present (painted_path s) s.updates s.slots g p
 
 -- what one walk has published and read, at one point of one group
 pub record ReadsAt (caches : FinMap nat_cmp Layer) (doc : Doc) (up : List ℕ) (updates : List Patch) (slots : List Slot) (w : Walker) (g : ℕ) (read : List Child) (p : Point) : Type 0 where
   pub published : list_any (same_pair g (key_of p)) w.published ≡ true → at (cache caches g) p ≡ walk_value w.shot g p
-  pub current : SamePixels (groups_of w) read (with_pixels caches (nodes_in g doc)) p ⊎ (cov is_painter doc up updates slots g p ≡ true)
+  pub current : SamePixels (groups_of w) read (with_pixels caches (nodes_in g doc)) p ⊎ (covered_by is_painter doc up updates slots g p ≡ true)
 
+-- for the parts of a state
 abbrev pub IsRead : State → Walker → ℕ → List Child → Point → Type 0
-IsRead s w g read p = ReadsAt s.caches s.present (up_of s) s.updates s.slots w g read p
+IsRead s w g read p = ReadsAt s.caches s.present (painted_path s) s.updates s.slots w g read p
 
 fold_in : (s : State) (g : ℕ) (p : Point) → (at (cache s.caches g) p ≡ folded (children_of s g) p clear) ⊎ (covered s g p ≡ true) → IsFold s g p
 fold_in s g p h = record { is = elim h [ inl e ↦ inl e | inr e ↦ inr (sym (covered_is s g p) ∙ e) ] }
 
+-- and back
 pub fold_out : (s : State) (g : ℕ) (p : Point) → IsFold s g p → (at (cache s.caches g) p ≡ folded (children_of s g) p clear) ⊎ (covered s g p ≡ true)
 fold_out s g p h = elim h.is [ inl e ↦ inl e | inr e ↦ inr (covered_is s g p ∙ e) ]
 
@@ -94,7 +103,7 @@ caches_by old new canvas groups step fold g p is inside =
     let inside' : holds (canvas_area old.canvas) p ≡ true = ap (λ c. holds (canvas_area c) p) (sym canvas) ∙ inside in
     fold_out new g p (step g p is' inside' (fold_in old g p (fold g p is' inside')))
 
--- a running walk's patch lies in the canvas
+-- the group of each entry of a shot is one of its groups
 pub all_on : (xs : List (ℕ × List Child)) → AllByRecursion (λ (e : ℕ × List Child). on e.0 (map (λ (e : ℕ × List Child). e.0) xs) ≡ true) xs
 all_on xs = go xs (λ g h. h)
   where
@@ -105,6 +114,7 @@ all_on xs = go xs (λ g h. h)
         equal_test : (d : ℕ) → eqb d d ≡ true
         equal_test d = grind (arith, nat_tests)
 
+-- three facts of each entry of a shot give a fourth
 pub shots_by : (P Q R S : ℕ × List Child → Type 0) → ((e : ℕ × List Child) → P e → Q e → R e → S e) → (xs : List (ℕ × List Child)) → AllByRecursion P xs → AllByRecursion Q xs → AllByRecursion R xs → AllByRecursion S xs
 shots_by P Q R S f [] a b c = tt
 shots_by P Q R S f (x ∷ xs) a b c = (f x a.0 b.0 c.0, shots_by P Q R S f xs a.1 b.1 c.1)
@@ -134,11 +144,11 @@ walks_by old new step (Walks w ∷ slots) stands inside right = (
 
 -- the same caches and document, and nothing covered less
 pub fold_covers : {caches : FinMap nat_cmp Layer} {doc : Doc} {up up' : List ℕ} {updates updates' : List Patch} {slots slots' : List Slot} {g : ℕ} {p : Point}
-    → (cov anyone doc up updates slots g p ≡ true → cov anyone doc up' updates' slots' g p ≡ true) → FoldsAt caches doc up updates slots g p → FoldsAt caches doc up' updates' slots' g p
+    → (covered_by any_slot doc up updates slots g p ≡ true → covered_by any_slot doc up' updates' slots' g p ≡ true) → FoldsAt caches doc up updates slots g p → FoldsAt caches doc up' updates' slots' g p
 fold_covers more h = record { is = elim h.is [ inl e ↦ inl e | inr e ↦ inr (more e) ] }
 
 pub read_covers : {caches : FinMap nat_cmp Layer} {doc : Doc} {up up' : List ℕ} {updates updates' : List Patch} {slots slots' : List Slot} {w : Walker} {g : ℕ} {read : List Child} {p : Point}
-    → (cov is_painter doc up updates slots g p ≡ true → cov is_painter doc up' updates' slots' g p ≡ true) → ReadsAt caches doc up updates slots w g read p → ReadsAt caches doc up' updates' slots' w g read p
+    → (covered_by is_painter doc up updates slots g p ≡ true → covered_by is_painter doc up' updates' slots' g p ≡ true) → ReadsAt caches doc up updates slots w g read p → ReadsAt caches doc up' updates' slots' w g read p
 read_covers more h = record { published = h.published; current = elim h.current [ inl e ↦ inl e | inr e ↦ inr (more e) ] }
 
 -- slots where one was set

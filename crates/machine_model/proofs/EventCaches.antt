@@ -39,9 +39,11 @@ all_unmapped (e ∷ es) all = (all.0, all_unmapped es all.1)
 sound_past : (s : State) → IsSound s → AllTrees s.past
 sound_past s sound = all_unmapped s.past (trees s sound.orderly.told).past
 
+-- the patches of walks at work lie in the canvas
 abbrev pub WalksInside : State → Type 0
 WalksInside s = AllByRecursion (WalkInside (canvas_area s.canvas)) s.slots
 
+-- what caches and running walks hold
 pub record CachesRight (s : State) : Type 0 where
   pub caches : CachesFold s
   pub walks : AllByRecursion (WalkIsRight s) s.slots

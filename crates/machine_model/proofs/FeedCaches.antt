@@ -20,8 +20,8 @@ use Rattle.machine_model.specs.Caches.{CachesFold, WalkIsRight}
 use Rattle.machine_model.specs.Walking.{WalkStands, WalkInside}
 use Rattle.machine_model.specs.UnderWay.{IsOnWay}
 use Rattle.machine_model.proofs.WalkPaths.{grouped}
-use Rattle.machine_model.proofs.Covers.{anyone, cov, up_of, IsFold, IsRead, caches_by, walks_by, fold_covers, read_covers}
-use Rattle.machine_model.proofs.JobCaches.{cov_idle}
+use Rattle.machine_model.proofs.Covers.{any_slot, covered_by, painted_path, IsFold, IsRead, caches_by, walks_by, fold_covers, read_covers}
+use Rattle.machine_model.proofs.JobCaches.{covered_by_idle}
 use Rattle.geom_core.proofs.Tests.{not_true}
 
 -- a stroke at the head stays one for its layer
@@ -54,14 +54,15 @@ fed_stays n es (command.Purge keep) s h = (s, first_last n es _ (Strokes s) h, r
 fed_stays n es command.Export s h = (s, first_last n es _ (Strokes s) h, refl)
 
 module _ (old new : State) (c : Command) (step : Step old (Feed c) new) (way : IsOnWay old old.way) where
+  -- the state afterwards
   abbrev next : State
   next = record old { fed = old.fed ++ c ∷ [] }
 
   -- either number job is at work, or the same layer is painted
-  same_up : (list_any is_painter old.slots ≡ false) ⊎ (up_of next ≡ up_of old)
+  same_up : (list_any is_painter old.slots ≡ false) ⊎ (painted_path next ≡ painted_path old)
   same_up = go old.way way
     where
-      go : (o : Option ℕ) → IsOnWay old o → (list_any is_painter old.slots ≡ false) ⊎ (up_of next ≡ up_of old)
+      go : (o : Option ℕ) → IsOnWay old o → (list_any is_painter old.slots ≡ false) ⊎ (painted_path next ≡ painted_path old)
       go None rest = inl (not_true _ rest.idle)
       go (Some n) u =
           let before : head old ≡ Some (Strokes u.stroke) = head_is (head old) u.stroke u.at_head in
@@ -69,12 +70,12 @@ module _ (old new : State) (c : Command) (step : Step old (Feed c) new) (way : I
           let after : head_stroke next ≡ Some stays.0 = ap stroke_of stays.1 in
           inr (ap (λ o. path_of (Up (painted_group old o)) old.present) after ∙ ap (λ l. path_of (Up (parent_of l old.present)) old.present) stays.2 ∙ sym (ap (λ o. path_of (Up (painted_group old o)) old.present) u.at_head))
 
-  covers : (keep : Slot → Bool) (g : ℕ) (p : Point) → cov keep old.present (up_of old) old.updates old.slots g p ≡ true → cov keep old.present (up_of next) old.updates old.slots g p ≡ true
-  covers keep g p h = elim same_up [ inl idle ↦ cov_idle keep old.present (up_of next) (up_of old) old.updates old.slots g p idle ∙ h | inr same ↦ ap (λ up. cov keep old.present up old.updates old.slots g p) same ∙ h ]
+  covers : (keep : Slot → Bool) (g : ℕ) (p : Point) → covered_by keep old.present (painted_path old) old.updates old.slots g p ≡ true → covered_by keep old.present (painted_path next) old.updates old.slots g p ≡ true
+  covers keep g p h = elim same_up [ inl idle ↦ covered_by_idle keep old.present (painted_path next) (painted_path old) old.updates old.slots g p idle ∙ h | inr same ↦ ap (λ up. covered_by keep old.present up old.updates old.slots g p) same ∙ h ]
 
   pub caches_feed : CachesFold old → CachesFold new
   caches_feed = caches_by old new (ap (λ (s : State). s.canvas) step.1) (λ g h. ap (λ (s : State). grouped g s.present) (sym step.1) ∙ h)
-      (λ g p is inside h. subst (λ s. IsFold s g p) (sym step.1) (fold_covers (covers anyone g p) h))
+      (λ g p is inside h. subst (λ s. IsFold s g p) (sym step.1) (fold_covers (covers any_slot g p) h))
 
   pub walks_feed : AllByRecursion (WalkStands old) old.slots → AllByRecursion (WalkInside (canvas_area old.canvas)) old.slots → AllByRecursion (WalkIsRight old) old.slots → AllByRecursion (WalkIsRight new) new.slots
   walks_feed stands inside right = subst (AllByRecursion (WalkIsRight new)) (ap (λ (s : State). s.slots) (sym step.1))

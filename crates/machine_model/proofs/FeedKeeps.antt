@@ -27,12 +27,14 @@ append_none : (jobs : Jobs) → jobs ++ [] ≡ jobs
 append_none [] = refl
 append_none (j ∷ jobs) = ap (λ js. j ∷ js) (append_none jobs)
 
+-- one more entry behind
 pub first_last : (k : ℕ) (es : List Entry) (e x : Entry) → first (drop k es) ≡ Some x → first (drop k (es ++ e ∷ [])) ≡ Some x
 first_last zero [] e x h = cc
 first_last zero (y ∷ es) e x h = h
 first_last (suc k) [] e x h = cc
 first_last (suc k) (y ∷ es) e x h = first_last k es e x h
 
+-- each entry changed
 pub first_map : (k : ℕ) (change : Entry → Entry) (es : List Entry) (x : Entry) → first (drop k es) ≡ Some x → first (drop k (map change es)) ≡ Some (change x)
 first_map zero change [] x h = cc
 first_map zero change (y ∷ es) x h = let same : y ≡ x = cc in ap (λ e. Some (change e)) same
@@ -81,10 +83,12 @@ head_is (Some Redoes) stroke e = cc
 head_is (Some (Purges n)) stroke e = cc
 head_is (Some Exports) stroke e = cc
 
+-- what isn't begun isn't exclusive
 pub not_begun : (o : Option Stroke) → is_exclusive o None ≡ false
 not_begun None = refl
 not_begun (Some s) = refl
 
+-- the state after one more command
 abbrev pub after_feed : State → Command → State
 after_feed s c = record s { fed = s.fed ++ c ∷ [] }
 
@@ -152,6 +156,7 @@ alone_fed s c (Some n) way alone e = alone (same ∙ e)
     same : is_exclusive (head_stroke s) (Some n) ≡ is_exclusive (head_stroke (after_feed s c)) (Some n)
     same = ap (λ o. is_exclusive o (Some n)) way.at_head ∙ sym g.2.exclusive ∙ sym (ap (λ o. is_exclusive o (Some n)) g.1)
 
+-- a command that is fed keeps the machine orderly
 pub feed_keeps : (old new : State) (c : Command) → IsOrderly old → (may_follow (entries old.fed) c ≡ true) × (new ≡ record old { fed = old.fed ++ c ∷ [] }) → IsOrderly new
 feed_keeps old new c sound step = subst IsOrderly (sym step.1) (record {
   told = told_fed old c sound.told step.0;

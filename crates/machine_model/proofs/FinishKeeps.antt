@@ -196,6 +196,7 @@ finish_whole old stroke sound at_head closed clear paint begun idle = record {
     budget : (k l j x j' e p o o' : ℕ) → k + l ≤ ((65 * j + 65 * e) + p) + 64 * o → j' ≡ j + x → o' ≡ suc o → e ≤ x → k + l ≤ ((65 * j' + 65 * 0) + p) + 64 * o'
     budget k l j x j' e p o o' b f g h = omega arith
 
+-- a finish keeps the machine orderly
 pub finish_keeps : (old new : State) → IsOrderly old → FinishStep old new → IsOrderly new
 finish_keeps old new sound step = subst IsOrderly (sym step.new_is) (go (is_paint step.stroke.layer old.base) refl)
   where

@@ -110,6 +110,7 @@ module _ (s : State) (sound : IsOrderly s) (free : list_all is_free s.slots ≡ 
   updates_or open_to_walks [] e = inl e
   updates_or open_to_walks (p ∷ ps) e = inr (patch_goes p ps e open_to_walks)
 
+  -- what a barrier waits for
   abbrev Barred : Stroke → Kind → Type 0
   Barred stroke kind = is_bar kind ≡ true → stroke.exclusive ≡ false → (no_walker s ≡ true) × (s.updates ≡ [])
 

@@ -30,6 +30,7 @@ children_with g q x (group id look nodes rest) =
     same_cond (eqb g id) refl (ap (λ a. join a (children g (with_content q x rest))) (children_with g q x nodes) ∙ ap (join (with_content q x (children g nodes))) (children_with g q x rest) ∙ join_with q x (children g nodes) (children g rest))
     ∙ chosen (eqb g id) (with_content q x) nodes (join (children g nodes) (children g rest))
 
+-- nor those of a group
 pub nodes_with : (g q : ℕ) (x : Layer) (doc : Doc) → nodes_in g (with_content q x doc) ≡ with_content q x (nodes_in g doc)
 nodes_with g q x doc = same_cond (eqb g 0) refl (children_with g q x doc) ∙ chosen (eqb g 0) (with_content q x) doc (children g doc)
 
@@ -45,5 +46,6 @@ with_pixels_same caches q x (paint id look y rest) h =
     ∙ ap (λ cs. record { id = id; look = look; pixels = y } ∷ cs) (with_pixels_same caches q x rest (none_right _ _ h))
 with_pixels_same caches q x (group id look nodes rest) h = ap (λ cs. record { id = id; look = look; pixels = cache caches id } ∷ cs) (with_pixels_same caches q x rest (none_right _ _ h))
 
+-- so the children of a group in which q isn't
 pub children_same : (caches : FinMap nat_cmp Layer) (g q : ℕ) (x : Layer) (doc : Doc) → is_child q (with_pixels caches (nodes_in g doc)) ≡ false → with_pixels caches (nodes_in g (with_content q x doc)) ≡ with_pixels caches (nodes_in g doc)
 children_same caches g q x doc h = ap (with_pixels caches) (nodes_with g q x doc) ∙ with_pixels_same caches q x (nodes_in g doc) h

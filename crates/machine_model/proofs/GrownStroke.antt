@@ -21,10 +21,12 @@ get_front [] ys i h = absurd (omega arith)
 get_front (x ∷ xs) ys zero h = refl
 get_front (x ∷ xs) ys (suc i) h = get_front xs ys i (omega arith)
 
+-- a list is no shorter with more behind
 pub length_front : {A : Type 0} (xs ys : List A) → length xs ≤ length (xs ++ ys)
 length_front [] ys = omega arith
 length_front (x ∷ xs) ys = let h : length xs ≤ length (xs ++ ys) = length_front xs ys in omega arith
 
+-- started jobs stay started
 pub started_grown : (jobs rest : Jobs) (n : ℕ) (slots : List Slot) → n ≤ length jobs → AllByRecursion (SlotIsStarted jobs n) slots → AllByRecursion (SlotIsStarted (jobs ++ rest) n) slots
 started_grown jobs rest n [] l all = tt
 started_grown jobs rest n (Free ∷ slots) l all = (tt, started_grown jobs rest n slots l all.1)
@@ -39,6 +41,7 @@ run_grown jobs rest i j h l = all_from_same i (suc j - i) (runs_at (jobs ++ rest
 uni_grown : (jobs rest : Jobs) (i j : ℕ) → i < j → j < length jobs → both_uni (jobs ++ rest) i j ≡ both_uni jobs i j
 uni_grown jobs rest i j h l = rw (get_front jobs rest i (omega arith), get_front jobs rest j l) refl
 
+-- jobs that may be at work together still may
 pub overlap_grown : (jobs rest : Jobs) (n : ℕ) (slots : List Slot) → n ≤ length jobs → MayOverlap jobs n slots → MayOverlap (jobs ++ rest) n slots
 overlap_grown jobs rest n slots l may i j a b r =
     let old : (one_run jobs i j ≡ true) × (both_uni jobs i j ≡ false) = may i j a b r in
@@ -65,6 +68,7 @@ shown_grown jobs rest layer d (suc n) p l = λ i.
     same : writes_at (jobs ++ rest) n ≡ writes_at jobs n
     same = rw (get_front jobs rest n (omega arith)) refl
 
+-- shots and pixels stay right
 pub pixels_grown : (jobs rest : Jobs) (base_layer layer : Layer) (n : ℕ) (slots : List Slot) → n ≤ length jobs → AllByRecursion (SlotIsStarted jobs n) slots → PixelsAre jobs base_layer layer n slots → PixelsAre (jobs ++ rest) base_layer layer n slots
 pixels_grown jobs rest base_layer layer n slots l started right = record {
   shots = shots_grown jobs rest base_layer n slots l started right.shots;

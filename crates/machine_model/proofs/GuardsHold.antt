@@ -21,6 +21,7 @@ use Rattle.machine_model.proofs.ActCaches.{at_rest}
 abbrev pub starting : (old new : State) (place : ℕ) → StartStep old place new → Painter
 starting old new place step = record { serial = old.next; index = step.next; job = step.job.1; shot = shot_of (reads step.job.1) (layer_in step.stroke.layer old.present); published = [] }
 
+-- it stands in its slot
 pub starts_at : (old new : State) (place : ℕ) (step : StartStep old place new) → slice_get new.slots place ≡ Some (Paints (starting old new place step))
 starts_at old new place step = ap (λ (s : State). slice_get s.slots place) step.new_is ∙ get_set old.slots place Free _ step.free
 

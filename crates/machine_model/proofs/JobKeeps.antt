@@ -53,6 +53,7 @@ as_exclusive : (o : Option Stroke) (n m : ℕ) → is_exclusive o (Some n) ≡ i
 as_exclusive None n m = refl
 as_exclusive (Some s) n m = refl
 
+-- a start keeps the machine orderly
 pub start_keeps : (old new : State) (place : ℕ) → IsOrderly old → StartStep old place new → IsOrderly new
 start_keeps old new place sound step = subst IsOrderly (sym step.new_is) (record {
   told = record { lawful = sound.told.lawful; closed = sound.told.closed; few = sound.told.few; means = sound.told.means };
@@ -110,6 +111,7 @@ start_keeps old new place sound step = subst IsOrderly (sym step.new_is) (record
     budget : (k l j e e' p p' o : ℕ) → k + l ≤ ((65 * j + 65 * e) + p) + o → e' ≡ e → p' + 0 ≡ p + 1 → suc k + l ≤ ((65 * j + 65 * e') + p') + o
     budget k l j e e' p p' o b f g = omega arith
 
+-- a publish keeps the machine orderly
 pub publish_keeps : (old new : State) (place : ℕ) (key : Key) → IsOrderly old → PublishStep old place key new → IsOrderly new
 publish_keeps old new place key sound step = go (painting old place step.painter step.runs old.way sound.on_way)
   where
@@ -193,6 +195,7 @@ parent_stands id doc = go (parent id 0 doc) refl
     go None e = refl
     go (Some g) e = parent_is_group id 0 g doc e
 
+-- an end keeps the machine orderly
 pub end_keeps : (old new : State) (place : ℕ) → IsOrderly old → EndStep old place new → IsOrderly new
 end_keeps old new place sound step = go (painting old place step.painter step.runs old.way sound.on_way)
   where

@@ -13,6 +13,7 @@ abbrev pub jobs_of : Entry → ℕ
 jobs_of (Strokes stroke) = length stroke.jobs
 jobs_of e = 0
 
+-- the jobs of one entry and of those behind
 pub jobs_in_one : (e : Entry) (es : List Entry) → jobs_in (e ∷ es) ≡ jobs_of e + jobs_in es
 jobs_in_one (Strokes s) es = refl
 jobs_in_one (Changes c) es = omega arith
@@ -21,6 +22,7 @@ jobs_in_one Redoes es = omega arith
 jobs_in_one (Purges n) es = omega arith
 jobs_in_one Exports es = omega arith
 
+-- the jobs of the entries and of one more behind
 pub jobs_in_last : (es : List Entry) (e : Entry) → jobs_in (es ++ e ∷ []) ≡ jobs_in es + jobs_of e
 jobs_in_last [] e = let h : jobs_in (e ∷ []) ≡ jobs_of e + 0 = jobs_in_one e [] in omega arith
 jobs_in_last (x ∷ es) e =
@@ -46,5 +48,6 @@ kept_few jobs = go (conflict jobs)
     go None = omega arith
     go (Some pair) = length_take_le _ jobs
 
+-- the same for any state afterwards
 pub jobs_left_any : (s t : State) (e : Entry) → head s ≡ Some e → t.fed ≡ s.fed → length t.outcomes ≡ suc (length s.outcomes) → jobs_in (take (length t.outcomes) (entries t.fed)) ≡ jobs_in (take (length s.outcomes) (entries s.fed)) + jobs_of e
 jobs_left_any s t e h fed count = (λ i. jobs_in (take (count i) (entries (fed i)))) ∙ ap jobs_in (take_one_more (length s.outcomes) (entries s.fed) e h) ∙ jobs_in_last (take (length s.outcomes) (entries s.fed)) e

@@ -27,7 +27,7 @@ use Rattle.machine_model.specs.Effects.{updates_with}
 use Rattle.machine_model.specs.Caches.{SamePixels}
 use Rattle.machine_model.proofs.GroupChildren.{children_same, is_child, nodes_with}
 use Rattle.machine_model.proofs.WalkPaths.{SameAt, same_at_refl, folded_same, path_of_with, parent_of_with, is_child_side, child_above}
-use Rattle.machine_model.proofs.Covers.{groups_of, slot_on, anyone, cov, up_of, FoldsAt, ReadsAt, any_same}
+use Rattle.machine_model.proofs.Covers.{groups_of, slot_on, any_slot, covered_by, painted_path, FoldsAt, ReadsAt, any_same}
 use Rattle.machine_model.proofs.TileBounds.{held_by}
 
 same_choice_at : (b : Bool) (x y l : Layer) (p : Point) → at x p ≡ at y p → at (cond b x l) p ≡ at (cond b y l) p
@@ -58,9 +58,10 @@ pub moved_from : (caches : FinMap nat_cmp Layer) (q : ℕ) (x y : Layer) (doc : 
 moved_from caches q x y doc g p touched t there same = subst (λ d. SameAt (with_pixels caches (nodes_in g d)) (with_pixels caches (nodes_in g (with_content q y doc))) p ⊎ ((touched ≡ true) × (parent_of q doc ≡ g)))
     (content_put_back q x doc (tree_distinct doc t) there) (moved_at caches q x y doc g p touched t same)
 
+-- a cache that is a fold stays one where the children are the same
 pub fold_moves : {caches caches' : FinMap nat_cmp Layer} {doc doc' : Doc} {up up' : List ℕ} {updates updates' : List Patch} {slots slots' : List Slot} {g : ℕ} {p : Point}
     → at (cache caches' g) p ≡ at (cache caches g) p → SameAt (with_pixels caches (nodes_in g doc)) (with_pixels caches' (nodes_in g doc')) p
-    → (cov anyone doc up updates slots g p ≡ true → cov anyone doc' up' updates' slots' g p ≡ true) → FoldsAt caches doc up updates slots g p → FoldsAt caches' doc' up' updates' slots' g p
+    → (covered_by any_slot doc up updates slots g p ≡ true → covered_by any_slot doc' up' updates' slots' g p ≡ true) → FoldsAt caches doc up updates slots g p → FoldsAt caches' doc' up' updates' slots' g p
 fold_moves {p = p} own same more h = record { is = elim h.is [ inl e ↦ inl (own ∙ e ∙ folded_same _ _ p clear clear same refl) | inr e ↦ inr (more e) ] }
 
 -- the pixels that were read are those of the children still
@@ -72,24 +73,28 @@ reads_move path [] (x ∷ xs) ys p same reads = absurd reads
 reads_move path (r ∷ read) [] ys p same reads = absurd reads
 reads_move path (r ∷ read) (x ∷ xs) [] p same reads = absurd same
 
+-- what was read stays so where the children are the same
 pub read_moves : {caches : FinMap nat_cmp Layer} {doc doc' : Doc} {up up' : List ℕ} {updates updates' : List Patch} {slots slots' : List Slot} {w : Walker} {g : ℕ} {read : List Child} {p : Point}
     → SameAt (with_pixels caches (nodes_in g doc)) (with_pixels caches (nodes_in g doc')) p
-    → (cov is_painter doc up updates slots g p ≡ true → cov is_painter doc' up' updates' slots' g p ≡ true) → ReadsAt caches doc up updates slots w g read p → ReadsAt caches doc' up' updates' slots' w g read p
+    → (covered_by is_painter doc up updates slots g p ≡ true → covered_by is_painter doc' up' updates' slots' g p ≡ true) → ReadsAt caches doc up updates slots w g read p → ReadsAt caches doc' up' updates' slots' w g read p
 read_moves {w = w} {read = read} {p = p} same more h = record { published = h.published; current = elim h.current [ inl e ↦ inl (reads_move (groups_of w) read _ _ p same e) | inr e ↦ inr (more e) ] }
 
-pub fold_new : {caches' : FinMap nat_cmp Layer} {doc' : Doc} {up' : List ℕ} {updates' : List Patch} {slots' : List Slot} {g : ℕ} {p : Point} → cov anyone doc' up' updates' slots' g p ≡ true → FoldsAt caches' doc' up' updates' slots' g p
+-- or something covers the point now
+pub fold_new : {caches' : FinMap nat_cmp Layer} {doc' : Doc} {up' : List ℕ} {updates' : List Patch} {slots' : List Slot} {g : ℕ} {p : Point} → covered_by any_slot doc' up' updates' slots' g p ≡ true → FoldsAt caches' doc' up' updates' slots' g p
 fold_new e = record { is = inr e }
 
+-- or something covers the point now
 pub read_new : {caches : FinMap nat_cmp Layer} {doc doc' : Doc} {up up' : List ℕ} {updates updates' : List Patch} {slots slots' : List Slot} {w : Walker} {g : ℕ} {read : List Child} {p : Point}
-    → cov is_painter doc' up' updates' slots' g p ≡ true → ReadsAt caches doc up updates slots w g read p → ReadsAt caches doc' up' updates' slots' w g read p
+    → covered_by is_painter doc' up' updates' slots' g p ≡ true → ReadsAt caches doc up updates slots w g read p → ReadsAt caches doc' up' updates' slots' w g read p
 read_new e h = record { published = h.published; current = inr e }
 
 -- other pixels change nothing that is covered
-pub cov_with : (keep : Slot → Bool) (q : ℕ) (x : Layer) (doc : Doc) (up : List ℕ) (updates : List Patch) (slots : List Slot) (g : ℕ) (p : Point) → cov keep (with_content q x doc) up updates slots g p ≡ cov keep doc up updates slots g p
-cov_with keep q x doc up updates slots g p = ap (λ b. b || list_any (λ slot. keep slot && slot_on up g p slot) slots)
+pub covered_by_with : (keep : Slot → Bool) (q : ℕ) (x : Layer) (doc : Doc) (up : List ℕ) (updates : List Patch) (slots : List Slot) (g : ℕ) (p : Point) → covered_by keep (with_content q x doc) up updates slots g p ≡ covered_by keep doc up updates slots g p
+covered_by_with keep q x doc up updates slots g p = ap (λ b. b || list_any (λ slot. keep slot && slot_on up g p slot) slots)
     (any_same (λ (r : Patch). on g (path_of r.walk (with_content q x doc)) && holds r.rect p) (λ (r : Patch). on g (path_of r.walk doc) && holds r.rect p) updates (λ r. ap (λ gs. on g gs && holds r.rect p) (path_of_with r.walk q x doc)))
 
-pub up_with : (s : State) (q : ℕ) (x : Layer) → up_of (record s { present = with_content q x s.present }) ≡ up_of s
+-- nor the path that is painted
+pub up_with : (s : State) (q : ℕ) (x : Layer) → painted_path (record s { present = with_content q x s.present }) ≡ painted_path s
 up_with s q x = go (head_stroke s)
   where
     go : (o : Option Stroke) → path_of (Up (painted_group (record s { present = with_content q x s.present }) o)) (with_content q x s.present) ≡ path_of (Up (painted_group s o)) s.present
@@ -102,6 +107,7 @@ pub updates_with_stays : (covers : Walk → Bool) → ((w : Walk) → covers w �
 updates_with_stays covers all s h None p grid e = e
 updates_with_stays covers all s h (Some rect) p grid e = queued_stays covers all (canvas_area s.canvas) s.updates (Up h) rect p grid e
 
+-- what it holds waits afterwards
 pub updates_with_takes : (covers : Walk → Bool) → ((w : Walk) → covers w ≡ true → covers All ≡ true) → (s : State) (h : ℕ) (o : Option Area) (p : Point)
     → in_grid p ≡ true → holds (canvas_area s.canvas) p ≡ true → covers (Up h) ≡ true → held_by o p ≡ true → queued_for covers (updates_with s h o) p ≡ true
 updates_with_takes covers all s h None p grid inside c e = absurd (let t : false ≡ true = e in cc)

@@ -91,6 +91,7 @@ published_right jobs base_layer layer n slots s w key k stands in_jobs below onc
             subst (λ q. (any_holds (writes_at jobs q) p && done slots q (key_of p)) ≡ (any_holds (writes_at jobs q) p && done slots' q (key_of p))) same
             (same_and _ _ _ (λ held. sym (done_here (key_of p) ∙ not_this (any_holds (writes w.job) p) (same_key (key_of p) key) _ e (ap (λ rects. any_holds rects p) (sym (writes_there jobs w.index k w.job in_jobs)) ∙ held))))
 
+-- the stroke under way after the tile was published
 pub way_after_publish : (old new : State) (place : ℕ) (key : Key) (n : ℕ) → PublishStep old place key new → UnderWay old n → UnderWay new n
 way_after_publish old new place key n step way = subst (λ s. UnderWay s n) (sym step.new_is) (record {
   stroke = way.stroke;

@@ -25,7 +25,7 @@ use Rattle.machine_model.specs.Groups.{cache, with_pixels, nodes_in, children_of
 use Rattle.machine_model.specs.Slots.{is_painter, is_walker, no_painter, no_walker}
 use Rattle.machine_model.specs.Walking.{WalkStands}
 use Rattle.machine_model.proofs.WalkPaths.{grouped, path_root}
-use Rattle.machine_model.proofs.Covers.{groups_of, slot_on, anyone, up_of, covered_is}
+use Rattle.machine_model.proofs.Covers.{groups_of, slot_on, any_slot, painted_path, covered_is}
 use Rattle.machine_model.proofs.JobCaches.{either_covers}
 use Rattle.machine_model.proofs.StateTrees.{present_tree}
 use Rattle.machine_model.specs.PictureLaws.{CoveredReachesRoot, CleanIsPicture}
@@ -56,12 +56,12 @@ root_covered s stands g p h = covered_is s 0 p ∙ either_covers _ _ _ (λ e. or
       | inr f ↦ or_right (on 0 (path_of q.walk s.present) && holds q.rect p) _ (patches ps f)
     ]
 
-    slots : (xs : List Slot) → AllByRecursion (WalkStands s) xs → list_any (λ slot. anyone slot && slot_on (up_of s) g p slot) xs ≡ true → list_any (λ slot. anyone slot && slot_on (up_of s) 0 p slot) xs ≡ true
+    slots : (xs : List Slot) → AllByRecursion (WalkStands s) xs → list_any (λ slot. any_slot slot && slot_on (painted_path s) g p slot) xs ≡ true → list_any (λ slot. any_slot slot && slot_on (painted_path s) 0 p slot) xs ≡ true
     slots [] a e = e
     slots (Free ∷ xs) a e = slots xs a.1 e
-    slots (Paints w ∷ xs) a e = elim (or_cases (any_holds (writes w.job) p && on g (up_of s)) _ e) [
+    slots (Paints w ∷ xs) a e = elim (or_cases (any_holds (writes w.job) p && on g (painted_path s)) _ e) [
       | inl f ↦ or_left _ _ (both_true _ _ (and_left (any_holds (writes w.job) p) _ f) (path_root (Up (painted_group s (head_stroke s))) s.present))
-      | inr f ↦ or_right (any_holds (writes w.job) p && on 0 (up_of s)) _ (slots xs a.1 f)
+      | inr f ↦ or_right (any_holds (writes w.job) p && on 0 (painted_path s)) _ (slots xs a.1 f)
     ]
     slots (Walks w ∷ xs) a e = elim (or_cases (holds w.patch.rect p && on g (groups_of w)) _ e) [
       | inl f ↦ or_left _ _ (both_true _ _ (and_left (holds w.patch.rect p) _ f) (ap (on 0) a.0.1 ∙ path_root w.patch.walk s.present))
@@ -94,10 +94,10 @@ clean_is_picture s sound p inside clean = fold 0 refl ∙ folded_laid s.caches (
 -- where nothing is at work and nothing waits, nothing is covered
 pub still_is_clean : (s : State) → s.updates ≡ [] → no_painter s ≡ true → no_walker s ≡ true → (g : ℕ) (p : Point) → covered s g p ≡ false
 still_is_clean s updates painters walkers g p = covered_is s g p
-    ∙ ap (λ q. queued_for (composes g s.present) q p || list_any (λ slot. anyone slot && slot_on (up_of s) g p slot) s.slots) updates
+    ∙ ap (λ q. queued_for (composes g s.present) q p || list_any (λ slot. any_slot slot && slot_on (painted_path s) g p slot) s.slots) updates
     ∙ slots s.slots (not_true _ painters) (not_true _ walkers)
   where
-    slots : (xs : List Slot) → list_any is_painter xs ≡ false → list_any is_walker xs ≡ false → list_any (λ slot. anyone slot && slot_on (up_of s) g p slot) xs ≡ false
+    slots : (xs : List Slot) → list_any is_painter xs ≡ false → list_any is_walker xs ≡ false → list_any (λ slot. any_slot slot && slot_on (painted_path s) g p slot) xs ≡ false
     slots [] a b = refl
     slots (Free ∷ xs) a b = slots xs a b
     slots (Paints w ∷ xs) a b = absurd (let t : true ≡ false = a in cc)

@@ -26,6 +26,7 @@ use Rattle.machine_model.proofs.WalkKeeps.{walk_start_keeps, walk_publish_keeps,
 use Rattle.geom_core.proofs.Tests.{both_true, neither}
 use Rattle.std.specs.Prelude.{not}
 
+-- by event
 pub step_keeps : StepKeepsOrder
 step_keeps old new (Feed c) sound step = feed_keeps old new c sound step
 step_keeps old new Init sound step = init_keeps old new sound step
@@ -71,6 +72,7 @@ differ_free (x ∷ slots) free = subst (λ y. SerialsDiffer (y ∷ slots)) (sym 
     nothing [] = tt
     nothing (y ∷ ys) = (tt, nothing ys)
 
+-- a new machine is orderly
 pub new_orderly : (canvas : Canvas) (n : ℕ) → IsOfLimits canvas → 1 ≤ n → n ≤ 17 → IsOrderly (new_state canvas n)
 new_orderly canvas n limits low high = record {
   told = record { lawful = refl; closed = refl; few = omega arith; means = refl };

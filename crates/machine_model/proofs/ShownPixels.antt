@@ -31,6 +31,7 @@ after_suc (j ∷ jobs) layer zero k e = ap (λ i. apply i layer) (some_job j k e
     some_job a b h = cc
 after_suc (j ∷ jobs) layer (suc n) k e = after_suc jobs (apply j.1 layer) n k e
 
+-- jobs leave the default pixel
 pub default-after : (jobs : Jobs) (layer : Layer) (n : ℕ) → (after_jobs jobs layer n).default_pixel ≡ layer.default_pixel
 default-after jobs layer zero = refl
 default-after [] layer (suc n) = refl

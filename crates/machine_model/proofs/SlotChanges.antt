@@ -12,6 +12,7 @@ use Rattle.machine_model.specs.Walking.{walks_apart, all_apart}
 use Rattle.machine_model.specs.Counted.{serial_of, SerialBelow, HasNot, SerialsDiffer, painters, ended}
 use Rattle.doc_model.specs.declared.canvas.Patch.{Patch}
 
+-- there are as many slots
 pub length_set : {A : Type 0} (xs : List A) (s : ℕ) (x : A) → length (slice_set xs s x) ≡ length xs
 length_set [] s x = refl
 length_set (y ∷ xs) zero x = refl
@@ -23,11 +24,13 @@ any_beside test [] s x y h nx ny = refl
 any_beside test (z ∷ slots) zero x y h nx ny = let e : z ≡ x = cc in ap (λ b. b || list_any test slots) (ny ∙ sym (ap test e ∙ nx))
 any_beside test (z ∷ slots) (suc s) x y h nx ny = ap (λ b. test z || b) (any_beside test slots s x y h nx ny)
 
+-- no walk is at work in a slot that is freed
 pub no_walkers_freed : (slots : List Slot) (s : ℕ) → list_any is_walker slots ≡ false → list_any is_walker (slice_set slots s Free) ≡ false
 no_walkers_freed [] s h = refl
 no_walkers_freed (z ∷ slots) zero h = none_right (is_walker z) _ h
 no_walkers_freed (z ∷ slots) (suc s) h = ap (λ b. b || list_any is_walker (slice_set slots s Free)) (none_left _ _ h) ∙ no_walkers_freed slots s (none_right (is_walker z) _ h)
 
+-- where no walk is at work, none is in a slot
 pub nobody_walks : (slots : List Slot) (s : ℕ) (w : Walker) → list_any is_walker slots ≡ false → slice_get slots s ≡ Some (Walks w) → ⊥
 nobody_walks [] s w h e = cc
 nobody_walks (z ∷ slots) zero w h e = let same : z ≡ Walks w = cc in let t : is_walker z ≡ true = ap is_walker same in let f : is_walker z ≡ false = none_left _ _ h in cc
@@ -46,6 +49,7 @@ apart_from : (y : Slot) (slots : List Slot) → list_all (clear_of y) slots ≡ 
 apart_from y [] h = refl
 apart_from y (z ∷ slots) h = both_true _ _ (and_right (walks_apart z y) _ (and_left (clear_of y z) _ h)) (apart_from y slots (and_right (clear_of y z) _ h))
 
+-- a slot that stands apart from all may be set
 pub apart_set : (slots : List Slot) (s : ℕ) (y : Slot) → list_all (clear_of y) slots ≡ true → all_apart slots ≡ true → all_apart (slice_set slots s y) ≡ true
 apart_set [] s y h all = refl
 apart_set (z ∷ slots) zero y h all = both_true _ _ (apart_from y slots (and_right (clear_of y z) _ h)) (and_right (list_all (walks_apart z) slots) _ all)
@@ -67,6 +71,7 @@ clear_unless_walks y (z ∷ slots) h = both_true _ _ (one y z h) (clear_unless_w
     one (Paints w) (Walks v) h = refl
     one (Walks w) z h = cc
 
+-- to meet is mutual
 pub meets_swapped : (a b : Area) → meets a b ≡ meets b a
 meets_swapped a b = (λ i. swap (int_lt a.x (right b)) (int_lt b.x (right a)) i && swap (int_lt a.y (bottom b)) (int_lt b.y (bottom a)) i)
   where
@@ -91,6 +96,7 @@ apart_like z y x [] s h e = refl
 apart_like z y x (u ∷ slots) zero h e = let same : u ≡ x = cc in ap (λ b. b && list_all (walks_apart z) slots) (e ∙ ap (walks_apart z) (sym same))
 apart_like z y x (u ∷ slots) (suc s) h e = ap (λ b. walks_apart z u && b) (apart_like z y x slots s h e)
 
+-- so may the same patch again
 pub apart_same : (slots : List Slot) (s : ℕ) (w v : Walker) → slice_get slots s ≡ Some (Walks w) → v.patch ≡ w.patch → all_apart (slice_set slots s (Walks v)) ≡ all_apart slots
 apart_same [] s w v h e = refl
 apart_same (z ∷ slots) zero w v h e =
@@ -122,11 +128,13 @@ has_not_each : (y : Slot) (slots : List Slot) → AllByRecursion (Other y) slots
 has_not_each y [] h = tt
 has_not_each y (z ∷ slots) h = (h.0.0, has_not_each y slots h.1)
 
+-- a serial that no other slot has may be set
 pub differ_set : (slots : List Slot) (s : ℕ) (y : Slot) → AllByRecursion (Other y) slots → SerialsDiffer slots → SerialsDiffer (slice_set slots s y)
 differ_set [] s y h d = tt
 differ_set (z ∷ slots) zero y h d = (has_not_each y slots h.1, d.1)
 differ_set (z ∷ slots) (suc s) y h d = (set_has_not (serial_of z) y slots s h.0.1 d.0, differ_set slots s y h.1 d.1)
 
+-- a free slot has none
 pub other_free : (slots : List Slot) → AllByRecursion (Other Free) slots
 other_free [] = tt
 other_free (z ∷ slots) = ((tt, one (serial_of z)), other_free slots)
@@ -135,6 +143,7 @@ other_free (z ∷ slots) = ((tt, one (serial_of z)), other_free slots)
     one None = tt
     one (Some n) = λ e. cc
 
+-- the next serial is in no slot
 pub other_new : (n : ℕ) (y : Slot) (slots : List Slot) → serial_of y ≡ Some n → AllByRecursion (SerialBelow n) slots → AllByRecursion (Other y) slots
 other_new n y [] e all = tt
 other_new n y (z ∷ slots) e all = (one z all.0, other_new n y slots e all.1)
@@ -169,11 +178,13 @@ has_not_same o x y (z ∷ slots) zero h e all = let same : z ≡ x = cc in (go o
     go (Some n) a f = λ g. a (sym f ∙ g)
 has_not_same o x y (z ∷ slots) (suc s) h e all = (all.0, has_not_same o x y slots s h e all.1)
 
+-- so may the same serial again
 pub differ_same : (slots : List Slot) (s : ℕ) (x y : Slot) → slice_get slots s ≡ Some x → serial_of y ≡ serial_of x → SerialsDiffer slots → SerialsDiffer (slice_set slots s y)
 differ_same [] s x y h e d = tt
 differ_same (z ∷ slots) zero x y h e d = let same : z ≡ x = cc in (subst (λ o. AllByRecursion (HasNot o) slots) (ap serial_of same ∙ sym e) d.0, d.1)
 differ_same (z ∷ slots) (suc s) x y h e d = (has_not_same (serial_of z) x y slots s h e d.0, differ_same slots s x y h e d.1)
 
+-- serials stay below the next one
 pub below_more : (n : ℕ) (slots : List Slot) → AllByRecursion (SerialBelow n) slots → AllByRecursion (SerialBelow (suc n)) slots
 below_more n [] all = tt
 below_more n (Free ∷ slots) all = (tt, below_more n slots all.1)
@@ -191,6 +202,7 @@ painters_more Free slots = omega arith
 painters_more (Paints w) slots = omega arith
 painters_more (Walks w) slots = omega arith
 
+-- the number of jobs at work
 pub painters_set : (slots : List Slot) (s : ℕ) (x y : Slot) → slice_get slots s ≡ Some x → painters (slice_set slots s y) + share x ≡ painters slots + share y
 painters_set [] s x y h = cc
 painters_set (z ∷ slots) zero x y h =
@@ -204,6 +216,7 @@ painters_set (z ∷ slots) (suc s) x y h =
     let b : painters (z ∷ slice_set slots s y) ≡ share z + painters (slice_set slots s y) = painters_more z (slice_set slots s y) in
     omega arith
 
+-- as many jobs have ended where the same are at work
 pub ended_same : (slots slots' : List Slot) (n : ℕ) → ((i : ℕ) → i < n → runs_in i slots' ≡ runs_in i slots) → ended slots' n ≡ ended slots n
 ended_same slots slots' zero same = refl
 ended_same slots slots' (suc n) same = λ i. cond (same n (omega arith) i) 0 1 + ended_same slots slots' n (λ j l. same j (omega arith)) i

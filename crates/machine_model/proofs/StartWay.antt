@@ -101,6 +101,7 @@ same_cond : (b : Bool) {x y z w : Rgba} → (b ≡ true → x ≡ y) → z ≡ w
 same_cond true e f = e refl
 same_cond false e f = f
 
+-- the stroke under way after the job started
 pub way_after_start : (old new : State) (place n : ℕ) → StartStep old place new → old.way ≡ Some n → UnderWay old n → UnderWay new (suc n)
 way_after_start old new place n step begun way = subst (λ s. UnderWay s (suc n)) (sym step.new_is) (record {
   stroke = way.stroke;

@@ -17,6 +17,7 @@ use Rattle.geom_core.proofs.Tests.{both_true, and_left, and_right}
 use Rattle.doc_model.specs.Lawful.{is_closed_entry}
 use Rattle.machine_model.specs.Effects.{after_entry, after_change, after_undo, after_redo}
 
+-- the entry is no stroke
 abbrev pub IsPlain : Entry → Type 0
 IsPlain (Strokes stroke) = ⊥
 IsPlain e = Unit {0}
@@ -46,6 +47,7 @@ story_redo : (s : State) (future : List (Doc × Reach)) → story (after_redo (r
 story_redo s [] = refl
 story_redo s (e ∷ future) = redo_one s e.0 e.1 future
 
+-- an act does to the story what the entry means
 pub story_acts : (s : State) (e : Entry) → IsPlain e → story (after_entry s e) ≡ told s.canvas (story s) e
 story_acts s (Strokes stroke) no_stroke = absurd no_stroke
 story_acts s (Changes change) no_stroke = story_change s (changed plain change s.base)
@@ -80,6 +82,7 @@ one_outcome_redo : (s : Story) (future : List Doc) → length (redone s future).
 one_outcome_redo s [] = length_last _ _
 one_outcome_redo s (d ∷ future) = length_last _ _
 
+-- every entry does
 pub one_outcome : (canvas : Canvas) (s : Story) (e : Entry) → length (told canvas s e).outcomes ≡ suc (length s.outcomes)
 one_outcome canvas s (Strokes stroke) = one_outcome_stroke s stroke (conflict stroke.jobs)
 one_outcome canvas s (Changes change) = one_outcome_change s (changed plain change s.document)
@@ -92,6 +95,7 @@ told_all_last : (canvas : Canvas) (s : Story) (es : List Entry) (e : Entry) → 
 told_all_last canvas s [] e = refl
 told_all_last canvas s (x ∷ es) e = told_all_last canvas (told canvas s x) es e
 
+-- one item more from the front
 pub take_one_more : {A : Type 0} (n : ℕ) (xs : List A) (x : A) → first (drop n xs) ≡ Some x → take (suc n) xs ≡ take n xs ++ x ∷ []
 take_one_more zero [] x e = cc
 take_one_more zero (y ∷ xs) x e = let same : y ≡ x = cc in ap (λ z. z ∷ []) same

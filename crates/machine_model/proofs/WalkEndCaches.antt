@@ -31,10 +31,11 @@ use Rattle.machine_model.specs.Walking.{WalkStands, IsGroupOf, SameChildren, Wal
 use Rattle.machine_model.proofs.Lists.{all_set, all_get}
 use Rattle.machine_model.proofs.WalkFolds.{walk_settles, Ordered, ComposedBefore, OnPathCached, Distinct as DistinctShots}
 use Rattle.machine_model.proofs.WalkPaths.{grouped, path_grouped, path_orderly_of, child_there}
-use Rattle.machine_model.proofs.Covers.{groups_of, slot_on, anyone, cov, up_of, IsFold, IsRead, FoldsAt, caches_by, walks_by, all_on, shots_by, read_covers, any_set_same, any_set_or, others_is}
+use Rattle.machine_model.proofs.Covers.{groups_of, slot_on, any_slot, covered_by, painted_path, IsFold, IsRead, FoldsAt, caches_by, walks_by, all_on, shots_by, read_covers, any_set_same, any_set_or, others_is}
 use Rattle.machine_model.proofs.JobCaches.{either_covers}
 use Rattle.machine_model.proofs.OtherPixels.{fold_new}
 
+-- the groups of a shot
 abbrev firsts : List (ℕ × List Child) → List ℕ
 firsts xs = map (λ (e : ℕ × List Child). e.0) xs
 
@@ -125,6 +126,7 @@ unfolding walk_value
 walk_value_is shot g p = refl
 
 module _ (old new : State) (place : ℕ) (step : WalkEndStep old place new) where
+  -- the walk that ends
   abbrev w : Walker
   w = step.walker
 
@@ -157,21 +159,21 @@ module _ (old new : State) (place : ℕ) (step : WalkEndStep old place new) wher
           (all_every (λ e. OnPathCached (groups_of w) (λ g. at (cache old.caches g) p) (children_of old e.0) p) (λ e. on_path_cached (groups_of w) old.caches (nodes_in e.0 old.present) p (off e.0)) w.shot) all_told
 
   -- what other work covers stays so
-  others : (keep : Slot → Bool) (g : ℕ) (p : Point) → cov keep old.present (up_of old) old.updates old.slots g p ≡ true → ((keep (Walks w) && (holds w.patch.rect p && on g (groups_of w))) ≡ true) ⊎ (cov keep old.present (up_of old) old.updates (slice_set old.slots place Free) g p ≡ true)
+  others : (keep : Slot → Bool) (g : ℕ) (p : Point) → covered_by keep old.present (painted_path old) old.updates old.slots g p ≡ true → ((keep (Walks w) && (holds w.patch.rect p && on g (groups_of w))) ≡ true) ⊎ (covered_by keep old.present (painted_path old) old.updates (slice_set old.slots place Free) g p ≡ true)
   others keep g p h = elim (or_cases (queued_for (λ v. on g (path_of v old.present)) old.updates p) _ h) [
     | inl e ↦ inr (or_left _ _ e)
-    | inr e ↦ elim (any_set_or (λ slot. keep slot && slot_on (up_of old) g p slot) old.slots place (Walks w) Free step.runs e) [ inl f ↦ inl f | inr f ↦ inr (or_right (queued_for (λ v. on g (path_of v old.present)) old.updates p) _ f) ]
+    | inr e ↦ elim (any_set_or (λ slot. keep slot && slot_on (painted_path old) g p slot) old.slots place (Walks w) Free step.runs e) [ inl f ↦ inl f | inr f ↦ inr (or_right (queued_for (λ v. on g (path_of v old.present)) old.updates p) _ f) ]
   ]
 
-  painters_same : (g : ℕ) (p : Point) → cov is_painter old.present (up_of old) old.updates (slice_set old.slots place Free) g p ≡ cov is_painter old.present (up_of old) old.updates old.slots g p
-  painters_same g p = ap (λ b. queued_for (λ v. on g (path_of v old.present)) old.updates p || b) (any_set_same (λ slot. is_painter slot && slot_on (up_of old) g p slot) old.slots place (Walks w) Free step.runs refl)
+  painters_same : (g : ℕ) (p : Point) → covered_by is_painter old.present (painted_path old) old.updates (slice_set old.slots place Free) g p ≡ covered_by is_painter old.present (painted_path old) old.updates old.slots g p
+  painters_same g p = ap (λ b. queued_for (λ v. on g (path_of v old.present)) old.updates p || b) (any_set_same (λ slot. is_painter slot && slot_on (painted_path old) g p slot) old.slots place (Walks w) Free step.runs refl)
 
-  weaker : (updates : List Patch) (slots : List Slot) (g : ℕ) (p : Point) → cov is_painter old.present (up_of old) updates slots g p ≡ true → cov anyone old.present (up_of old) updates slots g p ≡ true
+  weaker : (updates : List Patch) (slots : List Slot) (g : ℕ) (p : Point) → covered_by is_painter old.present (painted_path old) updates slots g p ≡ true → covered_by any_slot old.present (painted_path old) updates slots g p ≡ true
   weaker updates slots g p = either_covers _ _ _ (λ e. or_left _ _ e) (λ e. or_right (queued_for (λ v. on g (path_of v old.present)) updates p) _ (some slots e))
     where
-      some : (slots : List Slot) → list_any (λ slot. is_painter slot && slot_on (up_of old) g p slot) slots ≡ true → list_any (λ slot. anyone slot && slot_on (up_of old) g p slot) slots ≡ true
+      some : (slots : List Slot) → list_any (λ slot. is_painter slot && slot_on (painted_path old) g p slot) slots ≡ true → list_any (λ slot. any_slot slot && slot_on (painted_path old) g p slot) slots ≡ true
       some [] e = e
-      some (x ∷ xs) e = elim (or_cases (is_painter x && slot_on (up_of old) g p x) _ e) [ inl f ↦ or_left _ _ (and_right (is_painter x) _ f) | inr f ↦ or_right (slot_on (up_of old) g p x) _ (some xs f) ]
+      some (x ∷ xs) e = elim (or_cases (is_painter x && slot_on (painted_path old) g p x) _ e) [ inl f ↦ or_left _ _ (and_right (is_painter x) _ f) | inr f ↦ or_right (slot_on (painted_path old) g p x) _ (some xs f) ]
 
   pub caches_walk_end : IsTree old.present → AllByRecursion (WalkStands old) old.slots → AllByRecursion (WalkIsRight old) old.slots → CachesFold old → CachesFold new
   caches_walk_end tree stands right = caches_by old new (ap (λ (s : State). s.canvas) step.new_is) (λ g h. ap (λ (s : State). grouped g s.present) (sym step.new_is) ∙ h)
@@ -183,9 +185,9 @@ module _ (old new : State) (place : ℕ) (step : WalkEndStep old place new) wher
       right_w : WalkIsRight old (Walks w)
       right_w = all_get (WalkIsRight old) old.slots place (Walks w) right step.runs
 
-      go : (g : ℕ) (p : Point) → (at (cache old.caches g) p ≡ folded (with_pixels old.caches (nodes_in g old.present)) p clear) ⊎ (cov anyone old.present (up_of old) old.updates old.slots g p ≡ true) → FoldsAt old.caches old.present (up_of old) old.updates (slice_set old.slots place Free) g p
+      go : (g : ℕ) (p : Point) → (at (cache old.caches g) p ≡ folded (with_pixels old.caches (nodes_in g old.present)) p clear) ⊎ (covered_by any_slot old.present (painted_path old) old.updates old.slots g p ≡ true) → FoldsAt old.caches old.present (painted_path old) old.updates (slice_set old.slots place Free) g p
       go g p (inl e) = record { is = inl e }
-      go g p (inr e) = elim (others anyone g p e) [
+      go g p (inr e) = elim (others any_slot g p e) [
         | inl f ↦ record {
           is = elim (settled tree stands_w right_w g p (and_left (holds w.patch.rect p) _ f) (and_right (holds w.patch.rect p) _ f)) [
             | inl same ↦ inl same

@@ -32,6 +32,7 @@ abbrev Cached : (ℕ → Rgba) → List (ℕ × Rgba) → Type 0
 Cached caches [] = Unit {0}
 Cached caches (v ∷ vs) = (v.1 ≡ caches v.0) × Cached caches vs
 
+-- the groups that have values
 abbrev keys_of_values : List (ℕ × Rgba) → List ℕ
 keys_of_values values = map (λ (v : ℕ × Rgba). v.0) values
 
@@ -44,6 +45,7 @@ value_in_cached caches (v ∷ vs) c p cached = go (value_in_cached caches vs c p
     go rest true e = let same : v.0 ≡ c.id = grind (arith, nat_tests) in cached.0 ∙ ap caches same
     go rest false e = rest
 
+-- the groups of a shot
 abbrev groups_of : List (ℕ × List Child) → List ℕ
 groups_of shots = map (λ (e : ℕ × List Child). e.0) shots
 
@@ -52,6 +54,7 @@ abbrev pub ComposedBefore : List ℕ → List ℕ → List Child → Type 0
 ComposedBefore path before [] = Unit {0}
 ComposedBefore path before (c ∷ cs) = (on c.id before ≡ on c.id path) × ComposedBefore path before cs
 
+-- so it is for each group of a shot
 abbrev pub Ordered : List ℕ → List ℕ → List (ℕ × List Child) → Type 0
 Ordered path before [] = Unit {0}
 Ordered path before (e ∷ more) = ComposedBefore path before e.1 × Ordered path (e.0 ∷ before) more

@@ -57,6 +57,7 @@ queue_less canvas ps i p h q = record {
   few = (let e : suc (length (without_nth ps i)) ≡ length ps = length_less ps i p h in let f : length ps ≤ 64 = q.few in omega arith);
 }
 
+-- the start of a walk keeps the machine orderly
 pub walk_start_keeps : (old new : State) (place : ℕ) (patch : Patch) → IsOrderly old → WalkStartStep old place patch new → IsOrderly new
 walk_start_keeps old new place patch sound step = subst IsOrderly (sym step.new_is) (record {
   told = record { lawful = sound.told.lawful; closed = sound.told.closed; few = sound.told.few; means = sound.told.means };
@@ -92,6 +93,7 @@ walk_start_keeps old new place patch sound step = subst IsOrderly (sym step.new_
     budget : (n l m j e e' p p' : ℕ) → suc m ≡ l → n + l ≤ ((65 * j + 65 * e) + p) + 64 * length old.outcomes → e' ≡ e → p' ≡ p → suc n + m ≤ ((65 * j + 65 * e') + p') + 64 * length old.outcomes
     budget n l m j e e' p p' h b f g = omega arith
 
+-- a publish of a walk keeps it orderly
 pub walk_publish_keeps : (old new : State) (place g : ℕ) (key : Key) → IsOrderly old → WalkPublishStep old place g key new → IsOrderly new
 walk_publish_keeps old new place g key sound step = subst IsOrderly (sym step.new_is) (record {
   told = record { lawful = sound.told.lawful; closed = sound.told.closed; few = sound.told.few; means = sound.told.means };
@@ -132,6 +134,7 @@ walk_publish_keeps old new place g key sound step = subst IsOrderly (sym step.ne
     here : WalkStands next (Walks walker)
     here = all_get (WalkStands next) old.slots place (Walks step.walker) (all_stand old next (shape_same old next refl) old.slots sound.walking.walks) step.runs
 
+-- the end of a walk keeps it orderly
 pub walk_end_keeps : (old new : State) (place : ℕ) → IsOrderly old → WalkEndStep old place new → IsOrderly new
 walk_end_keeps old new place sound step = subst IsOrderly (sym step.new_is) (record {
   told = record { lawful = sound.told.lawful; closed = sound.told.closed; few = sound.told.few; means = sound.told.means };

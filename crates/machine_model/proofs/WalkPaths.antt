@@ -35,6 +35,7 @@ path_root (Up g) doc = go (eqb g 0)
     go true = refl
     go false = on_append 0 (path g doc) (0 ∷ []) ∙ or_right (on 0 (path g doc)) _ refl
 
+-- a group is on its own path
 pub path_here : (g : ℕ) (doc : Doc) → grouped g doc ≡ true → on g (path_of (Up g) doc) ≡ true
 path_here g doc h = go (eqb g 0) refl h
   where
@@ -42,6 +43,7 @@ path_here g doc h = go (eqb g 0) refl h
     go true e h = let is : g ≡ 0 = grind (arith, nat_tests) in rw is refl
     go false e h = on_append g (path g doc) (0 ∷ []) ∙ or_left (on g (path g doc)) _ (path_self g doc (group_has g doc h))
 
+-- every group is on the path of all
 pub path_all : (g : ℕ) (doc : Doc) → grouped g doc ≡ true → on g (path_of All doc) ≡ true
 path_all g doc h = elim (or_cases (eqb g 0) (is_group g doc) h) [
   | inl e ↦ (let is : 0 ≡ g = grind (arith, nat_tests) in subst (λ n. on n (path_of All doc) ≡ true) is (path_root All doc))
@@ -78,6 +80,7 @@ child_there c g doc h = go (eqb g 0) h
     go true h = side_has c doc h
     go false h = child_has g c doc h
 
+-- a child's parent
 pub child_above : (c g : ℕ) (doc : Doc) → Distinct doc → side c (nodes_in g doc) ≡ true → parent c 0 doc ≡ Some g
 child_above c g doc d h = go (eqb g 0) refl h
   where
@@ -143,9 +146,11 @@ pub path_of_with : (w : Walk) (q : ℕ) (x : Layer) (doc : Doc) → path_of w (w
 path_of_with All q x doc = ap (λ gs. gs ++ 0 ∷ []) (order_with q x doc)
 path_of_with (Up g) q x doc = ap (λ gs. cond (eqb g 0) (0 ∷ []) (gs ++ 0 ∷ [])) (path_with g q x doc)
 
+-- nor what is a group
 pub grouped_with : (g q : ℕ) (x : Layer) (doc : Doc) → grouped g (with_content q x doc) ≡ grouped g doc
 grouped_with g q x doc = ap (λ b. eqb g 0 || b) (is_group_with g q x doc)
 
+-- nor the group round a layer
 pub parent_of_with : (c q : ℕ) (x : Layer) (doc : Doc) → parent_of c (with_content q x doc) ≡ parent_of c doc
 parent_of_with c q x doc = ap (λ o. unwrap_or o 0) (parent_with c 0 q x doc)
 
@@ -162,12 +167,14 @@ SameAt (a ∷ xs) (b ∷ ys) p = (a.id ≡ b.id) × (a.look ≡ b.look) × (at a
 SameAt [] (b ∷ ys) p = ⊥
 SameAt (a ∷ xs) [] p = ⊥
 
+-- they have the same fold
 pub folded_same : (xs ys : List Child) (p : Point) (b c : Rgba) → SameAt xs ys p → b ≡ c → folded xs p b ≡ folded ys p c
 folded_same [] [] p b c same e = e
 folded_same (x ∷ xs) (y ∷ ys) p b c same e = folded_same xs ys p _ _ same.3 (same_laid same.1 same.2 e)
 folded_same [] (y ∷ ys) p b c same e = absurd same
 folded_same (x ∷ xs) [] p b c same e = absurd same
 
+-- children are the same as themselves
 pub same_at_refl : (xs : List Child) (p : Point) → SameAt xs xs p
 same_at_refl [] p = tt
 same_at_refl (x ∷ xs) p = (refl, refl, refl, same_at_refl xs p)

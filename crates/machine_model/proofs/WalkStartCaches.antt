@@ -23,7 +23,7 @@ use Rattle.machine_model.specs.Caches.{CachesFold, WalkIsRight, WalkReads, SameP
 use Rattle.machine_model.specs.Walking.{WalkStands, walks_apart, all_apart, WalkInside}
 use Rattle.machine_model.proofs.Lists.{all_set}
 use Rattle.machine_model.proofs.WalkPaths.{grouped}
-use Rattle.machine_model.proofs.Covers.{groups_of, slot_on, anyone, cov, up_of, IsFold, IsRead, caches_by, walk_by, fold_covers, read_covers, any_set_grow, any_set_new}
+use Rattle.machine_model.proofs.Covers.{groups_of, slot_on, any_slot, covered_by, painted_path, IsFold, IsRead, caches_by, walk_by, fold_covers, read_covers, any_set_grow, any_set_new}
 use Rattle.machine_model.proofs.JobCaches.{either_covers}
 
 -- no point of a walk's patch lies in the rectangle
@@ -46,36 +46,39 @@ cut_same path rect [] p h = tt
 cut_same path rect (c ∷ cs) p h = ((λ e. at-shot_of (rect ∷ []) c.pixels p ∙ ap (λ b. cond b (at c.pixels p) c.pixels.default_pixel) (or_left (holds rect p) _ h)), cut_same path rect cs p h)
 
 module _ (old new : State) (place : ℕ) (patch : Patch) (step : WalkStartStep old place patch new) where
-  abbrev nw : Walker
-  nw = record { serial = old.next; patch = patch; shot = walk_shot old patch; published = [] }
+  -- the walk that starts
+  abbrev walker : Walker
+  walker = record { serial = old.next; patch = patch; shot = walk_shot old patch; published = [] }
 
+  -- the patches that wait on
   abbrev rest : List Patch
   rest = without_nth old.updates step.i
 
+  -- the slots afterwards
   abbrev slots' : List Slot
-  slots' = slice_set old.slots place (Walks nw)
+  slots' = slice_set old.slots place (Walks walker)
 
-  covers : (g : ℕ) (p : Point) → cov anyone old.present (up_of old) old.updates old.slots g p ≡ true → cov anyone old.present (up_of old) rest slots' g p ≡ true
+  covers : (g : ℕ) (p : Point) → covered_by any_slot old.present (painted_path old) old.updates old.slots g p ≡ true → covered_by any_slot old.present (painted_path old) rest slots' g p ≡ true
   covers g p = either_covers _ _ _
       (λ e. elim (any_without (λ (q : Patch). on g (path_of q.walk old.present) && holds q.rect p) old.updates step.i patch step.waits e) [
-        | inl f ↦ or_right (queued_for (composes g old.present) rest p) _ (any_set_new (λ slot. anyone slot && slot_on (up_of old) g p slot) old.slots place Free (Walks nw) step.free
+        | inl f ↦ or_right (queued_for (composes g old.present) rest p) _ (any_set_new (λ slot. any_slot slot && slot_on (painted_path old) g p slot) old.slots place Free (Walks walker) step.free
             (both_true (holds patch.rect p) _ (and_right (on g (path_of patch.walk old.present)) _ f) (ap (on g) (shot_groups old patch.rect (path_of patch.walk old.present)) ∙ and_left (on g (path_of patch.walk old.present)) _ f)))
         | inr f ↦ or_left _ _ f
       ])
-      (λ e. or_right (queued_for (composes g old.present) rest p) _ (any_set_grow (λ slot. anyone slot && slot_on (up_of old) g p slot) old.slots place Free (Walks nw) step.free refl e))
+      (λ e. or_right (queued_for (composes g old.present) rest p) _ (any_set_grow (λ slot. any_slot slot && slot_on (painted_path old) g p slot) old.slots place Free (Walks walker) step.free refl e))
 
   pub caches_walk_start : CachesFold old → CachesFold new
   caches_walk_start = caches_by old new (ap (λ (s : State). s.canvas) step.new_is) (λ g h. ap (λ (s : State). grouped g s.present) (sym step.new_is) ∙ h)
       (λ g p is inside h. subst (λ s. IsFold s g p) (sym step.new_is) (fold_covers (covers g p) h))
 
   -- away from the patch that leaves the list
-  others : (g : ℕ) (p : Point) → holds patch.rect p ≡ false → cov is_painter old.present (up_of old) old.updates old.slots g p ≡ true → cov is_painter old.present (up_of old) rest slots' g p ≡ true
+  others : (g : ℕ) (p : Point) → holds patch.rect p ≡ false → covered_by is_painter old.present (painted_path old) old.updates old.slots g p ≡ true → covered_by is_painter old.present (painted_path old) rest slots' g p ≡ true
   others g p out = either_covers _ _ _
       (λ e. elim (any_without (λ (q : Patch). on g (path_of q.walk old.present) && holds q.rect p) old.updates step.i patch step.waits e) [
         | inl f ↦ (let t : holds patch.rect p ≡ true = and_right (on g (path_of patch.walk old.present)) _ f in absurd (cc))
         | inr f ↦ or_left _ _ f
       ])
-      (λ e. or_right (queued_for (composes g old.present) rest p) _ (any_set_grow (λ slot. is_painter slot && slot_on (up_of old) g p slot) old.slots place Free (Walks nw) step.free refl e))
+      (λ e. or_right (queued_for (composes g old.present) rest p) _ (any_set_grow (λ slot. is_painter slot && slot_on (painted_path old) g p slot) old.slots place Free (Walks walker) step.free refl e))
 
   away : (slots : List Slot) → list_any (meets_walker patch.rect) slots ≡ false → AllByRecursion (AwayFrom patch.rect) slots
   away [] e = tt
@@ -87,22 +90,22 @@ module _ (old new : State) (place : ℕ) (patch : Patch) (step : WalkStartStep o
       apart p held true f = absurd (let t : meets patch.rect w.patch.rect ≡ true = meets_at patch.rect w.patch.rect p f held in let u : meets patch.rect w.patch.rect ≡ false = none_left (meets patch.rect w.patch.rect) _ e in cc)
       apart p held false f = refl
 
-  new_walk : WalkIsRight new (Walks nw)
+  new_walk : WalkIsRight new (Walks walker)
   new_walk p held = go (path_of patch.walk old.present)
     where
-      reads : (g : ℕ) → WalkReads new nw g (map (cut_child patch.rect) (children_of old g)) p
+      reads : (g : ℕ) → WalkReads new walker g (map (cut_child patch.rect) (children_of old g)) p
       reads g = record {
         published = λ e. absurd (let t : false ≡ true = e in cc);
-        current = inl (subst (λ s. SamePixels (groups_of nw) (map (cut_child patch.rect) (children_of old g)) (children_of s g) p) (sym step.new_is) (cut_same (groups_of nw) patch.rect (children_of old g) p held));
+        current = inl (subst (λ s. SamePixels (groups_of walker) (map (cut_child patch.rect) (children_of old g)) (children_of s g) p) (sym step.new_is) (cut_same (groups_of walker) patch.rect (children_of old g) p held));
       }
 
-      go : (gs : List ℕ) → AllByRecursion (λ (e : ℕ × List Child). WalkReads new nw e.0 e.1 p) (shots_of old patch.rect gs)
+      go : (gs : List ℕ) → AllByRecursion (λ (e : ℕ × List Child). WalkReads new walker e.0 e.1 p) (shots_of old patch.rect gs)
       go [] = tt
       go (g ∷ gs) = (reads g, go gs)
 
   pub walks_walk_start : AllByRecursion (WalkStands old) old.slots → AllByRecursion (WalkInside (canvas_area old.canvas)) old.slots → AllByRecursion (WalkIsRight old) old.slots → AllByRecursion (WalkIsRight new) new.slots
   walks_walk_start stands inside right = subst (AllByRecursion (WalkIsRight new)) (ap (λ (s : State). s.slots) (sym step.new_is))
-      (all_set (WalkIsRight new) old.slots place (Walks nw) (each old.slots stands inside (away old.slots step.avoids) right) new_walk)
+      (all_set (WalkIsRight new) old.slots place (Walks walker) (each old.slots stands inside (away old.slots step.avoids) right) new_walk)
     where
       each : (slots : List Slot) → AllByRecursion (WalkStands old) slots → AllByRecursion (WalkInside (canvas_area old.canvas)) slots → AllByRecursion (AwayFrom patch.rect) slots → AllByRecursion (WalkIsRight old) slots → AllByRecursion (WalkIsRight new) slots
       each [] a b c d = tt

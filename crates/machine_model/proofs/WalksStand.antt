@@ -44,6 +44,7 @@ pub record SameShape (s t : State) : Type 0 where
   pub paths : (w : Walk) → path_of w t.present ≡ path_of w s.present
   pub kids : (g : ℕ) (xs : List Child) → SameChildren xs (children_of s g) → SameChildren xs (children_of t g)
 
+-- groups, paths and children of the same document
 pub shape_same : (s t : State) → t.present ≡ s.present → SameShape s t
 shape_same s t e = record {
   groups = λ w h. subst (λ d. IsGroupOf d w) (sym e) h;
@@ -73,6 +74,7 @@ stands s t shape (Walks w) h = (
   all_map _ (λ (e : ℕ × List Child). SameChildren e.1 (children_of t e.0)) w.shot (λ e k. shape.kids e.0 e.1 k) h.2,
 )
 
+-- all of them
 pub all_stand : (s t : State) → SameShape s t → (slots : List Slot) → AllByRecursion (WalkStands s) slots → AllByRecursion (WalkStands t) slots
 all_stand s t shape slots h = all_map (WalkStands s) (WalkStands t) slots (stands s t shape) h
 
@@ -83,6 +85,7 @@ none_stand s (Free ∷ slots) h = (tt, none_stand s slots h)
 none_stand s (Paints w ∷ slots) h = (tt, none_stand s slots h)
 none_stand s (Walks w ∷ slots) h = cc
 
+-- and the groups of the patches that wait
 pub groups_stand : (s t : State) → SameShape s t → (ps : List Patch) → AllByRecursion (λ (p : Patch). IsGroupOf s.present p.walk) ps → AllByRecursion (λ (p : Patch). IsGroupOf t.present p.walk) ps
 groups_stand s t shape ps h = all_map (λ (p : Patch). IsGroupOf s.present p.walk) (λ (p : Patch). IsGroupOf t.present p.walk) ps (λ p k. shape.groups p.walk k) h
 
@@ -95,6 +98,7 @@ cut_same : (rect : Area) (cs : List Child) → SameChildren (map (cut_child rect
 cut_same rect [] = tt
 cut_same rect (c ∷ cs) = (refl, refl, cut_same rect cs)
 
+-- a shot has the children of now
 pub shot_children : (s : State) (rect : Area) (gs : List ℕ) → AllByRecursion (λ (e : ℕ × List Child). SameChildren e.1 (children_of s e.0)) (shots_of s rect gs)
 shot_children s rect [] = tt
 shot_children s rect (g ∷ gs) = (cut_same rect (children_of s g), shot_children s rect gs)
