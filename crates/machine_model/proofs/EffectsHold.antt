@@ -41,6 +41,8 @@ jobs_start_in_order old new place step = record {
   serial = refl;
   stroke = step.stroke;
   at_head = step.at_head;
+  kind = step.job.0;
+  listed = step.is_next;
   shot = shot_same (reads step.job.1) (layer_in step.stroke.layer old.present);
 }
 

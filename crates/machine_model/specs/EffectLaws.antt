@@ -3,6 +3,7 @@ use Rattle.std.specs.Prelude.{◌≡◌, ◌≢◌, ℕ, suc, ◌==◌, true, fa
 use Rattle.geom_core.specs.Points.{Point}
 use Rattle.geom_core.specs.Areas.{holds, any_holds}
 use Rattle.geom_core.specs.Grid.{Key}
+use Rattle.doc_model.specs.declared.job.Kind.{Kind}
 use Rattle.doc_model.specs.declared.canvas.Walk.TheVariants.{Up}
 use Rattle.doc_model.specs.declared.command.Outcome.{Outcome}
 use Rattle.doc_model.specs.declared.command.Outcome.TheVariants.{Done}
@@ -16,6 +17,7 @@ use Rattle.doc_model.specs.Updates.{queued_for}
 use Rattle.machine_model.specs.State.{Painter, Walker, Paints, Walks, State, head_stroke}
 use Rattle.machine_model.specs.Event.{Start, Publish, End, Cancel, WalkPublish}
 use Rattle.machine_model.specs.Groups.{cache, composes, parent_of}
+use Rattle.machine_model.specs.Guards.{kept_jobs}
 use Rattle.machine_model.specs.Walks.{walk_value}
 use Rattle.machine_model.specs.Effects.{layer_in}
 use Rattle.machine_model.specs.Step.{Step}
@@ -30,6 +32,8 @@ pub record StartsNext (old new : State) (place : ℕ) : Type 0 where
   pub serial : painter.serial ≡ old.next
   pub stroke : Stroke
   pub at_head : head_stroke old ≡ Some stroke
+  pub kind : Kind
+  pub listed : slice_get (kept_jobs stroke) painter.index ≡ Some (kind, painter.job)
   pub shot : SameOn (reads painter.job) painter.shot (layer_in stroke.layer old.present)
 
 -- each start takes the next job of the list

@@ -1,5 +1,5 @@
--- Who is never at work beside whom, and what the events leave alone.
-use Rattle.std.specs.Prelude.{◌≡◌, ◌≢◌, ℕ, true, false, ◌&&◌, Some, [], slice_get, List}
+-- Who is never at work beside whom.
+use Rattle.std.specs.Prelude.{◌≡◌, ◌≢◌, ℕ, true, false, ◌&&◌, Some, List, [], slice_get}
 use Rattle.geom_core.specs.Areas.{meets}
 use Rattle.doc_model.specs.declared.job.Kind.{Kind}
 use Rattle.doc_model.specs.declared.job.Kind.TheVariants.{Bar}
