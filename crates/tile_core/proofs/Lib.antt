@@ -1,0 +1,12 @@
+pub mod SoFar
+pub mod LaidRows
+pub mod LaidBlocks
+pub mod Places
+pub mod MapViews
+pub mod Taken
+pub mod LaidKeys
+pub mod OnPaper
+pub mod PartsOf
+pub mod FrameRows
+pub mod SameRows
+pub mod TileLaws

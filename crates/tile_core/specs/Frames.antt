@@ -1,0 +1,55 @@
+-- A frame as contracts see it: its sides, its paper, and tiles under some keys.
+use Rattle.std.specs.Prelude.{◌≡◌, ℕ, ◌+◌, ◌*◌, ◌≤◌, pos, List, take, drop, ◌++◌, refl}
+use Rattle.std.specs.List.{flat_map}
+use Rattle.std.specs.FinMap as map
+use Rattle.std.specs.FinMap.{FinMap}
+use Rattle.std.specs.Coded.{Coded, code_by, coded×, coded_ℕ, coded_list}
+use Rattle.pixel_core.specs.Rgba.{Rgba, clear, pixel_code}
+use Rattle.pixel_core.specs.Compose.{on_paper}
+use Rattle.geom_core.specs.Points.{Point}
+use Rattle.geom_core.specs.Areas.{row}
+use Rattle.geom_core.specs.Grid.{Key, key_cmp, key_of, key_code}
+use Rattle.tile_core.specs.Pixels.{Pixels, pixel_or}
+
+-- a frame's sides, its paper, and what was put
+pub record Scene : Type 0 where
+  pub width : ℕ
+  pub height : ℕ
+  pub paper : Rgba
+  pub tiles : FinMap key_cmp Pixels
+
+-- the frame of these parts
+abbrev pub scene : ℕ → ℕ → Rgba → FinMap key_cmp Pixels → Scene
+scene w h paper m = record { width = w; height = h; paper = paper; tiles = m }
+
+-- 1 to 2048 columns and rows, and an opaque paper
+pub record IsScene (s : Scene) : Type 0 where
+  pub some_columns : 1 ≤ s.width
+  pub columns : s.width ≤ 2048
+  pub some_rows : 1 ≤ s.height
+  pub rows : s.height ≤ 2048
+  pub opaque : s.paper.a ≡ 255
+
+-- the pixel put at a point, clear where none was put
+abbrev pub put_at : Scene → Point → Rgba
+put_at s p = pixel_or (map.get s.tiles (key_of p)) clear p
+
+-- red, green and blue of a point
+abbrev pub colours_at : Scene → Point → List ℕ
+colours_at s p = on_paper (put_at s p) s.paper
+
+-- the colours of the points of a row, from the left
+abbrev pub row_colours : Scene → ℕ → List ℕ
+row_colours s y = flat_map (colours_at s) (row (pos 0) (pos y) s.width)
+
+-- in rows of colours, the new one has those of the n points from x on, and the old one's elsewhere
+abbrev pub LaysPoints : Scene → ℕ → List ℕ → List ℕ → ℕ → ℕ → Type 0
+LaysPoints s y old new x n = new ≡ take (3 * x) old ++ flat_map (colours_at s) (row (pos x) (pos y) n) ++ drop (3 * (x + n)) old
+
+-- the same with that tile under the key
+abbrev pub with_put : Scene → Key → Pixels → Scene
+with_put s k t = record s { tiles = map.insert s.tiles k t }
+
+-- the code by which contracts tell frames apart
+abbrev pub scene_code : Coded Scene
+scene_code = code_by ((ℕ × ℕ) × (Rgba × FinMap key_cmp Pixels)) (coded× (coded× coded_ℕ coded_ℕ) (coded× pixel_code (map.code key_code (coded_list pixel_code)))) (λ s. ((s.width, s.height), (s.paper, s.tiles))) (λ t. scene t.0.0 t.0.1 t.1.0 t.1.1) (λ _. refl)

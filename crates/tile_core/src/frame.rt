@@ -1,0 +1,163 @@
+//! Pictures of the canvas.
+
+ghost use Rattle.std.specs.Prelude.{replicate, ◌≡◌, ℕ, ◌+◌, ◌*◌, ◌<◌, ◌≤◌, ◌++◌, IfOk, OnOk, OnErr, length, ◌-◌, pos, take, drop, min};
+ghost use Rattle.std.specs.List.{flat_map};
+ghost use Rattle.std.specs.FinMap as map;
+ghost use Rattle.geom_core.specs.Areas.{row as points};
+ghost use Rattle.geom_core.specs.Points.{point};
+ghost use Rattle.pixel_core.specs.Compose.{on_paper as paper_colours};
+ghost use Rattle.pixel_core.specs.Rgba.{clear};
+ghost use Rattle.tile_core.specs.Frames.{IsScene, scene, colours_at, row_colours, with_put, LaysPoints};
+
+use crate::Tile;
+use crate::keyed::{pixel_under, put_under};
+use crate::rows::put_row;
+use geom_core::{NoMemory, TileKey, tile_of};
+use pixel_core::{Pixel, on_paper};
+use std::alloc::Global;
+use std::collections::BTreeMap;
+use std::marker::Model;
+
+/// A picture of the canvas: shared tiles over an opaque paper. The canvas has its corner at (0, 0).
+#[derive(Drop)]
+pub struct Frame {
+    width: u16,
+    height: u16,
+    paper: Pixel,
+    tiles: BTreeMap<TileKey, Tile>,
+}
+
+impl Model for Frame {
+    ghost use Rattle.std.specs.FinMap as map;
+    ghost use Rattle.tile_core.specs.Frames.{Scene, IsScene, scene, scene_code};
+
+    ghost Value = { Scene };
+
+    ghost coded = { scene_code };
+
+    ghost view = { λ f. scene f.width f.height f.paper (map.from_entries f.tiles.entries) };
+
+    ghost invariant = { λ f. IsScene (scene f.width f.height f.paper (map.from_entries f.tiles.entries)) };
+}
+
+impl Frame {
+    /// A frame of `w` columns and `h` rows, 1 to 2048 each, whose every point is the opaque paper.
+    pub fn new(alloc: Global, w: u16, h: u16, paper: Pixel) -> Result<Frame, NoMemory>
+        requires w { 1 ≤ w × w ≤ 2048 }
+        requires h { 1 ≤ h × h ≤ 2048 }
+        requires opaque { paper.a ≡ 255 }
+        ensures { IfOk result (λ f. f ≡ scene w h paper map.empty) }
+    {
+        Ok(Frame {
+            width: w,
+            height: h,
+            paper,
+            tiles: BTreeMap::new(alloc),
+        })
+    }
+
+    /// How many columns it has.
+    pub fn width(&self) -> u16
+        ensures value { result ≡ self.now.width }
+        ensures known { IsScene self.now }
+    {
+        self.width
+    }
+
+    /// How many rows it has.
+    pub fn height(&self) -> u16
+        ensures value { result ≡ self.now.height }
+        ensures known { IsScene self.now }
+    {
+        self.height
+    }
+
+    /// The points of the key become the tile's pixels on the paper. The tile is shared, not copied.
+    pub fn put(&mut self, key: TileKey, tile: &Tile) -> Result<(), NoMemory>
+        ensures ok { OnOk result (self.new ≡ with_put self.old key tile.now) }
+        ensures err { OnErr result (self.new ≡ self.old) }
+    {
+        let tile = tile.share()?;
+        put_under(&mut self.tiles, key, tile)
+    }
+
+    /// Red, green and blue of a point.
+    pub fn at(&self, x: u16, y: u16) -> [u8; 3]
+        requires x { x < self.now.width }
+        requires y { y < self.now.height }
+        ensures { result ≡ colours_at self.now (point (pos x) (pos y)) }
+    {
+        colours_of(
+            pixel_under(&self.tiles, Pixel::CLEAR, x as i32, y as i32),
+            self.paper,
+        )
+    }
+
+    /// Writes red, green and blue of each point of a row to the first 3 * width places, from the left.
+    pub fn row_into(&self, y: u16, row: &mut [u8])
+        requires y { y < self.now.height }
+        requires room { 3 * self.now.width ≤ length row.old }
+        ensures { row.new ≡ row_colours self.now y ++ drop (3 * self.now.width) row.old }
+    {
+        for col in 0..self.width.div_ceil(64) {
+            self.tile_row_into(col, y, row);
+        }
+    }
+
+    /// The same for the row's points in the tiles of one column.
+    fn tile_row_into(&self, col: u16, y: u16, row: &mut [u8])
+        requires col { 64 * col < self.now.width }
+        requires y { y < self.now.height }
+        requires room { 3 * self.now.width ≤ length row.old }
+        ensures { LaysPoints self.now y row.old row.new (64 * col) (min 64 (self.now.width - 64 * col)) }
+    {
+        let left = 64 * col as usize;
+        let n = (self.width as usize - left).min(64);
+        match self.tiles.get(&tile_of(left as i32, y as i32)) {
+            Some(tile) => {
+                let from = 64 * (y as usize % 64);
+                lay_colours(row, 3 * left, &tile.pixels()[from..from + n], self.paper);
+            }
+            None => lay_paper(row, 3 * left, n, self.paper),
+        }
+    }
+}
+
+/// Writes the colours of the pixels on the paper to the places from `at` on.
+fn lay_colours(row: &mut [u8], at: usize, pixels: &[Pixel], paper: Pixel)
+    requires opaque { paper.a ≡ 255 }
+    requires room { at + 3 * length pixels.now ≤ length row.old }
+    ensures { row.new ≡ take at row.old ++ flat_map (λ p. paper_colours p paper) pixels.now ++ drop (at + 3 * length pixels.now) row.old }
+{
+    for i in 0..pixels.len() {
+        put_row(row, at + 3 * i, &colours_of(pixels[i], paper));
+    }
+}
+
+/// Writes the colours of n clear pixels on the paper to the places from `at` on.
+fn lay_paper(row: &mut [u8], at: usize, n: usize, paper: Pixel)
+    requires opaque { paper.a ≡ 255 }
+    requires few { n ≤ 64 }
+    requires room { at + 3 * n ≤ length row.old }
+    ensures { row.new ≡ take at row.old ++ flat_map (λ p. paper_colours p paper) (replicate n clear) ++ drop (at + 3 * n) row.old }
+{
+    let plain = [Pixel::CLEAR; 64];
+    lay_colours(row, at, &plain[..n], paper);
+}
+
+/// Red, green and blue of a pixel on an opaque paper, with no division for a clear or an opaque one.
+fn colours_of(p: Pixel, paper: Pixel) -> [u8; 3]
+    requires { paper.a ≡ 255 }
+    ensures { result ≡ paper_colours p paper }
+{
+    if p == Pixel::CLEAR {
+        let [r, g, b, _] = paper.bytes();
+        return [r, g, b];
+    }
+    let [r, g, b, a] = p.bytes();
+    if a == 255 {
+        [r, g, b]
+    } else {
+        on_paper(p, paper)
+    }
+}

@@ -1,0 +1,18 @@
+//! Shared tiles of 64 by 64 pixels, and what holds them: shots and frames.
+#![tactic(auto)]
+
+mod block;
+mod frame;
+mod keyed;
+pub mod laws;
+mod rows;
+mod shot;
+mod tile;
+
+pub use block::Block;
+pub use frame::Frame;
+pub use shot::Shot;
+pub use tile::Tile;
+
+#[cfg(test)]
+mod tests;

@@ -1,0 +1,206 @@
+//! The pixels that a job reads, kept as they were when it started.
+
+ghost use Rattle.std.specs.Prelude.{List, [], ◌∷◌, ◌++◌, length, replicate, ◌≡◌, ℕ, ◌*◌, true, IfOk, OnOk, OnErr, vec_len, ◌+◌, ◌≤◌, ◌&&◌, nat_le};
+ghost use Rattle.std.specs.List.{list_any};
+ghost use Rattle.std.specs.Option.{option_copied};
+ghost use Rattle.std.specs.FinMap as map;
+ghost use Rattle.geom_core.specs.Areas.{holds, lies_in, world, IsWithin, IsShared};
+ghost use Rattle.geom_core.specs.Grid.{Key, IsWorldKey, tile as tile_area};
+ghost use Rattle.geom_core.specs.Points.{point};
+ghost use Rattle.tile_core.specs.Pixels.{HasPixels};
+ghost use Rattle.tile_core.specs.Shots.{sight, sight_at, with_seen, LaysKey, ReadsKeys};
+
+use crate::Tile;
+use crate::keyed::{pixel_under, put_under, tile_under};
+use crate::rows::{Part, lay_tile_rows};
+use geom_core::{NoMemory, Rect, TileKey};
+use pixel_core::Pixel;
+use std::alloc::Global;
+use std::collections::BTreeMap;
+use std::marker::Model;
+
+/// Rectangles, shared tiles under keys, and one pixel, the ground, wherever no tile stands.
+/// To take one copies no pixel.
+#[derive(Drop)]
+pub struct Shot {
+    ground: Pixel,
+    rects: Vec<Rect>,
+    tiles: BTreeMap<TileKey, Tile>,
+}
+
+impl Model for Shot {
+    ghost use Rattle.std.specs.FinMap as map;
+    ghost use Rattle.tile_core.specs.Shots.{Sight, sight, sight_code};
+
+    ghost Value = { Sight };
+
+    ghost coded = { sight_code };
+
+    ghost view = { λ s. sight s.ground s.rects.items (map.from_entries s.tiles.entries) };
+}
+
+impl Shot {
+    /// A shot of these rectangles with the ground at every point.
+    pub fn new(alloc: Global, rects: &[Rect], default_pixel: Pixel) -> Result<Shot, NoMemory>
+        ensures { IfOk result (λ s. s ≡ sight default_pixel rects.now map.empty) }
+    {
+        Ok(Shot {
+            ground: default_pixel,
+            rects: Vec::from_slice(alloc, rects)?,
+            tiles: BTreeMap::new(alloc),
+        })
+    }
+
+    /// The pixel that it has wherever no tile stands.
+    pub fn ground(&self) -> Pixel
+        ensures { result ≡ self.now.default_pixel }
+    {
+        self.ground
+    }
+
+    /// The points of the key become the tile's pixels, which are shared and not copied.
+    pub fn put(&mut self, key: TileKey, tile: &Tile) -> Result<(), NoMemory>
+        ensures ok { OnOk result (self.new ≡ with_seen self.old key tile.now) }
+        ensures err { OnErr result (self.new ≡ self.old) }
+    {
+        let tile = tile.share()?;
+        put_under(&mut self.tiles, key, tile)
+    }
+
+    /// The pixel at a point of the world, which is the ground where no tile stands.
+    pub fn at(&self, x: i32, y: i32) -> Pixel
+        requires { holds world (point x y) ≡ true }
+        ensures { result ≡ sight_at self.now (point x y) }
+    {
+        pixel_under(&self.tiles, self.ground, x, y)
+    }
+
+    /// The tile that was put under the key. Where there is none, the key's points are the ground.
+    pub fn tile(&self, key: TileKey) -> Option<&Tile>
+        ensures { option_copied result ≡ map.get self.now.tiles key }
+    {
+        tile_under(&self.tiles, key)
+    }
+
+    /// Whether the rectangle lies in one of the shot's rectangles.
+    pub fn covers(&self, rect: &Rect) -> bool
+        ensures { result ≡ list_any (lies_in rect.now) self.now.rects }
+    {
+        lies_in_some(rect, &self.rects)
+    }
+
+    /// The pixels on a rectangle inside the key's tile, in row order.
+    pub fn read(&self, alloc: Global, key: TileKey, rect: &Rect) -> Result<Vec<Pixel>, NoMemory>
+        requires key { IsWorldKey key }
+        requires inside { IsWithin rect.now (tile_area key) }
+        ensures all { IfOk result (λ v. vec_len v ≡ rect.now.h * rect.now.w) }
+        ensures has { IfOk result (λ v. HasPixels rect.now (sight_at self.now) v.items) }
+    {
+        match self.tiles.get(&key) {
+            Some(tile) => tile.part(alloc, key, rect),
+            None => plain_part(alloc, rect, self.ground),
+        }
+    }
+
+    /// The pixels on any rectangle of the world, in row order.
+    pub fn pixels_on(&self, alloc: Global, rect: &Rect) -> Result<Vec<Pixel>, NoMemory>
+        ensures all { IfOk result (λ v. vec_len v ≡ rect.now.h * rect.now.w) }
+        ensures has { IfOk result (λ v. HasPixels rect.now (sight_at self.now) v.items) }
+    {
+        let mut pixels = plain_part(alloc, rect, self.ground())?;
+        self.read_into(&mut pixels, rect);
+        Ok(pixels)
+    }
+
+    /// Lays what the shot has of the rectangle over its pixels, which are the default pixel.
+    fn read_into(&self, pixels: &mut [Pixel], rect: &Rect)
+        requires all { length pixels.old ≡ rect.now.h * rect.now.w }
+        requires plain { ReadsKeys self.now rect.now pixels.old [] }
+        ensures { HasPixels rect.now (sight_at self.now) pixels.new }
+    {
+        for i in 0..rect.tile_count() {
+            self.read_tile(pixels, rect, rect.tile_at(i));
+        }
+    }
+
+    /// Lays what the shot has of the key's tile over the rectangle's pixels.
+    fn read_tile(&self, pixels: &mut [Pixel], rect: &Rect, key: TileKey)
+        requires key { IsWorldKey key }
+        requires all { length pixels.old ≡ rect.now.h * rect.now.w }
+        ensures { (ks : List Key) → ReadsKeys self.now rect.now pixels.old ks → ReadsKeys self.now rect.now pixels.new (ks ++ key ∷ []) }
+    {
+        match self.tiles.get(&key) {
+            Some(tile) => lay_tile(pixels, rect, key, tile),
+            None => {}
+        }
+    }
+}
+
+/// Lays the points of a rectangle that the key's tile has over the rectangle's pixels.
+fn lay_tile(pixels: &mut [Pixel], rect: &Rect, key: TileKey, tile: &Tile)
+    requires key { IsWorldKey key }
+    requires all { length pixels.old ≡ rect.now.h * rect.now.w }
+    ensures { LaysKey pixels.old pixels.new rect.now key tile.now }
+{
+    if let Some(part) = rect.clip(&key.rect()) {
+        lay_common(pixels, rect, key, &part, tile);
+    }
+}
+
+/// The same, where `part` is what the rectangle has of the key's tile.
+fn lay_common(pixels: &mut [Pixel], rect: &Rect, key: TileKey, part: &Rect, tile: &Tile)
+    requires key { IsWorldKey key }
+    requires all { length pixels.old ≡ rect.now.h * rect.now.w }
+    requires shared { IsShared rect.now (tile_area key) part.now }
+    ensures { LaysKey pixels.old pixels.new rect.now key tile.now }
+{
+    let left = part.left();
+    let top = part.top();
+    let place = Part {
+        left: (left - rect.left()) as usize,
+        top: (top - rect.top()) as usize,
+        w: part.w() as usize,
+        h: part.h() as usize,
+    };
+    let width = rect.w() as usize;
+    lay_tile_rows(
+        pixels,
+        width,
+        place,
+        tile.pixels(),
+        left as usize % 64,
+        top as usize % 64,
+    );
+}
+
+/// One pixel at each point of a rectangle.
+fn plain_part(alloc: Global, rect: &Rect, p: Pixel) -> Result<Vec<Pixel>, NoMemory>
+    ensures all { IfOk result (λ v. vec_len v ≡ rect.now.h * rect.now.w) }
+    ensures has { IfOk result (λ v. v.items ≡ replicate (rect.now.h * rect.now.w) p) }
+{
+    Ok(vec![in alloc; p; rect.h() as usize * rect.w() as usize]?)
+}
+
+/// Whether the rectangle lies in one of the others.
+fn lies_in_some(rect: &Rect, others: &[Rect]) -> bool
+    ensures { result ≡ list_any (lies_in rect.now) others.now }
+{
+    others.iter().any(|other| lies_in(rect, other))
+}
+
+/// Whether the first rectangle lies in the second.
+fn lies_in(rect: &Rect, other: &Rect) -> bool
+    ensures { result ≡ lies_in rect.now other.now }
+{
+    lies_along(rect.left(), rect.w(), other.left(), other.w())
+        && lies_along(rect.top(), rect.h(), other.top(), other.h())
+}
+
+/// Whether the n numbers from a on are among the m numbers from b on.
+fn lies_along(a: u32, n: u32, b: u32, m: u32) -> bool
+    requires first { a + n ≤ 32768 }
+    requires second { b + m ≤ 32768 }
+    ensures { result ≡ (nat_le b a && nat_le (a + n) (b + m)) }
+{
+    b <= a && a + n <= b + m
+}

@@ -1,0 +1,99 @@
+//! Worked values, and that each call can succeed.
+
+ghost use Rattle.std.specs.Prelude.{◌≡◌};
+
+use super::*;
+use geom_core::{Rect, TileKey};
+use pixel_core::Pixel;
+use std::test::Fail;
+
+/// The tile whose corner is (0, 0).
+const ORIGIN: TileKey = TileKey { row: 0, col: 0 };
+
+fn crosses<T: Send + Sync>(_x: &T) {}
+
+fn opaque(r: u8, g: u8, b: u8) -> Pixel
+    ensures { result.a ≡ 255 }
+{
+    Pixel::new(r, g, b, 255)
+}
+
+#[test]
+fn a_block_on_a_shared_tile(rt: HostRuntime) -> Result<(), Fail> {
+    let alloc = rt.alloc();
+    let red = opaque(255, 0, 0);
+    let tile = Tile::clear(alloc)?;
+    assert!(rt; tile.pixels().iter().all(|&p| p == Pixel::CLEAR));
+    let shared = tile.share()?;
+    let one = Rect::new(0, 0, 1, 1).expect(&rt, "a rectangle of the world");
+    let mut block = Block::new(alloc, ORIGIN, one)?;
+    assert_eq!(rt; block.at(0, 0), Pixel::CLEAR);
+    block.set(0, 0, red);
+    let written = tile.with_region(alloc, &block)?;
+    assert_eq!(rt; written.pixel(0, 0), red);
+    assert_eq!(rt; written.pixel(1, 0), Pixel::CLEAR);
+    assert_eq!(rt; tile.pixel(0, 0), Pixel::CLEAR);
+    assert_eq!(rt; shared.pixel(0, 0), Pixel::CLEAR);
+    crosses(&block);
+    crosses(&written);
+    let rest = Rect::new(1, 0, 63, 64).expect(&rt, "a rectangle of the world");
+    assert!(rt; written.same_in(&shared, &rest));
+    assert!(rt; !written.same_in(&shared, &ORIGIN.rect()));
+    Ok(())
+}
+
+#[test]
+fn whole_tiles(rt: HostRuntime) -> Result<(), Fail> {
+    let alloc = rt.alloc();
+    let red = opaque(255, 0, 0);
+    let plain = Tile::plain(alloc, red)?;
+    assert_eq!(rt; plain.pixel(63, 63), red);
+    let below = TileKey { row: -1, col: 2 };
+    let mut block = Block::new(alloc, below, below.rect())?;
+    block.set(130, -2, opaque(0, 0, 255));
+    let written = plain.with_region(alloc, &block)?;
+    assert_eq!(rt; written.pixel(2, 62), opaque(0, 0, 255));
+    assert_eq!(rt; written.pixel(3, 62), Pixel::CLEAR);
+    Ok(())
+}
+
+#[test]
+fn a_shot(rt: HostRuntime) -> Result<(), Fail> {
+    let alloc = rt.alloc();
+    let ground = Pixel::new(1, 2, 3, 77);
+    let red = opaque(255, 0, 0);
+    let rect = Rect::new(-2, 0, 4, 1).expect(&rt, "a rectangle of the world");
+    let mut shot = Shot::new(alloc, &[rect], ground)?;
+    shot.put(ORIGIN, &Tile::plain(alloc, red)?)?;
+    crosses(&shot);
+    assert_eq!(rt; shot.ground(), ground);
+    assert_eq!(rt; shot.at(-1, 0), ground);
+    assert_eq!(rt; shot.at(0, 0), red);
+    assert_eq!(rt;
+        shot.pixels_on(alloc, &rect)?.as_slice(),
+        [ground, ground, red, red].as_slice()
+    );
+    let right = Rect::new(0, 0, 2, 1).expect(&rt, "a rectangle of the world");
+    assert_eq!(rt;
+        shot.read(alloc, ORIGIN, &right)?.as_slice(),
+        [red, red].as_slice()
+    );
+    assert!(rt; shot.tile(ORIGIN).is_some());
+    assert!(rt; shot.covers(&right));
+    assert!(rt; !shot.covers(&ORIGIN.rect()));
+    Ok(())
+}
+
+#[test]
+fn a_frame(rt: HostRuntime) -> Result<(), Fail> {
+    let alloc = rt.alloc();
+    let mut frame = Frame::new(alloc, 1, 1, opaque(0x33, 0x66, 0x99))?;
+    assert_eq!(rt; (frame.width(), frame.height()), (1, 1));
+    assert_eq!(rt; frame.at(0, 0), [0x33, 0x66, 0x99]);
+    frame.put(ORIGIN, &Tile::plain(alloc, Pixel::new(255, 0, 0, 128))?)?;
+    crosses(&frame);
+    let mut row = [7; 4];
+    frame.row_into(0, &mut row);
+    assert_eq!(rt; row, [153, 51, 76, 7]);
+    Ok(())
+}

@@ -1,0 +1,145 @@
+//! Tiles of 64 by 64 pixels, shared copy on write.
+
+ghost use Rattle.std.specs.Prelude.{vec_len, ◌≡◌, ℕ, ◌+◌, ◌*◌, ◌<◌, ◌↔◌, IsTrue, length, IfOk, replicate, true, negsuc, pos, ◌≤ℤ◌, ◌+ℤ◌, ◌%◌, nat_abs};
+ghost use Rattle.tile_core.specs.Pixels.{pixel_of, pixel_at, whole_tile, SameOn, HasPixels};
+ghost use Rattle.tile_core.specs.Parts.{IsPartOf};
+ghost use Rattle.geom_core.specs.Grid.{IsWorldKey, tile};
+ghost use Rattle.tile_core.specs.Blocks.{LaysBlock};
+ghost use Rattle.geom_core.specs.Areas.{IsWithin, holds, world};
+ghost use Rattle.geom_core.specs.Points.{point};
+ghost use Rattle.pixel_core.specs.Rgba.{clear};
+
+use crate::Block;
+use crate::rows::{Part, part_of, same_part, with_part};
+use geom_core::{NoMemory, Rect, TileKey};
+use pixel_core::Pixel;
+use std::alloc::Global;
+use std::marker::Model;
+use std::sync::Arc;
+
+/// 64 rows of 64 pixels behind a counted reference. A tile never changes: a write makes a new one,
+/// and whoever shares the old one keeps reading it.
+#[derive(Drop)]
+pub struct Tile {
+    pixels: Arc<Vec<Pixel>>,
+}
+
+impl Model for Tile {
+    ghost use Rattle.std.specs.Prelude.{◌≡◌, List, length};
+    ghost use Rattle.pixel_core.specs.Rgba.{Rgba};
+
+    ghost Value = { List Rgba };
+
+    ghost view = { λ t. t.pixels.value.items };
+
+    ghost invariant = { λ t. length t.pixels.value.items ≡ 4096 };
+}
+
+impl Tile {
+    /// A tile of clear pixels.
+    pub fn clear(alloc: Global) -> Result<Tile, NoMemory>
+        ensures { IfOk result (λ t. t ≡ replicate 4096 clear) }
+    {
+        Tile::plain(alloc, Pixel::CLEAR)
+    }
+
+    /// A tile whose every pixel is `p`.
+    pub fn plain(alloc: Global, p: Pixel) -> Result<Tile, NoMemory>
+        ensures { IfOk result (λ t. t ≡ replicate 4096 p) }
+    {
+        Tile::from_pixels(alloc, vec![in alloc; p; 4096]?)
+    }
+
+    /// A tile of these pixels in row order, which are not copied.
+    pub fn from_pixels(alloc: Global, pixels: Vec<Pixel>) -> Result<Tile, NoMemory>
+        requires { vec_len pixels ≡ 4096 }
+        ensures { IfOk result (λ t. t ≡ pixels.items) }
+    {
+        Ok(Tile {
+            pixels: Arc::new(alloc, pixels)?,
+        })
+    }
+
+    /// Its 4,096 pixels in row order.
+    pub fn pixels(&self) -> &[Pixel]
+        ensures value { result.now ≡ self.now }
+        ensures all { length result.now ≡ 4096 }
+    {
+        self.pixels.as_slice()
+    }
+
+    /// The pixel of a column and a row, which count from 0.
+    pub fn pixel(&self, col: u8, row: u8) -> Pixel
+        requires col { col < 64 }
+        requires row { row < 64 }
+        ensures { result ≡ pixel_of self.now col row }
+    {
+        self.pixels()[64 * row as usize + col as usize]
+    }
+
+    /// The pixel at a point of the world, where the tile is that of the point's key.
+    pub fn at(&self, x: i32, y: i32) -> Pixel
+        requires { holds world (point x y) ≡ true }
+        ensures { result ≡ pixel_at self.now (point x y) }
+    {
+        self.pixel(place_in_tile(x), place_in_tile(y))
+    }
+
+    /// One more reference to the same pixels. `NoMemory` only where the count of references is full.
+    pub fn share(&self) -> Result<Tile, NoMemory>
+        ensures { IfOk result (λ t. t ≡ self.now) }
+    {
+        Ok(Tile {
+            pixels: Arc::try_clone(&self.pixels)?,
+        })
+    }
+
+    /// A new tile with the block's pixels on the block's rectangle and this tile's elsewhere.
+    pub fn with_region(&self, alloc: Global, block: &Block) -> Result<Tile, NoMemory>
+        ensures { IfOk result (λ t. LaysBlock self.now t block.now) }
+    {
+        let rect = block.rect();
+        let pixels = with_part(alloc, self.pixels(), part_in_tile(&rect), block.pixels())?;
+        Tile::from_pixels(alloc, pixels)
+    }
+
+    /// Whether both tiles have the same pixels on a rectangle of a tile whose corner is (0, 0).
+    pub fn same_in(&self, other: &Tile, rect: &Rect) -> bool
+        requires { IsWithin rect.now whole_tile }
+        ensures { IsTrue result ↔ SameOn rect.now self.now other.now }
+    {
+        same_part(self.pixels(), other.pixels(), part_in_tile(rect))
+    }
+
+    /// The pixels on a rectangle inside the key's tile, in row order.
+    pub fn part(&self, alloc: Global, key: TileKey, rect: &Rect) -> Result<Vec<Pixel>, NoMemory>
+        requires key { IsWorldKey key }
+        requires inside { IsWithin rect.now (tile key) }
+        ensures all { IfOk result (λ v. vec_len v ≡ rect.now.h * rect.now.w) }
+        ensures has { IfOk result (λ v. HasPixels rect.now (pixel_at self.now) v.items) }
+    {
+        Ok(part_of(alloc, self.pixels(), part_in_tile(rect))?)
+    }
+}
+
+/// Which columns and rows of their tiles the rectangle's first column and row are, and its sides.
+fn part_in_tile(rect: &Rect) -> Part
+    ensures { IsPartOf rect.now result }
+{
+    Part {
+        left: rect.left() as usize % 64,
+        top: rect.top() as usize % 64,
+        w: rect.w() as usize,
+        h: rect.h() as usize,
+    }
+}
+
+/// Which column, or row, of its tile this is.
+fn place_in_tile(x: i32) -> u8
+    requires low { negsuc 16383 ≤ℤ x }
+    requires high { x ≤ℤ pos 16383 }
+    ensures value { result ≡ nat_abs (x +ℤ pos 16384) % 64 }
+    ensures small { result < 64 }
+{
+    ((x + 16384) as u32 % 64) as u8
+}
