@@ -3,6 +3,7 @@
 
 mod stopwatch;
 mod tiles;
+mod trees;
 
 use std::rt::Runtime;
 use std::{env, io};
@@ -11,12 +12,14 @@ use std::{env, io};
 #[derive(Clone, Copy)]
 enum Subject {
     Tiles,
+    Trees,
 }
 
 /// The subject of that name.
 fn subject_of(name: &str) -> Option<Subject> {
     match name {
         "tiles" => Some(Subject::Tiles),
+        "trees" => Some(Subject::Trees),
         _ => None,
     }
 }
@@ -34,6 +37,7 @@ fn asked(rt: &impl Runtime) -> io::Result<Option<Subject>> {
 fn main(rt: HostRuntime) -> io::Result<()> {
     match asked(&rt)? {
         Some(Subject::Tiles) => tiles::measure(&rt, rt.alloc()),
-        None => println!(rt; "benches: pass a word to measure: tiles"),
+        Some(Subject::Trees) => trees::measure(&rt, rt.alloc()),
+        None => println!(rt; "benches: pass a word to measure: tiles, trees"),
     }
 }
