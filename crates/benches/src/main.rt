@@ -1,0 +1,43 @@
+//! Times parts of the engine against the plain work that they do.
+#![tactic(auto)]
+
+mod stopwatch;
+mod tiles;
+mod trees;
+
+use std::rt::Runtime;
+use std::{env, io};
+
+/// What can be measured.
+#[derive(Clone, Copy)]
+enum Subject {
+    Tiles,
+    Trees,
+}
+
+/// The subject of that name.
+fn subject_of(name: &str) -> Option<Subject> {
+    match name {
+        "tiles" => Some(Subject::Tiles),
+        "trees" => Some(Subject::Trees),
+        _ => None,
+    }
+}
+
+/// The subject that the first argument names.
+fn asked(rt: &impl Runtime) -> io::Result<Option<Subject>> {
+    let mut words = env::args(rt)?;
+    let _program = words.next();
+    match words.next() {
+        Some(word) => Ok(subject_of(word.as_str())),
+        None => Ok(None),
+    }
+}
+
+fn main(rt: HostRuntime) -> io::Result<()> {
+    match asked(&rt)? {
+        Some(Subject::Tiles) => tiles::measure(&rt, rt.alloc()),
+        Some(Subject::Trees) => trees::measure(&rt, rt.alloc()),
+        None => println!(rt; "benches: pass a word to measure: tiles, trees"),
+    }
+}

@@ -1,0 +1,108 @@
+//! Passes over the nodes of a tree, each before those in it, that make another list of them.
+
+ghost use Rattle.std.specs.Prelude.{◌≡◌, ℕ, ◌≤◌, ◌+◌, ◌-◌, length, ◌++◌, map, take, drop, nat_lt};
+ghost use Rattle.std.specs.List.{take_while};
+ghost use Rattle.doc_model.specs.Flat.{flat};
+ghost use Rattle.doc_model.specs.Forest.{depth, only, without};
+ghost use Rattle.tree_core.specs.Nodes.{rows_of, tree_of, node_with_look, moved_node, IsKept};
+
+use crate::node::{Node, below, moved_node, node_with_look};
+use arrayvec::ArrayVec;
+use doc_model::Look;
+
+/// The nodes without that one and those below it.
+pub fn without(nodes: &[Node], id: u16) -> ArrayVec<Node, 256>
+    requires few { length nodes.now ≤ 256 }
+    requires kept { IsKept nodes.now }
+    ensures kept { IsKept result.items }
+    ensures tree { tree_of result.items ≡ without id (tree_of nodes.now) }
+{
+    let mut left: ArrayVec<Node, 256> = ArrayVec::new();
+    let mut skip: Option<u8> = None;
+    for n in nodes {
+        if !below(skip, n.depth) {
+            if n.id == id {
+                skip = Some(n.depth);
+            } else {
+                skip = None;
+                left.push(*n);
+            }
+        }
+    }
+    left
+}
+
+/// The nodes, that one with another look.
+pub fn with_look(nodes: &[Node], id: u16, look: Look) -> ArrayVec<Node, 256>
+    requires { length nodes.now ≤ 256 }
+    ensures { result.items ≡ map (node_with_look id look) nodes.now }
+{
+    let mut left: ArrayVec<Node, 256> = ArrayVec::new();
+    for n in nodes {
+        left.push(node_with_look(*n, id, look));
+    }
+    left
+}
+
+/// The node with that id and those below it, or nothing where no node has it.
+pub fn part(nodes: &[Node], id: u16) -> ArrayVec<Node, 256>
+    requires few { length nodes.now ≤ 256 }
+    requires kept { IsKept nodes.now }
+    ensures { rows_of result.items ≡ flat (depth id (tree_of nodes.now) - 1) (only id (tree_of nodes.now)) }
+{
+    let mut moved: ArrayVec<Node, 256> = ArrayVec::new();
+    for i in 0..nodes.len() {
+        if nodes[i].id == id {
+            moved.push(nodes[i]);
+            push_deeper(&mut moved, &nodes[i + 1..], nodes[i].depth);
+            return moved;
+        }
+    }
+    moved
+}
+
+/// Adds the nodes up to the first that isn't deeper.
+fn push_deeper(moved: &mut ArrayVec<Node, 256>, nodes: &[Node], depth: u8)
+    requires { length moved.old.items + length nodes.now ≤ 256 }
+    ensures { moved.new.items ≡ moved.old.items ++ take_while (λ n. nat_lt depth n.depth) nodes.now }
+{
+    for n in nodes {
+        if n.depth <= depth {
+            return;
+        }
+        moved.push(*n);
+    }
+}
+
+/// The nodes, with the moved ones set in at a place, below another depth.
+pub fn spliced(nodes: &[Node], at: usize, moved: &[Node], from: u8, to: u8) -> ArrayVec<Node, 256>
+    requires within { at ≤ length nodes.now }
+    requires room { length nodes.now + length moved.now ≤ 256 }
+    ensures { result.items ≡ take at nodes.now ++ (map (moved_node from to) moved.now ++ drop at nodes.now) }
+{
+    let mut all: ArrayVec<Node, 256> = ArrayVec::new();
+    push_all(&mut all, &nodes[..at]);
+    push_moved(&mut all, moved, from, to);
+    push_all(&mut all, &nodes[at..]);
+    all
+}
+
+/// Adds all of the nodes.
+pub fn push_all(all: &mut ArrayVec<Node, 256>, nodes: &[Node])
+    requires { length all.old.items + length nodes.now ≤ 256 }
+    ensures { all.new.items ≡ all.old.items ++ nodes.now }
+{
+    for n in nodes {
+        all.push(*n);
+    }
+}
+
+/// Adds the nodes of a part, at their new depths.
+fn push_moved(all: &mut ArrayVec<Node, 256>, nodes: &[Node], from: u8, to: u8)
+    requires { length all.old.items + length nodes.now ≤ 256 }
+    ensures { all.new.items ≡ all.old.items ++ map (moved_node from to) nodes.now }
+{
+    for n in nodes {
+        all.push(moved_node(*n, from, to));
+    }
+}

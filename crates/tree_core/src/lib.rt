@@ -1,0 +1,9 @@
+//! The tree of layers and groups, kept without allocation: its changes with their refusals, and its readers.
+#![tactic(auto)]
+
+mod edits;
+mod lookup;
+mod node;
+mod tree;
+
+pub use tree::Tree;

@@ -1,0 +1,133 @@
+//! Passes over the nodes of a tree, each before those in it, that look something up.
+
+ghost use Rattle.std.specs.Prelude.{◌≡◌, ℕ, ◌≤◌, ◌+◌, ◌==◌, ◌&&◌, not, length};
+ghost use Rattle.std.specs.List.{find, list_any};
+ghost use Rattle.doc_model.specs.Flat.{read};
+ghost use Rattle.doc_model.specs.Forest.{width, parent, depth};
+ghost use Rattle.doc_model.specs.Readers.{side_at};
+ghost use Rattle.tree_core.specs.Nodes.{rows_of, tree_of, nodes_after, nodes_before, greatest_depth, IsKept};
+
+use crate::node::Node;
+
+/// The node with that id.
+pub fn find(nodes: &[Node], id: u16) -> Option<Node>
+    ensures { result ≡ find (λ n. n.id == id) nodes.now }
+{
+    for n in nodes {
+        if n.id == id {
+            return Some(*n);
+        }
+    }
+    None
+}
+
+/// Whether a group has that id.
+pub fn group_in(nodes: &[Node], id: u16) -> bool
+    ensures { result ≡ list_any (λ n. (n.id == id) && not n.paints) nodes.now }
+{
+    nodes.iter().any(|n| n.id == id && !n.paints)
+}
+
+/// The nodes after the one with that id; all of them after the root.
+pub fn nodes_after(nodes: &[Node], id: u16) -> &[Node]
+    ensures value { result.now ≡ nodes_after id nodes.now }
+    ensures within { length result.now ≤ length nodes.now }
+{
+    if id == 0 {
+        return nodes;
+    }
+    for i in 0..nodes.len() {
+        if nodes[i].id == id {
+            return &nodes[i + 1..];
+        }
+    }
+    &nodes[nodes.len()..]
+}
+
+/// How many nodes stand at that depth before the first above it.
+pub fn children_at(nodes: &[Node], depth: u8) -> usize
+    ensures value { result ≡ width (read depth (rows_of nodes.now)) }
+    ensures few { result ≤ length nodes.now }
+{
+    let mut count = 0;
+    for n in nodes {
+        if n.depth < depth {
+            return count;
+        }
+        if n.depth == depth {
+            count += 1;
+        }
+    }
+    count
+}
+
+/// The id of the node at that place among those at the depth, before the first above it.
+pub fn child_at(nodes: &[Node], depth: u8, place: u16) -> Option<u16>
+    ensures { result ≡ side_at place (read depth (rows_of nodes.now)) }
+{
+    let mut left = place;
+    for n in nodes {
+        if n.depth < depth {
+            return None;
+        }
+        if n.depth == depth {
+            if left == 0 {
+                return Some(n.id);
+            }
+            left -= 1;
+        }
+    }
+    None
+}
+
+/// How many nodes stand before that place among those at the depth.
+pub fn place_at(nodes: &[Node], depth: u8, place: u8) -> usize
+    ensures value { result ≡ nodes_before depth place nodes.now }
+    ensures within { result ≤ length nodes.now }
+{
+    let mut left = place;
+    for i in 0..nodes.len() {
+        let n = nodes[i];
+        if n.depth < depth {
+            return i;
+        }
+        if n.depth == depth {
+            if left == 0 {
+                return i;
+            }
+            left -= 1;
+        }
+    }
+    nodes.len()
+}
+
+/// The group round the node: the last one before it that stands a level above. None where no node has that id.
+pub fn above(nodes: &[Node], id: u16, level: u8) -> Option<u16>
+    requires kept { IsKept nodes.now }
+    requires level { level ≡ depth id (tree_of nodes.now) }
+    ensures { result ≡ parent id 0 (tree_of nodes.now) }
+{
+    let mut best = 0;
+    for n in nodes {
+        if n.id == id {
+            return Some(best);
+        }
+        best = if n.depth as usize + 2 == level as usize {
+            n.id
+        } else {
+            best
+        };
+    }
+    None
+}
+
+/// The greatest depth of a node.
+pub fn deepest(nodes: &[Node]) -> u8
+    ensures { result ≡ greatest_depth nodes.now }
+{
+    let mut most = 0;
+    for n in nodes {
+        most = n.depth.max(most);
+    }
+    most
+}

@@ -1,0 +1,387 @@
+//! The tree: its readers and its changes.
+
+ghost use Rattle.std.specs.Prelude.{◌≡◌, ℕ, ◌≤◌, ◌+◌, true, false, ◌||◌, ◌==◌, not, None, Ok, Err, IfErr, OnOk, OnErr, IsNone, ◌↔◌};
+ghost use Rattle.doc_model.specs.Changes.{changed, there, takes, child_count, no_new, no_place, set_in, new_look, answer};
+ghost use Rattle.doc_model.specs.Flat.{node};
+ghost use Rattle.doc_model.specs.Forest.{none, has, is_group, count, depth, height, only, without, parent};
+ghost use Rattle.doc_model.specs.declared.tree.Change.TheVariants as change;
+ghost use Rattle.tree_core.specs.Nodes.{content_of};
+ghost use Rattle.doc_model.specs.Laws.{IsDocument};
+ghost use Rattle.doc_model.specs.Readers.{look_in, child_in};
+
+use crate::edits::{part, push_all, spliced, with_look, without};
+use crate::lookup::{above, child_at, children_at, deepest, find, group_in, nodes_after, place_at};
+use crate::node::{Node, new_node};
+use arrayvec::ArrayVec;
+use doc_model::{Change, Look, TreeFault};
+use std::marker::Model;
+
+/// The most nodes beside the root.
+const MOST_NODES: u16 = 256;
+
+/// The greatest depth of a node; the root's is 0.
+const MOST_DEPTH: u8 = 16;
+
+/// The tree of a document: the root, which is a group with id 0, and the layers and groups in it.
+///
+/// It holds at most 256 nodes beside the root, none deeper than 16, each with an id of its own that isn't 0.
+#[derive(Drop)]
+pub struct Tree {
+    nodes: ArrayVec<Node, 256>,
+}
+
+impl Model for Tree {
+    ghost use Rattle.doc_model.specs.Forest.{Forest};
+    ghost use Rattle.tree_core.specs.Codes.{tree_code};
+
+    ghost Value = { Forest (Unit {0}) };
+
+    ghost coded = { tree_code };
+
+    ghost use Rattle.tree_core.specs.Nodes.{tree_of, IsKept};
+
+    ghost view = { λ t. tree_of t.nodes.items };
+
+    ghost invariant = { λ t. IsKept t.nodes.items };
+}
+
+impl Tree {
+    /// The root alone.
+    pub fn new() -> Tree
+        ensures { result ≡ none }
+    {
+        Tree {
+            nodes: ArrayVec::new(),
+        }
+    }
+
+    /// Another tree of the same nodes.
+    pub fn copy(&self) -> Tree
+        ensures { result ≡ self.now }
+    {
+        let mut nodes: ArrayVec<Node, 256> = ArrayVec::new();
+        push_all(&mut nodes, self.nodes.as_slice());
+        Tree { nodes }
+    }
+
+    /// How many nodes there are beside the root. It tells the limits that every tree keeps to.
+    pub fn node_count(&self) -> u16
+        ensures value { result ≡ count self.now }
+        ensures few { result ≤ 256 }
+        ensures limits { IsDocument self.now }
+    {
+        self.nodes.len() as u16
+    }
+
+    /// Whether the root or a node has that id.
+    pub fn has(&self, id: u16) -> bool
+        ensures { result ≡ there id self.now }
+    {
+        id == 0 || self.holds(id)
+    }
+
+    /// Whether the root or a group has that id.
+    pub fn is_group(&self, id: u16) -> bool
+        ensures { result ≡ takes id self.now }
+    {
+        id == 0 || self.holds_group(id)
+    }
+
+    /// The node's look. None exactly for an id that isn't there, and for the root.
+    pub fn look(&self, id: u16) -> Option<Look>
+        ensures value { result ≡ look_in id self.now }
+        ensures none { IsNone result ↔ (has id self.now ≡ false) }
+    {
+        match find(self.nodes.as_slice(), id) {
+            Some(n) => Some(n.look),
+            None => None,
+        }
+    }
+
+    /// The group round the node. None exactly for an id that isn't there, and for the root.
+    pub fn parent(&self, id: u16) -> Option<u16>
+        ensures value { result ≡ parent id 0 self.now }
+        ensures none { IsNone result ↔ (has id self.now ≡ false) }
+    {
+        above(self.nodes.as_slice(), id, self.depth(id))
+    }
+
+    /// How many children the root or a group has; 0 for any other id.
+    pub fn child_count(&self, id: u16) -> u16
+        ensures value { result ≡ child_count id self.now }
+        ensures few { result ≤ 256 }
+    {
+        if self.is_group(id) {
+            self.children(id) as u16
+        } else {
+            self.no_children(id)
+        }
+    }
+
+    /// The child of the root or a group at that place, counted from the bottom, from 0. None where none stands there.
+    pub fn child(&self, id: u16, place: u16) -> Option<u16>
+        ensures { result ≡ child_in id place self.now }
+    {
+        if self.is_group(id) {
+            self.group_child(id, place)
+        } else {
+            self.lone_child(id, place)
+        }
+    }
+
+    /// Makes the change, or tells its first refusal, which leaves the tree as it was.
+    ///
+    /// A new layer or group is opaque, laid over and visible. A removed node takes all below it along, and so does a
+    /// moved one.
+    pub fn change(&mut self, change: &Change) -> Result<(), TreeFault>
+        ensures ok { OnOk result (changed (λ _. tt) change.now self.old ≡ Ok self.new) }
+        ensures err { IfErr result (λ fault. changed (λ _. tt) change.now self.old ≡ Err fault) }
+        ensures same { OnErr result (self.new ≡ self.old) }
+    {
+        match *change {
+            Change::Layer {
+                id,
+                parent,
+                place,
+                ..
+            } => self.add(id, parent, place, true),
+            Change::Group { id, parent, place } => self.add(id, parent, place, false),
+            Change::Remove { id } => self.remove(id),
+            Change::Place { id, parent, place } => self.place(id, parent, place),
+            Change::Look { id, look } => self.set_look(id, look),
+        }
+    }
+
+    /// Whether a node has that id; none has 0.
+    fn holds(&self, id: u16) -> bool
+        ensures { result ≡ has id self.now }
+    {
+        find(self.nodes.as_slice(), id).is_some()
+    }
+
+    /// Whether no node has that id, or it is the root's.
+    fn lacks(&self, id: u16) -> bool
+        ensures { result ≡ (not (has id self.now) || (id == 0)) }
+    {
+        !self.holds(id) || id == 0
+    }
+
+    /// Whether a group has that id, the root aside.
+    fn holds_group(&self, id: u16) -> bool
+        ensures { result ≡ is_group id self.now }
+    {
+        group_in(self.nodes.as_slice(), id)
+    }
+
+    /// How many groups stand round the node and itself, the root aside; 0 for the root and where no node has that id.
+    fn depth(&self, id: u16) -> u8
+        ensures value { result ≡ depth id self.now }
+        ensures low { result ≤ 16 }
+    {
+        match find(self.nodes.as_slice(), id) {
+            Some(n) => n.depth + 1,
+            None => 0,
+        }
+    }
+
+    /// How many children the root or a group has.
+    fn children(&self, id: u16) -> usize
+        requires { takes id self.now ≡ true }
+        ensures value { result ≡ child_count id self.now }
+        ensures few { result ≤ 256 }
+    {
+        children_at(nodes_after(self.nodes.as_slice(), id), self.depth(id))
+    }
+
+    /// What is no group has no children.
+    fn no_children(&self, id: u16) -> u16
+        requires { takes id self.now ≡ false }
+        ensures value { result ≡ child_count id self.now }
+        ensures few { result ≤ 256 }
+    {
+        0
+    }
+
+    /// The child of the root or a group at that place.
+    fn group_child(&self, id: u16, place: u16) -> Option<u16>
+        requires { takes id self.now ≡ true }
+        ensures { result ≡ child_in id place self.now }
+    {
+        child_at(
+            nodes_after(self.nodes.as_slice(), id),
+            self.depth(id),
+            place,
+        )
+    }
+
+    /// What is no group has no child anywhere.
+    fn lone_child(&self, id: u16, place: u16) -> Option<u16>
+        requires { takes id self.now ≡ false }
+        ensures { result ≡ child_in id place self.now }
+    {
+        None
+    }
+
+    /// Why a new node can't come.
+    fn no_new(&self, id: u16, parent: u16, place: u8) -> Option<TreeFault>
+        ensures { result ≡ no_new id parent place self.now }
+    {
+        if self.has(id) {
+            return Some(TreeFault::Taken(id));
+        }
+        if !self.has(parent) {
+            return Some(TreeFault::NoNode(parent));
+        }
+        if !self.is_group(parent) {
+            return Some(TreeFault::NotGroup(parent));
+        }
+        if self.node_count() == MOST_NODES {
+            return Some(TreeFault::TreeFull(MOST_NODES));
+        }
+        if self.depth(parent) + 1 > MOST_DEPTH {
+            return Some(TreeFault::TooDeep(MOST_DEPTH));
+        }
+        if self.children(parent) < place as usize {
+            return Some(TreeFault::BadPlace(place));
+        }
+        None
+    }
+
+    /// Sets a new node in, or tells why not.
+    fn add(&mut self, id: u16, parent: u16, place: u8, paints: bool) -> Result<(), TreeFault>
+        ensures ok { OnOk result (answer (no_new id parent place self.old) (set_in parent place (node (content_of paints) id new_look none none) self.old) ≡ Ok self.new) }
+        ensures err { IfErr result (λ fault. answer (no_new id parent place self.old) (set_in parent place (node (content_of paints) id new_look none none) self.old) ≡ Err fault) }
+        ensures same { OnErr result (self.new ≡ self.old) }
+    {
+        match self.no_new(id, parent, place) {
+            Some(fault) => Err(fault),
+            None => {
+                self.set(id, parent, place, paints);
+                Ok(())
+            }
+        }
+    }
+
+    /// Sets a new node in at its place.
+    fn set(&mut self, id: u16, parent: u16, place: u8, paints: bool)
+        requires { no_new id parent place self.old ≡ None }
+        ensures { self.new ≡ set_in parent place (node (content_of paints) id new_look none none) self.old }
+    {
+        let depth = self.depth(parent);
+        let all = self.nodes.len();
+        let rest = nodes_after(self.nodes.as_slice(), parent);
+        let at = all - rest.len() + place_at(rest, depth, place);
+        self.nodes.insert(at, new_node(depth, id, paints));
+    }
+
+    /// Takes the node and all below it out, or tells why not.
+    fn remove(&mut self, id: u16) -> Result<(), TreeFault>
+        ensures ok { OnOk result (changed (λ _. tt) (change.Remove id) self.old ≡ Ok self.new) }
+        ensures err { IfErr result (λ fault. changed (λ _. tt) (change.Remove id) self.old ≡ Err fault) }
+        ensures same { OnErr result (self.new ≡ self.old) }
+    {
+        if self.lacks(id) {
+            return Err(TreeFault::NoNode(id));
+        }
+        self.nodes = without(self.nodes.as_slice(), id);
+        Ok(())
+    }
+
+    /// Gives the node another look, or tells why not.
+    fn set_look(&mut self, id: u16, look: Look) -> Result<(), TreeFault>
+        ensures ok { OnOk result (changed (λ _. tt) (change.Look id look) self.old ≡ Ok self.new) }
+        ensures err { IfErr result (λ fault. changed (λ _. tt) (change.Look id look) self.old ≡ Err fault) }
+        ensures same { OnErr result (self.new ≡ self.old) }
+    {
+        if self.lacks(id) {
+            return Err(TreeFault::NoNode(id));
+        }
+        self.nodes = with_look(self.nodes.as_slice(), id, look);
+        Ok(())
+    }
+
+    /// Whether `inner` is the node `id` or stands below it.
+    fn stands_in(&self, inner: u16, id: u16) -> bool
+        ensures { result ≡ has inner (only id self.now) }
+    {
+        let moved = part(self.nodes.as_slice(), id);
+        find(moved.as_slice(), inner).is_some()
+    }
+
+    /// How many levels the node has with those below it.
+    fn height(&self, id: u16) -> usize
+        requires { has id self.now ≡ true }
+        ensures value { result ≡ height (only id self.now) }
+        ensures low { result ≤ 257 }
+    {
+        let moved = part(self.nodes.as_slice(), id);
+        (deepest(moved.as_slice()) as usize + 2).saturating_sub(self.depth(id) as usize)
+    }
+
+    /// The tree without the node and all below it; every other group stays one.
+    fn cut_out(&self, id: u16) -> Tree
+        ensures value { result ≡ without id self.now }
+        ensures groups { (q : ℕ) → has q (only id self.now) ≡ false → takes q result ≡ takes q self.now }
+    {
+        Tree {
+            nodes: without(self.nodes.as_slice(), id),
+        }
+    }
+
+    /// Why a node can't be moved.
+    fn no_place(&self, id: u16, parent: u16, place: u8) -> Option<TreeFault>
+        ensures { result ≡ no_place id parent place self.now }
+    {
+        if self.lacks(id) {
+            return Some(TreeFault::NoNode(id));
+        }
+        if !self.has(parent) {
+            return Some(TreeFault::NoNode(parent));
+        }
+        if !self.is_group(parent) {
+            return Some(TreeFault::NotGroup(parent));
+        }
+        if self.stands_in(parent, id) {
+            return Some(TreeFault::IntoItself(id));
+        }
+        if self.depth(parent) as usize + self.height(id) > MOST_DEPTH as usize {
+            return Some(TreeFault::TooDeep(MOST_DEPTH));
+        }
+        if self.cut_out(id).children(parent) < place as usize {
+            return Some(TreeFault::BadPlace(place));
+        }
+        None
+    }
+
+    /// Moves the node and all below it, or tells why not.
+    fn place(&mut self, id: u16, parent: u16, place: u8) -> Result<(), TreeFault>
+        ensures ok { OnOk result (changed (λ _. tt) (change.Place id parent place) self.old ≡ Ok self.new) }
+        ensures err { IfErr result (λ fault. changed (λ _. tt) (change.Place id parent place) self.old ≡ Err fault) }
+        ensures same { OnErr result (self.new ≡ self.old) }
+    {
+        match self.no_place(id, parent, place) {
+            Some(fault) => Err(fault),
+            None => {
+                self.put(id, parent, place);
+                Ok(())
+            }
+        }
+    }
+
+    /// Moves the node and all below it to its new place.
+    fn put(&mut self, id: u16, parent: u16, place: u8)
+        requires { no_place id parent place self.old ≡ None }
+        ensures { self.new ≡ set_in parent place (only id self.old) (without id self.old) }
+    {
+        let from = self.depth(id);
+        let to = self.depth(parent);
+        let moved = part(self.nodes.as_slice(), id);
+        let left = without(self.nodes.as_slice(), id);
+        let rest = nodes_after(left.as_slice(), parent);
+        let at = left.len() - rest.len() + place_at(rest, to, place);
+        self.nodes = spliced(left.as_slice(), at, moved.as_slice(), from, to);
+    }
+}
+
+#[cfg(test)]
+mod tests;
