@@ -4,7 +4,7 @@ use Rattle.std.specs.Io.KnownBytes.{Appends}
 use Rattle.script_text.specs.Form.{script}
 use Rattle.script_text.specs.Refusal.{fault}
 use Rattle.script_text.specs.declared.refusal.ScriptFault.{ScriptFault}
-use Rattle.strokes_top.specs.Bytes.{AppendsPrefix}
+use Rattle.io_edge.specs.Bytes.{AppendsPrefix}
 use Rattle.strokes_top.specs.Output.{output}
 
 -- Where the source told what it had left, it gave all of it, and what it gave has P.

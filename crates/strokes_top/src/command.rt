@@ -5,7 +5,8 @@ ghost use Rattle.std.specs.Io.KnownBytes.{Keeps, Appends};
 ghost use Rattle.io_edge.specs.Faults.{Rose};
 ghost use Rattle.script_text.specs.declared.refusal.Cause.{Cause};
 ghost use Rattle.script_text.specs.declared.refusal.ScriptFault.{ScriptFault};
-ghost use Rattle.strokes_top.specs.Bytes.{AppendsPrefix, ConsumesMore, ConsumesAtMost};
+ghost use Rattle.io_edge.specs.Bytes.{AppendsPrefix};
+ghost use Rattle.strokes_top.specs.Bytes.{ConsumesMore, ConsumesAtMost};
 ghost use Rattle.strokes_top.specs.Status.{told_by};
 ghost use Rattle.strokes_top.specs.Run.{WasRead, IsAnswered, IsBegun, IsFaulty};
 
