@@ -1,8 +1,11 @@
 //! Scripts as text: read line by line, and printed in their canonical form.
 #![tactic(auto)]
 
-
-
+mod draft;
+mod forms;
+mod jobs;
+mod script;
 mod words;
 
+pub use script::ScriptFault;
 pub use script_lines::Cause;
