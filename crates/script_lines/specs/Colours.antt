@@ -1,10 +1,17 @@
 -- Colours as a field spells them.
-use Rattle.std.specs.Prelude.{ℕ, ◌+◌, ◌*◌, nat_lt, List, [], ◌∷◌, Result, Ok, Err, if◌then◌else◌}
+use Rattle.std.specs.Prelude.{ℕ, ◌+◌, ◌*◌, nat_lt, nat_le, ◌==◌, Bool, true, ◌&&◌, List, [], ◌∷◌, Result, Ok, Err, if◌then◌else◌}
 use Rattle.std.specs.Char.{digit_value}
 use Rattle.pixel_core.specs.Rgba.{Rgba, if_canonical}
 use Rattle.script_lines.specs.declared.cause.Cause.{Cause}
 use Rattle.script_lines.specs.declared.cause.Cause.TheVariants.{Number}
 use Rattle.script_lines.specs.Causes.{◌>>=◌}
+
+abbrev pub is_byte : ℕ → Bool
+is_byte n = nat_le n 255
+
+-- whether the numbers are those of a pixel: bytes, all 0 where the alpha is 0
+abbrev pub is_pixel : Rgba → Bool
+is_pixel p = ((is_byte p.r && is_byte p.g) && (is_byte p.b && is_byte p.a)) && (if p.a == 0 then (p.r == 0 && p.g == 0) && p.b == 0 else true)
 
 -- the value of a hexadecimal digit, of either case
 abbrev pub hex_digit : ℕ → Result ℕ Cause

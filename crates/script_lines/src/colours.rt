@@ -1,7 +1,7 @@
 //! Colours as a field spells them.
 
-ghost use Rattle.std.specs.Prelude.{◌≡◌, ◌<◌, IfOk};
-ghost use Rattle.script_lines.specs.Colours.{hex_digit as digit_of, hex_byte as byte_of, rgb as rgb_of, rgba as rgba_of};
+ghost use Rattle.std.specs.Prelude.{◌≡◌, ◌<◌, IfOk, true};
+ghost use Rattle.script_lines.specs.Colours.{hex_digit as digit_of, hex_byte as byte_of, rgb as rgb_of, rgba as rgba_of, is_pixel};
 
 use crate::Cause;
 use pixel_core::Pixel;
@@ -26,7 +26,9 @@ fn hex_byte(high: u8, low: u8) -> Result<u8, Cause>
 /// Six hexadecimal digits: an opaque pixel.
 #[tactic(auto, unfolding(crate::specs::Colours::rgb))]
 pub fn rgb(field: &[u8]) -> Result<Pixel, Cause>
-    ensures { result ≡ rgb_of field.now }
+    ensures value { result ≡ rgb_of field.now }
+    ensures pixel { IfOk result (λ p. is_pixel p ≡ true) }
+    ensures opaque { IfOk result (λ p. p.a ≡ 255) }
 {
     match field {
         [a, b, c, d, e, f] => {
@@ -42,7 +44,8 @@ pub fn rgb(field: &[u8]) -> Result<Pixel, Cause>
 /// Eight hexadecimal digits: a pixel, clear where the alpha is 0.
 #[tactic(auto, unfolding(crate::specs::Colours::rgba))]
 pub fn rgba(field: &[u8]) -> Result<Pixel, Cause>
-    ensures { result ≡ rgba_of field.now }
+    ensures value { result ≡ rgba_of field.now }
+    ensures pixel { IfOk result (λ p. is_pixel p ≡ true) }
 {
     match field {
         [a, b, c, d, e, f, g, h] => {

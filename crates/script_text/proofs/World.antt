@@ -1,13 +1,15 @@
 -- Jobs in the world, or not.
-use Rattle.std.proofs.Common.{◌≡◌, ℕ, ◌+◌, ◌*◌, Bool, true, false, ◌&&◌, Result, Ok, Err, refl, sym, ap, ◌∙◌, arith, if◌then◌else◌}
+use Rattle.std.proofs.Common.{◌≡◌, ℕ, ◌+◌, ◌*◌, ◌≤◌, nat_le, Bool, true, false, ◌&&◌, subst, Result, Ok, Err, refl, sym, ap, ◌∙◌, arith, if◌then◌else◌}
 use Rattle.std.specs.Prelude.{ℤ, pos, negsuc, ◌+ℤ◌, ◌-ℤ◌, int_le}
 use borrow.Author.Differences.{ints}
 use Rattle.geom_core.specs.Areas.{Area, area, lies_in, world}
 use Rattle.doc_model.specs.Jobs.{grown}
 use Rattle.doc_model.specs.declared.job.Job.{Job}
+use Rattle.doc_model.specs.Lawful.{checks, within_limits}
+use Rattle.std.proofs.lemmas.Bool.Decides.{nat_tests}
 use Rattle.script_lines.specs.declared.cause.Cause.{Cause}
 use Rattle.script_lines.specs.declared.cause.Cause.TheVariants.{OutOfWorld}
-use Rattle.script_text.specs.Jobs.{in_world}
+use Rattle.script_text.specs.Jobs.{in_world, checked}
 
 pub both : (a b : Bool) → a ≡ true → b ≡ true → (a && (b && true)) ≡ true
 both a b h k = rw (h, k) refl
@@ -81,3 +83,23 @@ inner a r h = go (lies_in (grown a r) world) refl
     go : (b : Bool) → lies_in (grown a r) world ≡ b → b ≡ false
     go false e = refl
     go true e = sym (joined _ _ (axis a.x a.w r (left _ _ e)) (axis a.y a.h r (right _ _ e))) ∙ h
+
+-- a job that was checked
+pub checked_sound : (j k : Job) → Ok k ≡ checked j → within_limits j ≡ true → (checks k && within_limits k) ≡ true
+checked_sound j k e w = go (checks j) refl e
+  where
+    held_by : checks j ≡ true → k ≡ j → (checks k && within_limits k) ≡ true
+    held_by c same = subst (λ i. (checks i && within_limits i) ≡ true) (sym same) (rw (c, w) refl)
+
+    go : (b : Bool) → checks j ≡ b → Ok k ≡ choose b j → (checks k && within_limits k) ≡ true
+    go true c f = held_by c (cc (f))
+    go false c f = absurd (cc (f))
+
+pub box : (w h : ℕ) → 1 ≤ w → w ≤ 4096 → 1 ≤ h → h ≤ 4096 → ((nat_le 1 w && nat_le w 4096) && (nat_le 1 h && nat_le h 4096)) ≡ true
+box w h a b c d = grind (arith, nat_tests)
+
+pub box_and : (w h r : ℕ) → 1 ≤ w → w ≤ 4096 → 1 ≤ h → h ≤ 4096 → 1 ≤ r → r ≤ 16 → (((nat_le 1 w && nat_le w 4096) && (nat_le 1 h && nat_le h 4096)) && (nat_le 1 r && nat_le r 16)) ≡ true
+box_and w h r a b c d e f = grind (arith, nat_tests)
+
+pub small : (r : ℕ) → r ≤ 128 → nat_le r 128 ≡ true
+small r h = grind (arith, nat_tests)

@@ -4,5 +4,6 @@ pub mod Forms
 pub mod Following
 pub mod Script
 pub mod Reading
+pub mod Read
 pub mod Table
 pub mod Draft

@@ -1,5 +1,5 @@
 -- What the bytes of a script say, or its first fault.
-use Rattle.std.specs.Prelude.{ℕ, suc, Bool, true, false, if◌then◌else◌, Option, Some, None, is_some, Result, Ok, Err, List, [], ◌∷◌, ◌++◌, filter, map, fst, snd}
+use Rattle.std.specs.Prelude.{ℕ, suc, Bool, true, false, if◌then◌else◌, Option, Some, None, is_some, Result, Ok, Err, List, [], ◌∷◌, ◌++◌, filter, map}
 use Rattle.std.specs.List.{list_any, filter_map}
 use Rattle.std.specs.Str.{bytes_eq}
 use Rattle.doc_model.specs.declared.canvas.Canvas.{Canvas}
@@ -12,6 +12,7 @@ use Rattle.script_lines.specs.declared.cause.Cause.TheVariants.{UnknownWord, Can
 use Rattle.script_lines.specs.Lines.{lines, is_command}
 use Rattle.script_text.specs.declared.words.Word.{Word}
 use Rattle.script_text.specs.declared.script.ScriptFault.{ScriptFault}
+use Rattle.script_text.specs.declared.reading.Start.{Start}
 use Rattle.script_text.specs.Script.{Contents, contents}
 use Rattle.script_text.specs.Words.{word_of, canvas_text}
 use Rattle.script_text.specs.Jobs.{Fields}
@@ -69,39 +70,52 @@ canvas_of (line ∷ others) = first_canvas (canvas_in line.fields) (canvas_of ot
 abbrev pub commands_of : List NumberedLine → List Command
 commands_of before = filter_map (λ l. command_in l.fields) before
 
--- what is wrong with a canvas line after others
-abbrev pub canvas_cause : List NumberedLine → Fields → Option Cause
-canvas_cause before others = if is_some (canvas_of before) then Some CanvasAgain else failing (canvas others)
+-- what is wrong with a canvas line, where there was that canvas or none
+abbrev pub canvas_cause : Option Canvas → Fields → Option Cause
+canvas_cause None others = failing (canvas others)
+canvas_cause (Some c) others = Some CanvasAgain
 
--- what is wrong with what a line says, by itself or after others
-abbrev pub command_cause : List NumberedLine → Result Command Cause → Option Cause
-command_cause before (Err c) = Some c
-command_cause before (Ok c) = misfit (entries (commands_of before)) c
+-- what is wrong with what a line says, by itself or after those commands
+abbrev pub command_cause : List Command → Result Command Cause → Option Cause
+command_cause commands (Err c) = Some c
+command_cause commands (Ok c) = misfit (entries commands) c
 
--- what is wrong with a line of a word after others
-abbrev pub word_cause : List NumberedLine → Option Word → Fields → Option Cause
-word_cause before None others = Some UnknownWord
-word_cause before (Some word) others = if is_some (canvas_of before) then command_cause before (command_of word others) else Some CanvasMissing
+-- what is wrong with a line of a word other than the canvas
+abbrev pub word_cause : Option Canvas → List Command → Option Word → Fields → Option Cause
+word_cause before commands None others = Some UnknownWord
+word_cause None commands (Some word) others = Some CanvasMissing
+word_cause (Some c) commands (Some word) others = command_cause commands (command_of word others)
+
+-- what is wrong with a line after that canvas and those commands
+unfoldable pub cause_by : Option Canvas → List Command → Fields → Option Cause
+cause_by before commands [] = None
+cause_by before commands (word ∷ others) = if bytes_eq word canvas_text then canvas_cause before others else word_cause before commands (word_of word) others
 
 -- the first cause of a command line after the lines before it
-unfoldable pub cause : List NumberedLine → Fields → Option Cause
-cause before [] = None
-cause before (word ∷ others) = if bytes_eq word canvas_text then canvas_cause before others else word_cause before (word_of word) others
+abbrev pub cause : List NumberedLine → Fields → Option Cause
+cause before fields = cause_by (canvas_of before) (commands_of before) fields
 
--- whether a line starts a stroke that is still open among the entries
-abbrev pub starts_open : List Entry → Option Command → Bool
-starts_open es (Some (command.Stroke n layer exclusive)) = list_any (is_open_stroke n) es
-starts_open es c = false
+-- where a command starts a stroke
+abbrev pub start_by : ℕ → Option Command → Option Start
+start_by n (Some (command.Stroke number layer exclusive)) = Some (record { line = n; no = number })
+start_by n c = None
 
--- the fault of the first line that starts a stroke that is still open
-abbrev pub left_open : List Entry → List NumberedLine → Option ScriptFault
+-- the strokes in the order of their start
+abbrev pub starts_of : List NumberedLine → List Start
+starts_of before = filter_map (λ l. start_by l.number (command_in l.fields)) before
+
+-- the fault of the first stroke that is still open among the entries
+unfoldable pub left_open : List Entry → List Start → Option ScriptFault
 left_open es [] = None
-left_open es (line ∷ others) = if starts_open es (command_in line.fields) then Some (record { line = line.number; cause = StrokeLeft }) else left_open es others
+left_open es (s ∷ others) = if list_any (is_open_stroke s.no) es then Some (record { line = s.line; cause = StrokeLeft }) else left_open es others
 
 -- what is wrong where no line is
+abbrev pub end_by : Option Canvas → List Command → List Start → Option ScriptFault
+end_by None commands starts = Some (record { line = 1; cause = CanvasMissing })
+end_by (Some c) commands starts = left_open (entries commands) starts
+
 abbrev pub end_fault : List NumberedLine → Option ScriptFault
-end_fault [] = Some (record { line = 1; cause = CanvasMissing })
-end_fault (line ∷ others) = left_open (entries (commands_of (line ∷ others))) (line ∷ others)
+end_fault before = end_by (canvas_of before) (commands_of before) (starts_of before)
 
 -- a fault of a line, or else another
 abbrev pub first_fault : ℕ → Option Cause → Option ScriptFault → Option ScriptFault

@@ -1,8 +1,8 @@
 -- What a script may hold.
-use Rattle.std.specs.Prelude.{ℕ, ◌==◌, nat_le, Bool, true, false, ◌&&◌, if◌then◌else◌, List, refl}
+use Rattle.std.specs.Prelude.{ℕ, ◌==◌, nat_le, Bool, true, false, ◌&&◌, List, refl}
 use Rattle.std.specs.List.{list_all}
 use Rattle.std.specs.Coded.{Coded, code_by, coded×, coded_list}
-use Rattle.pixel_core.specs.Rgba.{Rgba}
+use Rattle.script_lines.specs.Colours.{is_byte, is_pixel}
 use Rattle.doc_model.specs.declared.canvas.Canvas.{Canvas}
 use Rattle.doc_model.specs.contracts.canvas.Canvas as canvas_row
 use Rattle.doc_model.specs.declared.job.Job.{Job}
@@ -13,7 +13,7 @@ use Rattle.doc_model.specs.declared.command.Command.{Command}
 use Rattle.doc_model.specs.contracts.command.Command as command_row
 use Rattle.doc_model.specs.declared.command.Command.TheVariants as command
 use Rattle.doc_model.specs.Strokes.{entries}
-use Rattle.doc_model.specs.Lawful.{lawful, is_closed_entry}
+use Rattle.doc_model.specs.Lawful.{lawful, is_closed_entry, checks, within_limits}
 
 -- the canvas and the commands of a script
 pub record Contents : Type 0 where
@@ -29,13 +29,6 @@ contents_code = code_by (Canvas × List Command) (coded× (canvas_row.the_row).c
 -- a node's number
 abbrev pub is_id : ℕ → Bool
 is_id n = nat_le 1 n && nat_le n 65535
-
-abbrev pub is_byte : ℕ → Bool
-is_byte n = nat_le n 255
-
--- whether the bytes are those of a pixel: all 0 where the alpha is 0
-abbrev pub is_pixel : Rgba → Bool
-is_pixel p = ((is_byte p.r && is_byte p.g) && (is_byte p.b && is_byte p.a)) && (if p.a == 0 then (p.r == 0 && p.g == 0) && p.b == 0 else true)
 
 -- whether the sides are within the limits and the paper is opaque
 abbrev pub in_limits : Canvas → Bool
@@ -73,6 +66,11 @@ in_range command.Undo = true
 in_range command.Redo = true
 in_range (command.Purge keep) = is_number keep
 in_range command.Export = true
+
+-- whether the job of a command meets the limits and lies in the world
+abbrev pub is_sound : Command → Bool
+is_sound (command.Add n kind job) = checks job && within_limits job
+is_sound c = true
 
 -- whether each stroke is closed
 abbrev pub all_closed : List Command → Bool

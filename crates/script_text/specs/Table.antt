@@ -11,7 +11,7 @@ use Rattle.script_text.specs.declared.draft.Fed.{Fed}
 
 abbrev pub is_open : Option Fed → Bool
 is_open None = false
-is_open (Some f) = f.open
+is_open (Some f) = f.live
 
 abbrev pub has_fewer : ℕ → Option Fed → Bool
 has_fewer k None = false
@@ -30,7 +30,7 @@ is_few (Some f) = nat_le f.jobs 4096
 -- what is kept tells of the stroke with that number
 pub record Tells (es : List Entry) (n : ℕ) (found : Option Fed) : Type 0 where
   pub started : list_any (is_stroke n) es ≡ is_some found
-  pub open : list_any (is_open_stroke n) es ≡ is_open found
+  pub live : list_any (is_open_stroke n) es ≡ is_open found
   pub room : (k : ℕ) → list_any (fewer k n) es ≡ has_fewer k found
   pub few : is_few found ≡ true
 
@@ -48,11 +48,11 @@ one_more (Some f) = Some (record f { jobs = f.jobs + 1 })
 
 abbrev pub closed : Option Fed → Option Fed
 closed None = None
-closed (Some f) = Some (record f { open = false })
+closed (Some f) = Some (record f { live = false })
 
 -- what is kept of that stroke after the command
 abbrev pub after : Option Fed → Command → Option Fed
-after found (command.Stroke n layer exclusive) = Some (record { open = true; jobs = 0 })
+after found (command.Stroke n layer exclusive) = Some (record { live = true; jobs = 0 })
 after found (command.Add n kind job) = one_more found
 after found (command.End n) = closed found
 after found (command.Cancel n) = closed found
@@ -67,6 +67,11 @@ at_number (Some n) m new old = if n == m then new else old
 abbrev pub next_fed : Command → ℕ → Option Fed → Option Fed
 next_fed c m old = at_number (stroke_of c) m (after old c) old
 
+-- how many exports there are after the command
+abbrev pub exports_after : ℕ → Command → ℕ
+exports_after n command.Export = n + 1
+exports_after n c = n
+
 -- why it can't be started, closed or given a job
 abbrev pub start_cause : Option Fed → Option Cause
 start_cause None = None
@@ -74,8 +79,8 @@ start_cause (Some f) = Some UsedAgain
 
 abbrev pub close_cause : Option Fed → Option Cause
 close_cause None = Some UnknownStroke
-close_cause (Some f) = if f.open then None else Some ClosedStroke
+close_cause (Some f) = if f.live then None else Some ClosedStroke
 
 abbrev pub job_cause : Option Fed → Option Cause
 job_cause None = Some UnknownStroke
-job_cause (Some f) = if f.open then (if nat_lt f.jobs 4096 then None else Some TooManyJobs) else Some ClosedStroke
+job_cause (Some f) = if f.live then (if nat_lt f.jobs 4096 then None else Some TooManyJobs) else Some ClosedStroke

@@ -2,14 +2,15 @@
 
 ghost use Rattle.std.specs.Prelude.{◌≡◌, [], ◌∷◌, ◌++◌, None, IfOk, IfSome, OnOk, ◌<◌, ◌≤◌};
 ghost use Rattle.std.specs.Prelude.{ℕ, true, length, if◌then◌else◌};
-ghost use Rattle.std.specs.List.{list_any};
+ghost use Rattle.std.specs.List.{list_any, list_all};
 ghost use Rattle.std.specs.Ordering.{nat_cmp};
 ghost use Rattle.std.specs.BTreeMap.{get};
 ghost use Rattle.doc_model.specs.Strokes.{entries};
-ghost use Rattle.doc_model.specs.Lawful.{is_open_stroke};
+ghost use Rattle.doc_model.specs.Lawful.{is_open_stroke, lawful};
+ghost use Rattle.script_text.specs.Script.{in_range, is_sound};
 ghost use Rattle.doc_model.specs.declared.command.Command.TheVariants.{Export};
 ghost use Rattle.script_text.specs.Following.{misfit as said_misfit};
-ghost use Rattle.script_text.specs.Table.{Tells, stroke_of as said_stroke, after as fed_after, start_cause as said_start, close_cause as said_close, job_cause as said_job, is_few, next_fed};
+ghost use Rattle.script_text.specs.Table.{Tells, stroke_of as said_stroke, after as fed_after, start_cause as said_start, close_cause as said_close, job_cause as said_job, is_few, next_fed, exports_after as count_after};
 
 use doc_model::Command;
 use geom_core::NoMemory;
@@ -21,7 +22,7 @@ use std::marker::Model;
 /// What is kept of a stroke.
 #[derive(Clone, Copy, Debug, PartialEq, Eq)]
 pub(crate) struct Fed {
-    open: bool,
+    live: bool,
     jobs: u32,
 }
 
@@ -62,7 +63,7 @@ fn close_cause(found: Option<Fed>) -> Option<Cause>
 {
     match found {
         None => Some(Cause::UnknownStroke),
-        Some(fed) if fed.open => None,
+        Some(fed) if fed.live => None,
         Some(_) => Some(Cause::ClosedStroke),
     }
 }
@@ -73,7 +74,7 @@ fn job_cause(found: Option<Fed>) -> Option<Cause>
 {
     match found {
         None => Some(Cause::UnknownStroke),
-        Some(fed) if !fed.open => Some(Cause::ClosedStroke),
+        Some(fed) if !fed.live => Some(Cause::ClosedStroke),
         Some(fed) if fed.jobs < 4096 => None,
         Some(_) => Some(Cause::TooManyJobs),
     }
@@ -99,18 +100,29 @@ fn after(found: Option<Fed>, command: &Command) -> Option<Fed>
 {
     match command {
         Command::Stroke { .. } => Some(Fed {
-            open: true,
+            live: true,
             jobs: 0,
         }),
         Command::Add { .. } => found.map(|fed| Fed {
-            open: fed.open,
+            live: fed.live,
             jobs: fed.jobs + 1,
         }),
         Command::End { .. } | Command::Cancel { .. } => found.map(|fed| Fed {
-            open: false,
+            live: false,
             jobs: fed.jobs,
         }),
         _ => found,
+    }
+}
+
+/// How many exports there are after the command.
+fn exports_after(exports: u32, command: &Command) -> u32
+    requires { exports ≤ 64 }
+    ensures { result ≡ count_after exports command.now }
+{
+    match command {
+        Command::Export => exports + 1,
+        _ => exports,
     }
 }
 
@@ -154,7 +166,7 @@ impl Draft {
     {
         match self.find(no) {
             None => false,
-            Some(fed) => fed.open,
+            Some(fed) => fed.live,
         }
     }
 
@@ -170,42 +182,39 @@ impl Draft {
     }
 
     /// Why the command can't be added.
+    #[tactic(auto, unfolding(crate::specs::Following::misfit))]
     pub(crate) fn misfit(&self, command: &Command) -> Option<Cause>
         ensures { result ≡ said_misfit (entries self.now) command.now }
     {
         match command {
             Command::Stroke { no, .. } => start_cause(self.find(*no)),
             Command::Add { no, .. } => job_cause(self.find(*no)),
-            Command::End { no } | Command::Cancel { no } => close_cause(self.find(*no)),
+            Command::End { no } => close_cause(self.find(*no)),
+            Command::Cancel { no } => close_cause(self.find(*no)),
             Command::Export => self.export_cause(),
-            _ => None,
+            Command::Change(_) | Command::Undo | Command::Redo | Command::Purge { .. } => None,
         }
     }
 
     /// The commands with one more.
     pub(crate) fn add(self, command: Command) -> Result<Draft, NoMemory>
-        requires { said_misfit (entries self) command ≡ None }
+        requires fits { said_misfit (entries self) command ≡ None }
+        requires ranges { in_range command ≡ true }
+        requires sound { is_sound command ≡ true }
         ensures { IfOk result (λ d. d ≡ self ++ command ∷ []) }
     {
         let mut draft = self;
         keep(&mut draft.strokes, &command)?;
-        if command == Command::Export {
-            draft.exports += 1;
-        }
+        draft.exports = exports_after(draft.exports, &command);
         add_last(&mut draft.commands, command)?;
         Ok(draft)
     }
 
-    /// The commands.
-    pub(crate) fn commands(&self) -> &[Command]
-        ensures { result.now ≡ self.now }
-    {
-        &self.commands
-    }
-
     /// The commands, and no more.
     pub(crate) fn into_commands(self) -> Vec<Command>
-        ensures { result.items ≡ self }
+        ensures items { result.items ≡ self }
+        ensures ranges { list_all in_range self ≡ true }
+        ensures lawful { lawful self ≡ true }
     {
         self.commands
     }

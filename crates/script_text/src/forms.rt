@@ -1,7 +1,8 @@
 //! What each line says by itself.
 
-ghost use Rattle.std.specs.Prelude.{◌≡◌, [], ◌∷◌};
+ghost use Rattle.std.specs.Prelude.{◌≡◌, [], ◌∷◌, nat_le, ◌&&◌, true, IfOk};
 ghost use Rattle.script_lines.specs.Lines.{pointed};
+ghost use Rattle.script_text.specs.Script.{in_limits, is_spot, is_number, change_in_range, in_range, is_sound};
 ghost use Rattle.script_text.specs.Forms.{sides as told_sides, canvas as told_canvas, spot as told_spot, layer as told_layer, group as told_group, remove as told_remove, place as told_place, look as told_look, stroke as told_stroke, one_number as told_number, alone as told_alone, command_of as told_command};
 
 use crate::jobs::paint;
@@ -12,7 +13,9 @@ use script_lines::{Cause, natural, rgb, rgba};
 
 #[tactic(auto, unfolding(crate::specs::Forms::sides))]
 fn sides(width: &[u8], height: &[u8]) -> Result<(u16, u16), Cause>
-    ensures { result ≡ told_sides width.now height.now }
+    ensures value { result ≡ told_sides width.now height.now }
+    ensures w { IfOk result (λ s. (nat_le 1 s.0 && nat_le s.0 2048) ≡ true) }
+    ensures h { IfOk result (λ s. (nat_le 1 s.1 && nat_le s.1 2048) ≡ true) }
 {
     let w = natural(1, 2048, width)? as u16;
     let h = natural(1, 2048, height)? as u16;
@@ -21,7 +24,8 @@ fn sides(width: &[u8], height: &[u8]) -> Result<(u16, u16), Cause>
 
 #[tactic(auto, unfolding(crate::specs::Forms::canvas))]
 fn white_canvas(width: &[u8], height: &[u8]) -> Result<Canvas, Cause>
-    ensures { result ≡ told_canvas (width.now ∷ height.now ∷ []) }
+    ensures value { result ≡ told_canvas (width.now ∷ height.now ∷ []) }
+    ensures limits { IfOk result (λ c. in_limits c ≡ true) }
 {
     let (w, h) = sides(width, height)?;
     let paper = Pixel::new(255, 255, 255, 255);
@@ -30,7 +34,8 @@ fn white_canvas(width: &[u8], height: &[u8]) -> Result<Canvas, Cause>
 
 #[tactic(auto, unfolding(crate::specs::Forms::canvas))]
 fn coloured_canvas(width: &[u8], height: &[u8], colour: &[u8]) -> Result<Canvas, Cause>
-    ensures { result ≡ told_canvas (width.now ∷ height.now ∷ colour.now ∷ []) }
+    ensures value { result ≡ told_canvas (width.now ∷ height.now ∷ colour.now ∷ []) }
+    ensures limits { IfOk result (λ c. in_limits c ≡ true) }
 {
     let (w, h) = sides(width, height)?;
     let paper = rgb(colour)?;
@@ -40,7 +45,8 @@ fn coloured_canvas(width: &[u8], height: &[u8], colour: &[u8]) -> Result<Canvas,
 /// The canvas, on white paper unless its colour is told.
 #[tactic(auto, unfolding(crate::specs::Forms::canvas))]
 pub(crate) fn canvas(fields: &[&[u8]]) -> Result<Canvas, Cause>
-    ensures { result ≡ told_canvas (pointed fields.now) }
+    ensures value { result ≡ told_canvas (pointed fields.now) }
+    ensures limits { IfOk result (λ c. in_limits c ≡ true) }
 {
     match fields {
         [width, height] => white_canvas(width, height),
@@ -52,7 +58,8 @@ pub(crate) fn canvas(fields: &[&[u8]]) -> Result<Canvas, Cause>
 /// A node, the group above it, and its place there.
 #[tactic(auto, unfolding(crate::specs::Forms::spot))]
 fn spot(id: &[u8], parent: &[u8], place: &[u8]) -> Result<(u16, u16, u8), Cause>
-    ensures { result ≡ told_spot id.now parent.now place.now }
+    ensures value { result ≡ told_spot id.now parent.now place.now }
+    ensures ranges { IfOk result (λ s. is_spot s.0 s.1 s.2 ≡ true) }
 {
     let id = natural(1, 65535, id)? as u16;
     let parent = natural(0, 65535, parent)? as u16;
@@ -62,7 +69,8 @@ fn spot(id: &[u8], parent: &[u8], place: &[u8]) -> Result<(u16, u16, u8), Cause>
 
 #[tactic(auto, unfolding(crate::specs::Forms::layer))]
 fn clear_layer(id: &[u8], parent: &[u8], place: &[u8]) -> Result<Change, Cause>
-    ensures { result ≡ told_layer (id.now ∷ parent.now ∷ place.now ∷ []) }
+    ensures value { result ≡ told_layer (id.now ∷ parent.now ∷ place.now ∷ []) }
+    ensures ranges { IfOk result (λ c. change_in_range c ≡ true) }
 {
     let (id, parent, place) = spot(id, parent, place)?;
     let ground = Pixel::CLEAR;
@@ -81,7 +89,8 @@ fn coloured_layer(
     place: &[u8],
     colour: &[u8],
 ) -> Result<Change, Cause>
-    ensures { result ≡ told_layer (id.now ∷ parent.now ∷ place.now ∷ colour.now ∷ []) }
+    ensures value { result ≡ told_layer (id.now ∷ parent.now ∷ place.now ∷ colour.now ∷ []) }
+    ensures ranges { IfOk result (λ c. change_in_range c ≡ true) }
 {
     let (id, parent, place) = spot(id, parent, place)?;
     let ground = rgba(colour)?;
@@ -96,7 +105,8 @@ fn coloured_layer(
 /// A paint layer, clear unless its default pixel is told.
 #[tactic(auto, unfolding(crate::specs::Forms::layer))]
 fn layer(fields: &[&[u8]]) -> Result<Change, Cause>
-    ensures { result ≡ told_layer (pointed fields.now) }
+    ensures value { result ≡ told_layer (pointed fields.now) }
+    ensures ranges { IfOk result (λ c. change_in_range c ≡ true) }
 {
     match fields {
         [id, parent, place] => clear_layer(id, parent, place),
@@ -107,7 +117,8 @@ fn layer(fields: &[&[u8]]) -> Result<Change, Cause>
 
 #[tactic(auto, unfolding(crate::specs::Forms::group))]
 fn group(fields: &[&[u8]]) -> Result<Change, Cause>
-    ensures { result ≡ told_group (pointed fields.now) }
+    ensures value { result ≡ told_group (pointed fields.now) }
+    ensures ranges { IfOk result (λ c. change_in_range c ≡ true) }
 {
     match fields {
         [id, parent, place] => {
@@ -120,7 +131,8 @@ fn group(fields: &[&[u8]]) -> Result<Change, Cause>
 
 #[tactic(auto, unfolding(crate::specs::Forms::remove))]
 fn remove(fields: &[&[u8]]) -> Result<Change, Cause>
-    ensures { result ≡ told_remove (pointed fields.now) }
+    ensures value { result ≡ told_remove (pointed fields.now) }
+    ensures ranges { IfOk result (λ c. change_in_range c ≡ true) }
 {
     match fields {
         [id] => {
@@ -133,7 +145,8 @@ fn remove(fields: &[&[u8]]) -> Result<Change, Cause>
 
 #[tactic(auto, unfolding(crate::specs::Forms::place))]
 fn place(fields: &[&[u8]]) -> Result<Change, Cause>
-    ensures { result ≡ told_place (pointed fields.now) }
+    ensures value { result ≡ told_place (pointed fields.now) }
+    ensures ranges { IfOk result (λ c. change_in_range c ≡ true) }
 {
     match fields {
         [id, parent, at] => {
@@ -146,7 +159,8 @@ fn place(fields: &[&[u8]]) -> Result<Change, Cause>
 
 #[tactic(auto, unfolding(crate::specs::Forms::look))]
 fn look_of(id: &[u8], opacity: &[u8], operation: &[u8], seen: &[u8]) -> Result<Change, Cause>
-    ensures { result ≡ told_look (id.now ∷ opacity.now ∷ operation.now ∷ seen.now ∷ []) }
+    ensures value { result ≡ told_look (id.now ∷ opacity.now ∷ operation.now ∷ seen.now ∷ []) }
+    ensures ranges { IfOk result (λ c. change_in_range c ≡ true) }
 {
     let id = natural(1, 65535, id)? as u16;
     let opacity = natural(0, 255, opacity)? as u8;
@@ -162,7 +176,8 @@ fn look_of(id: &[u8], opacity: &[u8], operation: &[u8], seen: &[u8]) -> Result<C
 
 #[tactic(auto, unfolding(crate::specs::Forms::look))]
 fn look(fields: &[&[u8]]) -> Result<Change, Cause>
-    ensures { result ≡ told_look (pointed fields.now) }
+    ensures value { result ≡ told_look (pointed fields.now) }
+    ensures ranges { IfOk result (λ c. change_in_range c ≡ true) }
 {
     match fields {
         [id, opacity, operation, seen] => look_of(id, opacity, operation, seen),
@@ -172,7 +187,9 @@ fn look(fields: &[&[u8]]) -> Result<Change, Cause>
 
 #[tactic(auto, unfolding(crate::specs::Forms::stroke))]
 fn shared_stroke(number: &[u8], on: &[u8]) -> Result<Command, Cause>
-    ensures { result ≡ told_stroke (number.now ∷ on.now ∷ []) }
+    ensures value { result ≡ told_stroke (number.now ∷ on.now ∷ []) }
+    ensures ranges { IfOk result (λ c. in_range c ≡ true) }
+    ensures sound { IfOk result (λ c. is_sound c ≡ true) }
 {
     let no = natural(0, 4294967295, number)? as u32;
     let layer = natural(1, 65535, on)? as u16;
@@ -186,7 +203,9 @@ fn shared_stroke(number: &[u8], on: &[u8]) -> Result<Command, Cause>
 
 #[tactic(auto, unfolding(crate::specs::Forms::stroke))]
 fn exclusive_stroke(number: &[u8], on: &[u8], mark: &[u8]) -> Result<Command, Cause>
-    ensures { result ≡ told_stroke (number.now ∷ on.now ∷ mark.now ∷ []) }
+    ensures value { result ≡ told_stroke (number.now ∷ on.now ∷ mark.now ∷ []) }
+    ensures ranges { IfOk result (λ c. in_range c ≡ true) }
+    ensures sound { IfOk result (λ c. is_sound c ≡ true) }
 {
     let no = natural(0, 4294967295, number)? as u32;
     let layer = natural(1, 65535, on)? as u16;
@@ -201,7 +220,9 @@ fn exclusive_stroke(number: &[u8], on: &[u8], mark: &[u8]) -> Result<Command, Ca
 /// The start of a stroke, exclusive where a mark says so.
 #[tactic(auto, unfolding(crate::specs::Forms::stroke))]
 fn stroke(fields: &[&[u8]]) -> Result<Command, Cause>
-    ensures { result ≡ told_stroke (pointed fields.now) }
+    ensures value { result ≡ told_stroke (pointed fields.now) }
+    ensures ranges { IfOk result (λ c. in_range c ≡ true) }
+    ensures sound { IfOk result (λ c. is_sound c ≡ true) }
 {
     match fields {
         [number, on] => shared_stroke(number, on),
@@ -213,7 +234,8 @@ fn stroke(fields: &[&[u8]]) -> Result<Command, Cause>
 /// The one number of a line.
 #[tactic(auto, unfolding(crate::specs::Forms::one_number))]
 fn one_number(fields: &[&[u8]]) -> Result<u32, Cause>
-    ensures { result ≡ told_number (pointed fields.now) }
+    ensures value { result ≡ told_number (pointed fields.now) }
+    ensures range { IfOk result (λ n. is_number n ≡ true) }
 {
     match fields {
         [number] => Ok(natural(0, 4294967295, number)? as u32),
@@ -223,7 +245,11 @@ fn one_number(fields: &[&[u8]]) -> Result<u32, Cause>
 
 /// A command that is its word alone.
 fn alone(command: Command, fields: &[&[u8]]) -> Result<Command, Cause>
-    ensures { result ≡ told_alone command (pointed fields.now) }
+    requires ranges { in_range command ≡ true }
+    requires sound { is_sound command ≡ true }
+    ensures value { result ≡ told_alone command (pointed fields.now) }
+    ensures ranges { IfOk result (λ c. in_range c ≡ true) }
+    ensures sound { IfOk result (λ c. is_sound c ≡ true) }
 {
     if fields.is_empty() {
         Ok(command)
@@ -235,7 +261,9 @@ fn alone(command: Command, fields: &[&[u8]]) -> Result<Command, Cause>
 /// The command of a line, behind its word.
 #[tactic(auto, unfolding(crate::specs::Forms::command_of))]
 pub(crate) fn command_of(word: Word, fields: &[&[u8]]) -> Result<Command, Cause>
-    ensures { result ≡ told_command word (pointed fields.now) }
+    ensures value { result ≡ told_command word (pointed fields.now) }
+    ensures ranges { IfOk result (λ c. in_range c ≡ true) }
+    ensures sound { IfOk result (λ c. is_sound c ≡ true) }
 {
     match word {
         Word::Layer => Ok(Command::Change(layer(fields)?)),

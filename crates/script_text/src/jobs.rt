@@ -1,10 +1,13 @@
 //! Lines that add a job to a stroke.
 
-ghost use Rattle.std.specs.Prelude.{◌≡◌, ◌≤◌, pos, negsuc, ◌≤ℤ◌, ◌+◌, ◌*◌, ◌-ℤ◌, IfOk, [], ◌∷◌};
+ghost use Rattle.std.specs.Prelude.{◌≡◌, true, ◌&&◌, ◌≤◌, pos, negsuc, ◌≤ℤ◌, ◌+◌, ◌*◌, ◌-ℤ◌, IfOk, [], ◌∷◌};
 ghost use Rattle.geom_core.specs.Areas.{area, lies_in, world, moved};
 ghost use Rattle.doc_model.specs.declared.job.Job.TheVariants.{Fill, Dab, Move, Blur};
 ghost use Rattle.doc_model.specs.Jobs.{square, grown};
 ghost use Rattle.script_lines.specs.Lines.{pointed};
+ghost use Rattle.script_lines.specs.Colours.{is_pixel, is_byte};
+ghost use Rattle.doc_model.specs.Lawful.{checks, within_limits};
+ghost use Rattle.script_text.specs.Script.{job_in_range, in_range, is_sound};
 ghost use Rattle.script_text.specs.Jobs.{outline as told_outline, IsOutline, ink as told_ink, tip as told_tip, IsTip, fill as told_fill, dab as told_dab, move_by as told_move, blur as told_blur, job_of as told_job, job_fields as fields_of_job, paint as told_paint, in_world, area_of, checked};
 
 use crate::words::{Work, edge_of, kind_of, op_of};
@@ -53,7 +56,9 @@ fn read_outline(left: &[u8], top: &[u8], width: &[u8], height: &[u8]) -> Result<
 
 #[tactic(auto, unfolding(crate::specs::Jobs::ink))]
 fn read_ink(colour: &[u8], operation: &[u8], strength: &[u8]) -> Result<Ink, Cause>
-    ensures { result ≡ told_ink colour.now operation.now strength.now }
+    ensures value { result ≡ told_ink colour.now operation.now strength.now }
+    ensures colour { IfOk result (λ i. is_pixel i.colour ≡ true) }
+    ensures strength { IfOk result (λ i. is_byte i.strength ≡ true) }
 {
     let colour = rgba(colour)?;
     let op = op_of(operation)?;
@@ -133,8 +138,12 @@ fn grown_rect(inner: &Rect, r: u8) -> Result<Rect, Cause>
 
 /// A fill, where the world holds its rectangle.
 fn fill_of(o: Outline, i: Ink) -> Result<Job, Cause>
-    requires { IsOutline o }
-    ensures { result ≡ checked (Fill (area_of o) i.colour i.op i.strength) }
+    requires o { IsOutline o }
+    requires colour { is_pixel i.colour ≡ true }
+    requires strength { is_byte i.strength ≡ true }
+    ensures value { result ≡ checked (Fill (area_of o) i.colour i.op i.strength) }
+    ensures ranges { IfOk result (λ j. job_in_range j ≡ true) }
+    ensures sound { IfOk result (λ j. (checks j && within_limits j) ≡ true) }
 {
     let Ink {
         colour,
@@ -154,8 +163,12 @@ fn fill_of(o: Outline, i: Ink) -> Result<Job, Cause>
 
 /// A dab, where the world holds its square.
 fn dab_of(t: Tip, i: Ink) -> Result<Job, Cause>
-    requires { IsTip t }
-    ensures { result ≡ checked (Dab t.x t.y t.r t.soft i.colour i.op i.strength) }
+    requires t { IsTip t }
+    requires colour { is_pixel i.colour ≡ true }
+    requires strength { is_byte i.strength ≡ true }
+    ensures value { result ≡ checked (Dab t.x t.y t.r t.soft i.colour i.op i.strength) }
+    ensures ranges { IfOk result (λ j. job_in_range j ≡ true) }
+    ensures sound { IfOk result (λ j. (checks j && within_limits j) ≡ true) }
 {
     let Tip { x, y, r, soft } = t;
     let Ink {
@@ -182,7 +195,9 @@ fn move_of(o: Outline, dx: i32, dy: i32) -> Result<Job, Cause>
     requires o { IsOutline o }
     requires dx { negsuc 32766 ≤ℤ dx × dx ≤ℤ pos 32767 }
     requires dy { negsuc 32766 ≤ℤ dy × dy ≤ℤ pos 32767 }
-    ensures { result ≡ checked (Move (area_of o) dx dy) }
+    ensures value { result ≡ checked (Move (area_of o) dx dy) }
+    ensures ranges { IfOk result (λ j. job_in_range j ≡ true) }
+    ensures sound { IfOk result (λ j. (checks j && within_limits j) ≡ true) }
 {
     let rect = outline_rect(o)?;
     moved_rect(&rect, dx, dy)?;
@@ -192,8 +207,10 @@ fn move_of(o: Outline, dx: i32, dy: i32) -> Result<Job, Cause>
 /// A blur by `r`, where the world holds all that it reads.
 fn blur_of(o: Outline, r: u8) -> Result<Job, Cause>
     requires o { IsOutline o }
-    requires r { r ≤ 16 }
-    ensures { result ≡ checked (Blur (area_of o) r) }
+    requires r { 1 ≤ r × r ≤ 16 }
+    ensures value { result ≡ checked (Blur (area_of o) r) }
+    ensures ranges { IfOk result (λ j. job_in_range j ≡ true) }
+    ensures sound { IfOk result (λ j. (checks j && within_limits j) ≡ true) }
 {
     let rect = outline_rect(o)?;
     grown_rect(&rect, r)?;
@@ -210,7 +227,9 @@ fn fill_fields(
     operation: &[u8],
     strength: &[u8],
 ) -> Result<Job, Cause>
-    ensures { result ≡ told_fill (left.now ∷ top.now ∷ width.now ∷ height.now ∷ colour.now ∷ operation.now ∷ strength.now ∷ []) }
+    ensures value { result ≡ told_fill (left.now ∷ top.now ∷ width.now ∷ height.now ∷ colour.now ∷ operation.now ∷ strength.now ∷ []) }
+    ensures ranges { IfOk result (λ j. job_in_range j ≡ true) }
+    ensures sound { IfOk result (λ j. (checks j && within_limits j) ≡ true) }
 {
     let o = read_outline(left, top, width, height)?;
     let i = read_ink(colour, operation, strength)?;
@@ -219,7 +238,9 @@ fn fill_fields(
 
 #[tactic(auto, unfolding(crate::specs::Jobs::fill))]
 fn fill(fields: &[&[u8]]) -> Result<Job, Cause>
-    ensures { result ≡ told_fill (pointed fields.now) }
+    ensures value { result ≡ told_fill (pointed fields.now) }
+    ensures ranges { IfOk result (λ j. job_in_range j ≡ true) }
+    ensures sound { IfOk result (λ j. (checks j && within_limits j) ≡ true) }
 {
     match fields {
         [left, top, width, height, colour, operation, strength] => {
@@ -239,7 +260,9 @@ fn dab_fields(
     operation: &[u8],
     strength: &[u8],
 ) -> Result<Job, Cause>
-    ensures { result ≡ told_dab (left.now ∷ top.now ∷ radius.now ∷ edge.now ∷ colour.now ∷ operation.now ∷ strength.now ∷ []) }
+    ensures value { result ≡ told_dab (left.now ∷ top.now ∷ radius.now ∷ edge.now ∷ colour.now ∷ operation.now ∷ strength.now ∷ []) }
+    ensures ranges { IfOk result (λ j. job_in_range j ≡ true) }
+    ensures sound { IfOk result (λ j. (checks j && within_limits j) ≡ true) }
 {
     let t = read_tip(left, top, radius, edge)?;
     let i = read_ink(colour, operation, strength)?;
@@ -248,7 +271,9 @@ fn dab_fields(
 
 #[tactic(auto, unfolding(crate::specs::Jobs::dab))]
 fn dab(fields: &[&[u8]]) -> Result<Job, Cause>
-    ensures { result ≡ told_dab (pointed fields.now) }
+    ensures value { result ≡ told_dab (pointed fields.now) }
+    ensures ranges { IfOk result (λ j. job_in_range j ≡ true) }
+    ensures sound { IfOk result (λ j. (checks j && within_limits j) ≡ true) }
 {
     match fields {
         [left, top, radius, edge, colour, operation, strength] => {
@@ -267,7 +292,9 @@ fn move_fields(
     columns: &[u8],
     rows: &[u8],
 ) -> Result<Job, Cause>
-    ensures { result ≡ told_move (left.now ∷ top.now ∷ width.now ∷ height.now ∷ columns.now ∷ rows.now ∷ []) }
+    ensures value { result ≡ told_move (left.now ∷ top.now ∷ width.now ∷ height.now ∷ columns.now ∷ rows.now ∷ []) }
+    ensures ranges { IfOk result (λ j. job_in_range j ≡ true) }
+    ensures sound { IfOk result (λ j. (checks j && within_limits j) ≡ true) }
 {
     let o = read_outline(left, top, width, height)?;
     let dx = number_in(-32767, 32767, columns)?;
@@ -277,7 +304,9 @@ fn move_fields(
 
 #[tactic(auto, unfolding(crate::specs::Jobs::move_by))]
 fn move_by(fields: &[&[u8]]) -> Result<Job, Cause>
-    ensures { result ≡ told_move (pointed fields.now) }
+    ensures value { result ≡ told_move (pointed fields.now) }
+    ensures ranges { IfOk result (λ j. job_in_range j ≡ true) }
+    ensures sound { IfOk result (λ j. (checks j && within_limits j) ≡ true) }
 {
     match fields {
         [left, top, width, height, columns, rows] => {
@@ -295,7 +324,9 @@ fn blur_fields(
     height: &[u8],
     radius: &[u8],
 ) -> Result<Job, Cause>
-    ensures { result ≡ told_blur (left.now ∷ top.now ∷ width.now ∷ height.now ∷ radius.now ∷ []) }
+    ensures value { result ≡ told_blur (left.now ∷ top.now ∷ width.now ∷ height.now ∷ radius.now ∷ []) }
+    ensures ranges { IfOk result (λ j. job_in_range j ≡ true) }
+    ensures sound { IfOk result (λ j. (checks j && within_limits j) ≡ true) }
 {
     let o = read_outline(left, top, width, height)?;
     let r = natural(1, 16, radius)? as u8;
@@ -304,7 +335,9 @@ fn blur_fields(
 
 #[tactic(auto, unfolding(crate::specs::Jobs::blur))]
 fn blur(fields: &[&[u8]]) -> Result<Job, Cause>
-    ensures { result ≡ told_blur (pointed fields.now) }
+    ensures value { result ≡ told_blur (pointed fields.now) }
+    ensures ranges { IfOk result (λ j. job_in_range j ≡ true) }
+    ensures sound { IfOk result (λ j. (checks j && within_limits j) ≡ true) }
 {
     match fields {
         [left, top, width, height, radius] => blur_fields(left, top, width, height, radius),
@@ -325,7 +358,9 @@ fn job_fields(work: Work) -> usize
 
 #[tactic(auto, unfolding(crate::specs::Jobs::job_of))]
 fn job_of(work: Work, fields: &[&[u8]]) -> Result<Job, Cause>
-    ensures { result ≡ told_job work (pointed fields.now) }
+    ensures value { result ≡ told_job work (pointed fields.now) }
+    ensures ranges { IfOk result (λ j. job_in_range j ≡ true) }
+    ensures sound { IfOk result (λ j. (checks j && within_limits j) ≡ true) }
 {
     match work {
         Work::Fill => fill(fields),
@@ -338,7 +373,9 @@ fn job_of(work: Work, fields: &[&[u8]]) -> Result<Job, Cause>
 /// A job of a stroke.
 #[tactic(auto, unfolding(crate::specs::Jobs::paint))]
 pub(crate) fn paint(work: Work, fields: &[&[u8]]) -> Result<Command, Cause>
-    ensures { result ≡ told_paint work (pointed fields.now) }
+    ensures value { result ≡ told_paint work (pointed fields.now) }
+    ensures ranges { IfOk result (λ c. in_range c ≡ true) }
+    ensures sound { IfOk result (λ c. is_sound c ≡ true) }
 {
     match fields {
         [number, kind, others @ ..] => {

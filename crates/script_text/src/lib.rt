@@ -4,8 +4,9 @@
 mod draft;
 mod forms;
 mod jobs;
+mod reading;
 mod script;
 mod words;
 
-pub use script::ScriptFault;
+pub use script::{MakeRefusal, ReadRefusal, Script, ScriptFault};
 pub use script_lines::Cause;
