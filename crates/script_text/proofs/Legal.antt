@@ -4,12 +4,13 @@ use Rattle.std.specs.List.{list_any, list_all}
 use Rattle.std.proofs.lemmas.List.Folds.{list_all-append}
 use Rattle.doc_model.specs.declared.command.Command.{Command}
 use Rattle.doc_model.specs.declared.command.Command.TheVariants as command
+use Rattle.doc_model.specs.declared.canvas.Canvas.{Canvas}
 use Rattle.doc_model.specs.Strokes.{Entry, fed, all_fed, entries}
 use Rattle.doc_model.specs.Lawful.{is_stroke, is_open_stroke, has_room, is_export, may_follow, lawful_after, lawful}
 use Rattle.script_lines.specs.declared.cause.Cause.{Cause}
 use Rattle.script_lines.specs.declared.cause.Cause.TheVariants.{UsedAgain, UnknownStroke, ClosedStroke, TooManyJobs, TooManyExports}
 use Rattle.script_text.specs.Following.{misfit, not_open, or_else}
-use Rattle.script_text.specs.Script.{in_range, is_sound}
+use Rattle.script_text.specs.Script.{in_range, is_sound, is_script, contents, in_limits, all_closed}
 
 free : (a : Bool) → (if a then Some UsedAgain else None) ≡ None → not a ≡ true
 free true h = absurd (cc (h))
@@ -69,3 +70,11 @@ lawful_more cs c l f s = lawful_after-append [] cs c ∙ rw (l, follows (entries
 
 pub ranges_more : (cs : List Command) (c : Command) → list_all in_range cs ≡ true → in_range c ≡ true → list_all in_range (cs ++ c ∷ []) ≡ true
 ranges_more cs c h k = list_all-append in_range cs (c ∷ []) ∙ rw (h, k) refl
+
+-- the four parts of a script
+pub is_script_by : (c : Canvas) (cs : List Command) → in_limits c ≡ true → list_all in_range cs ≡ true → lawful cs ≡ true → all_closed cs ≡ true → is_script (contents c cs) ≡ true
+unfolding is_script
+is_script_by c cs a b d e = four (in_limits c) (list_all in_range cs) (lawful cs) (all_closed cs) a b d e
+  where
+    four : (p q r s : Bool) → p ≡ true → q ≡ true → r ≡ true → s ≡ true → ((p && q) && (r && s)) ≡ true
+    four p q r s h k l m = rw (h, k, l, m) refl

@@ -104,15 +104,19 @@ start_by n c = None
 abbrev pub starts_of : List NumberedLine → List Start
 starts_of before = filter_map (λ l. start_by l.number (command_in l.fields)) before
 
--- the fault of the first stroke that is still open among the entries
-unfoldable pub left_open : List Entry → List Start → Option ScriptFault
+-- the line of the first stroke that is still open among the entries
+abbrev pub left_open : List Entry → List Start → Option ℕ
 left_open es [] = None
-left_open es (s ∷ others) = if list_any (is_open_stroke s.no) es then Some (record { line = s.line; cause = StrokeLeft }) else left_open es others
+left_open es (s ∷ others) = if list_any (is_open_stroke s.no) es then Some s.line else left_open es others
+
+abbrev pub left_fault : Option ℕ → Option ScriptFault
+left_fault None = None
+left_fault (Some n) = Some (record { line = n; cause = StrokeLeft })
 
 -- what is wrong where no line is
 abbrev pub end_by : Option Canvas → List Command → List Start → Option ScriptFault
 end_by None commands starts = Some (record { line = 1; cause = CanvasMissing })
-end_by (Some c) commands starts = left_open (entries commands) starts
+end_by (Some c) commands starts = left_fault (left_open (entries commands) starts)
 
 abbrev pub end_fault : List NumberedLine → Option ScriptFault
 end_fault before = end_by (canvas_of before) (commands_of before) (starts_of before)

@@ -8,5 +8,6 @@ mod reading;
 mod script;
 mod words;
 
+pub use reading::read;
 pub use script::{MakeRefusal, ReadRefusal, Script, ScriptFault};
 pub use script_lines::Cause;

@@ -7,8 +7,8 @@ ghost use Rattle.doc_model.specs.Strokes.{entries};
 ghost use Rattle.script_text.specs.Script.{in_range, is_sound};
 ghost use Rattle.script_text.specs.Forms.{canvas as said_canvas};
 ghost use Rattle.script_text.specs.Following.{misfit};
-ghost use Rattle.script_text.specs.Reading.{canvas_cause, word_cause, command_cause, cause_by, canvas_in, command_in, command_by, given, first_canvas, start_by, left_open, end_by};
-ghost use Rattle.script_text.specs.Read.{refusal, IsRefused, Takes, TakesCommand};
+ghost use Rattle.script_text.specs.Reading.{canvas_cause, word_cause, command_cause, cause_by, canvas_in, command_in, command_by, given, first_canvas, start_by, left_open, end_by, contents_by, fault, script};
+ghost use Rattle.script_text.specs.Read.{refusal, IsRefused, Fits, StartsAre, Answers, Takes, TakesCommand};
 
 use crate::draft::{Draft, add_last};
 use crate::forms::{canvas, command_of};
@@ -65,11 +65,13 @@ impl Reading {
 
     /// A canvas line, behind its word.
     fn take_canvas(self, number: u32, others: &[&[u8]]) -> Result<Reading, ReadRefusal>
+        requires { Fits self.canvas }
         ensures refused { IsRefused result number (canvas_cause self.canvas (pointed others.now)) }
         ensures canvas { IfOk result (λ r. r.canvas ≡ given (said_canvas (pointed others.now))) }
         ensures draft { IfOk result (λ r. r.draft ≡ self.draft) }
         ensures starts { IfOk result (λ r. r.starts ≡ self.starts) }
         ensures first { OnOk result (self.canvas ≡ None) }
+        ensures fits { IfOk result (λ r. Fits r.canvas) }
     {
         if self.canvas.is_some() {
             return Err(at(number, Cause::CanvasAgain));
@@ -131,8 +133,10 @@ impl Reading {
     /// A line that is a command.
     #[tactic(auto, unfolding(crate::specs::Reading::cause_by))]
     fn take(self, number: u32, fields: &[&[u8]]) -> Result<Reading, ReadRefusal>
+        requires { Fits self.canvas }
         ensures refused { IsRefused result number (cause_by self.canvas self.draft (pointed fields.now)) }
         ensures taken { IfOk result (λ r. Takes self r number (pointed fields.now)) }
+        ensures fits { IfOk result (λ r. Fits r.canvas) }
     {
         match fields {
             [] => Ok(self),
@@ -150,7 +154,7 @@ impl Reading {
 impl Reading {
     /// The line of the first stroke that is still open.
     fn left_open(&self) -> Option<u32>
-        ensures { option_map (λ n. fault_at n StrokeLeft) result ≡ left_open (entries self.now.draft) self.now.starts.items }
+        ensures { result ≡ left_open (entries self.now.draft) self.now.starts.items }
     {
         for i in 0..self.starts.len() {
             let start = self.starts[i];
@@ -160,4 +164,37 @@ impl Reading {
         }
         None
     }
+
+    /// The script, where a canvas was read and all strokes are closed.
+    fn finish(self) -> Result<Script, ReadRefusal>
+        requires fits { Fits self.canvas }
+        requires starts { StartsAre self.starts.items self.draft }
+        ensures { Answers result (end_by self.canvas self.draft self.starts.items) (contents_by self.canvas self.draft) }
+    {
+        let left = self.left_open();
+        let Reading { canvas, draft, .. } = self;
+        let Some(canvas) = canvas else {
+            return Err(at(1, Cause::CanvasMissing));
+        };
+        match left {
+            Some(line) => Err(at(line, Cause::StrokeLeft)),
+            None => Ok(Script::from_parts(canvas, draft.into_commands())),
+        }
+    }
+}
+
+/// The script that the bytes spell, or the first fault of its lines.
+pub fn read(alloc: Global, bytes: &[u8]) -> Result<Script, ReadRefusal>
+    requires { length bytes.now < 4294967295 }
+    ensures { Answers result (fault bytes.now) (script bytes.now) }
+{
+    let lines = lines_of(alloc, bytes)?;
+    let mut reading = Reading::new(alloc);
+    for i in 0..lines.len() {
+        let fields = fields_of(alloc, lines[i])?;
+        if is_command(&fields) {
+            reading = reading.take(i as u32 + 1, &fields)?;
+        }
+    }
+    reading.finish()
 }

@@ -1,6 +1,7 @@
 //! Scripts, and why bytes or commands aren't one.
 
-ghost use Rattle.std.specs.Prelude.{◌≡◌};
+ghost use Rattle.std.specs.Prelude.{◌≡◌, ◌<◌, ◌==◌, Some, true, length, slice_get};
+ghost use Rattle.script_text.specs.Script.{contents, is_script};
 ghost use Rattle.script_text.specs.declared.script.ReadRefusal.TheVariants.{NoMemory};
 
 use doc_model::{Canvas, Command};
@@ -55,6 +56,53 @@ impl Model for Script {
     ghost view = { λ s. contents s.canvas s.commands.items };
 
     ghost invariant = { λ s. is_script (contents s.canvas s.commands.items) ≡ true };
+}
+
+impl Script {
+    /// A canvas and commands that are a script.
+    pub(crate) fn from_parts(canvas: Canvas, commands: Vec<Command>) -> Script
+        requires { is_script (contents canvas commands.items) ≡ true }
+        ensures { result ≡ contents canvas commands.items }
+    {
+        Script { canvas, commands }
+    }
+
+    /// The canvas.
+    pub fn canvas(&self) -> Canvas
+        ensures { result ≡ self.now.canvas }
+    {
+        self.canvas
+    }
+
+    /// How many commands there are.
+    pub fn len(&self) -> usize
+        ensures { result ≡ length self.now.commands }
+    {
+        self.commands.len()
+    }
+
+    /// Whether there are no commands.
+    pub fn is_empty(&self) -> bool
+        ensures { result ≡ (length self.now.commands == 0) }
+    {
+        self.commands.is_empty()
+    }
+
+    /// The command at place `i`, from 0 on.
+    pub fn command(&self, i: usize) -> &Command
+        requires { i < length self.now.commands }
+        ensures { slice_get self.now.commands i ≡ Some result.now }
+    {
+        &self.commands[i]
+    }
+
+    /// All commands, in order.
+    pub fn commands(&self) -> &[Command]
+        ensures value { result.now ≡ self.now.commands }
+        ensures script { is_script self.now ≡ true }
+    {
+        &self.commands
+    }
 }
 
 impl From<AllocError> for ReadRefusal {
