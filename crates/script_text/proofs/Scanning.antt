@@ -4,7 +4,7 @@ use Rattle.std.specs.List.{filter_map, slice_split, count_by}
 use Rattle.std.specs.Prelude.{◌==◌}
 use Rattle.std.specs.Option.{option_to_list}
 use Rattle.std.specs.Borrow.{Bor}
-use Rattle.std.proofs.lemmas.List.{take_more, length-take-le, append-nil, length-map}
+use Rattle.std.proofs.lemmas.List.{take_more, length-take-le, append-nil, get_or-map, take_all}
 use Rattle.std.proofs.lemmas.List.Elements.{filter-append, filter_map-append}
 use Rattle.std.proofs.lemmas.List.Splits.{length-slice_split}
 use Rattle.std.proofs.lemmas.List.Sums.{count_by-le-length}
@@ -33,7 +33,7 @@ abbrev pub line : ℕ → Fields → NumberedLine
 line n f = record { number = n; fields = f }
 
 numbered-append : (n : ℕ) (xs ys : List Fields) → numbered n (xs ++ ys) ≡ numbered n xs ++ numbered (n + length xs) ys
-numbered-append n [] ys = refl
+numbered-append n [] ys = let e : n ≡ n + 0 = omega arith in ap (λ m. numbered m ys) e
 numbered-append n (x ∷ xs) ys = ap (λ l. line n x ∷ l) (numbered-append (suc n) xs ys ∙ ap (λ m. numbered (suc n) xs ++ numbered m ys) (omega arith))
 
 cmds-append : (n : ℕ) (xs ys : List Fields) → cmds n (xs ++ ys) ≡ cmds n xs ++ cmds (n + length xs) ys
@@ -53,19 +53,22 @@ before_more all i f h e =
 rest_is : (all : List Fields) (i : ℕ) (f : Fields) → i < length all → f ≡ get_or all i f → drop i all ≡ f ∷ drop (i + 1) all
 rest_is all i f h e = rw (add-one) (drop-cons all i f h ∙ ap (λ g. g ∷ drop (suc i) all) (sym e))
 
+later : (i : ℕ) → suc (i + 1) ≡ i + 1 + 1
+later i = omega arith
+
 -- where the line is a command
 pub taken_before : (all : List Fields) (i : ℕ) (f : Fields) → i < length all → f ≡ get_or all i f → is_command f ≡ true → cmds 1 (take (i + 1) all) ≡ cmds 1 (take i all) ++ line (i + 1) f ∷ []
 taken_before all i f h e c = before_more all i f h e ∙ ap (λ l. cmds 1 (take i all) ++ l) (one_is (i + 1) f c)
 
 pub taken_rest : (all : List Fields) (i : ℕ) (f : Fields) → i < length all → f ≡ get_or all i f → is_command f ≡ true → cmds (i + 1) (drop i all) ≡ line (i + 1) f ∷ cmds (i + 1 + 1) (drop (i + 1) all)
-taken_rest all i f h e c = ap (cmds (i + 1)) (rest_is all i f h e) ∙ (rw c refl ∙ ap (λ n. line (i + 1) f ∷ cmds n (drop (i + 1) all)) (sym (add-one {i + 1})))
+taken_rest all i f h e c = ap (cmds (i + 1)) (rest_is all i f h e) ∙ (rw c refl ∙ ap (λ n. line (i + 1) f ∷ cmds n (drop (i + 1) all)) (later i))
 
 -- where it is none
 pub passed_before : (all : List Fields) (i : ℕ) (f : Fields) → i < length all → f ≡ get_or all i f → is_command f ≡ false → cmds 1 (take (i + 1) all) ≡ cmds 1 (take i all)
 passed_before all i f h e c = before_more all i f h e ∙ (ap (λ l. cmds 1 (take i all) ++ l) (one_is_not (i + 1) f c) ∙ append-nil (cmds 1 (take i all)))
 
 pub passed_rest : (all : List Fields) (i : ℕ) (f : Fields) → i < length all → f ≡ get_or all i f → is_command f ≡ false → cmds (i + 1) (drop i all) ≡ cmds (i + 1 + 1) (drop (i + 1) all)
-passed_rest all i f h e c = ap (cmds (i + 1)) (rest_is all i f h e) ∙ (rw c refl ∙ ap (λ n. cmds n (drop (i + 1) all)) (sym (add-one {i + 1})))
+passed_rest all i f h e c = ap (cmds (i + 1)) (rest_is all i f h e) ∙ (rw c refl ∙ ap (λ n. cmds n (drop (i + 1) all)) (later i))
 
 -- what was read says what the lines before say
 pub record IsReading (r : Reading) (before : List NumberedLine) : Type 0 where
@@ -147,8 +150,62 @@ starts_are (l ∷ before) = go (command_in l.fields) (starts_are before)
     go (Some (command.Purge keep)) h = h
     go (Some command.Export) h = h
 
+count_all : {A B : Type 0} (f : A → B) (xs : List A) → length (map f xs) ≡ length xs
+count_all f [] = refl
+count_all f (x ∷ xs) = ap suc (count_all f xs)
+
+-- there are as many lists of fields as lines
+pub length_all : (refs : List (Bor (List ℕ))) → length (map fields (pointed refs)) ≡ length refs
+length_all refs = count_all fields (pointed refs) ∙ count_all (λ (r : Bor (List ℕ)). r.now) refs
+
 -- there are not many more lines than bytes
 pub few_lines : (refs : List (Bor (List ℕ))) (bytes : List ℕ) → pointed refs ≡ slice_split (λ b. b == 10) bytes → length refs ≤ length bytes + 1
 few_lines refs bytes h =
-    let same : length refs ≡ count_by (λ b. b == 10) bytes + 1 = sym (length-map (λ (r : Bor (List ℕ)). r.now) refs) ∙ (ap length h ∙ length-slice_split (λ b. b == 10) bytes) in
+    let same : length refs ≡ count_by (λ b. b == 10) bytes + 1 = sym (count_all (λ (r : Bor (List ℕ)). r.now) refs) ∙ (ap length h ∙ length-slice_split (λ b. b == 10) bytes) in
     omega (arith, count_by-le-length (λ b. b == 10) bytes)
+
+-- the fields of the line at an index
+pub line_at : (refs : List (Bor (List ℕ))) (i : ℕ) (r : Bor (List ℕ)) (f : Fields) → i < length refs → r ≡ get_or refs i r → f ≡ fields r.now → f ≡ get_or (map fields (pointed refs)) i f
+line_at refs i r f h e is =
+    let k : i < length (pointed refs) = subst (λ n. i < n) (sym (count_all (λ (r : Bor (List ℕ)). r.now) refs)) h in
+    is ∙ (ap (λ (r : Bor (List ℕ)). fields r.now) e ∙ (ap fields (sym (get_or-map (λ (r : Bor (List ℕ)). r.now) refs i r r.now h)) ∙ sym (get_or-map fields (pointed refs) i r.now f k)))
+
+-- what a loop over the lines knows at the line with index i
+pub record Going (all : List Fields) (i : ℕ) (r : Reading) (total : Option ScriptFault) : Type 0 where
+  pub reading : IsReading r (cmds 1 (take i all))
+  pub rest : fault_after (cmds 1 (take i all)) (cmds (i + 1) (drop i all)) ≡ total
+
+-- at a line that is read
+pub taken : (all : List Fields) (i : ℕ) (f : Fields) (r new : Reading) (total : Option ScriptFault) → i < length all → f ≡ get_or all i f → is_command f ≡ true → Going all i r total → Takes r new (i + 1) f → Fits new.canvas → cause_by r.canvas r.draft f ≡ None → Going all (i + 1) new total
+taken all i f r new total h e c g t fits none =
+    let before = cmds 1 (take i all) in
+    let rest = cmds (i + 1 + 1) (drop (i + 1) all) in
+    let so_far : fault_after before (line (i + 1) f ∷ rest) ≡ total = ap (fault_after before) (sym (taken_rest all i f h e c)) ∙ g.rest in
+    let now = sym (taken_before all i f h e c) in
+    record {
+      reading = subst (IsReading new) now (reads_more r new before (i + 1) f g.reading t fits);
+      rest = ap (λ b. fault_after b rest) (sym now) ∙ goes_on before rest (i + 1) f total (same_cause r before f None g.reading none) so_far;
+    }
+
+-- at a line that is passed over
+pub passed : (all : List Fields) (i : ℕ) (f : Fields) (r : Reading) (total : Option ScriptFault) → i < length all → f ≡ get_or all i f → is_command f ≡ false → Going all i r total → Going all (i + 1) r total
+passed all i f r total h e c g = record {
+  reading = subst (IsReading r) (sym (passed_before all i f h e c)) g.reading;
+  rest = ap (λ b. fault_after b (cmds (i + 1 + 1) (drop (i + 1) all))) (passed_before all i f h e c) ∙ (ap (fault_after (cmds 1 (take i all))) (sym (passed_rest all i f h e c)) ∙ g.rest);
+}
+
+-- at a line that is refused
+pub refused_at : (all : List Fields) (i : ℕ) (f : Fields) (r : Reading) (total : Option ScriptFault) (told : Option Contents) (e : ReadRefusal) → i < length all → f ≡ get_or all i f → is_command f ≡ true → Going all i r total → IsRefused {A = Reading} (Err e) (i + 1) (cause_by r.canvas r.draft f) → Answers (Err e) total told
+refused_at all i f r total told e h at c g k = refused e (i + 1) f r (cmds 1 (take i all)) (cmds (i + 1 + 1) (drop (i + 1) all)) total told g.reading k (ap (fault_after (cmds 1 (take i all))) (sym (taken_rest all i f h at c)) ∙ g.rest)
+
+-- at the end
+pub all_read : (bytes : List ℕ) (all : List Fields) (i : ℕ) (r : Reading) (result : Result Contents ReadRefusal) → all ≡ lines bytes → length all ≤ i → Going all i r (fault bytes) → Answers result (end_by r.canvas r.draft r.starts.items) (contents_by r.canvas r.draft) → Answers result (fault bytes) (script bytes)
+all_read bytes all i r result same h g a =
+    let whole : cmds 1 (take i all) ≡ command_lines bytes = ap (cmds 1) (take_all i all h ∙ same) in
+    let none : cmds (i + 1) (drop i all) ≡ [] = ap (cmds (i + 1)) (drop_of_length-le all {i = i} h) in
+    let reading : IsReading r (command_lines bytes) = subst (IsReading r) whole g.reading in
+    let end : fault_after (command_lines bytes) [] ≡ fault bytes = (λ j. fault_after (sym whole j) (sym none j)) ∙ g.rest in
+    answers result r bytes reading (ends (command_lines bytes) (fault bytes) end) a
+
+pub starts_match : (r : Reading) (before : List NumberedLine) → IsReading r before → StartsAre r.starts.items r.draft
+starts_match r before is = ap (map (λ (s : Start). s.no)) is.starts ∙ (starts_are before ∙ ap (filter_map started_by) (sym is.draft))

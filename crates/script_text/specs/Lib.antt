@@ -7,3 +7,4 @@ pub mod Reading
 pub mod Read
 pub mod Table
 pub mod Draft
+pub mod Text

@@ -4,10 +4,12 @@
 mod draft;
 mod forms;
 mod jobs;
+mod printing;
 mod reading;
 mod script;
 mod words;
 
+pub use printing::print;
 pub use reading::read;
 pub use script::{MakeRefusal, ReadRefusal, Script, ScriptFault};
 pub use script_lines::Cause;
