@@ -14,6 +14,7 @@ use Rattle.doc_model.specs.declared.canvas.Walk.{Walk}
 use Rattle.doc_model.specs.declared.canvas.Walk.TheVariants.{Up, All}
 use Rattle.doc_model.specs.declared.canvas.Patch.{Patch}
 use Rattle.doc_model.specs.Updates.{added, replaced, merged, merge_all, new_parts, has_place, bound_all, patch, same_walk, one_cell}
+pub use Rattle.doc_model.specs.Updates.{queued_for}
 use Rattle.geom_core.proofs.Tests.{and_left, and_right, both_true, or_cases, or_left, or_right}
 use Rattle.doc_model.proofs.Conflicts.{meets_at}
 
@@ -53,10 +54,6 @@ in_grid p = holds (area (pos 0) (pos 0) 2048 2048) p
 
 pub parts_hold : (a : Area) (p : Point) → in_grid p ≡ true → holds a p ≡ true → list_any (λ c. holds c p) (parts a) ≡ true
 parts_hold a p g h = parts_by a cells p h (any_cells p ∙ g)
-
--- queued for what covers tells: a patch whose walk it covers holds the point
-abbrev pub queued_for : (Walk → Bool) → List Patch → Point → Bool
-queued_for covers patches p = list_any (λ (q : Patch). covers q.walk && holds q.rect p) patches
 
 -- a merge keeps what a patch holds
 merged_keeps : (covers : Walk → Bool) (walk : Walk) (part : Area) (q : Patch) (p : Point) → (covers q.walk && holds q.rect p) ≡ true → (covers (merged walk part q).walk && holds (merged walk part q).rect p) ≡ true

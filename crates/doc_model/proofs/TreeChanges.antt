@@ -1,6 +1,5 @@
 -- Documents that changes reach have each id once at most, and never 0, and at most 256 nodes.
-use Rattle.std.proofs.Common.{◌≡◌, ◌≢◌, ℕ, suc, zero, ◌+◌, ◌≤◌, Bool, true, false, ◌||◌, not, cond, Option, Some, None, Result, Ok, Err, List, [], ◌∷◌, take, refl, ap, ◌∙◌, arith, eqb, ltb, subst}
-use Rattle.std.specs.List.{AllByRecursion}
+use Rattle.std.proofs.Common.{◌≡◌, ◌≢◌, ℕ, ◌+◌, ◌≤◌, Bool, true, false, ◌||◌, not, cond, Option, Some, None, Result, Ok, Err, List, [], ◌∷◌, refl, ap, ◌∙◌, arith, eqb, ltb, subst}
 use Rattle.std.proofs.lemmas.Bool.Decides.{nat_tests}
 use Rattle.doc_model.specs.declared.tree.Look.{Look}
 use Rattle.doc_model.specs.declared.canvas.Canvas.{Canvas}
@@ -10,11 +9,12 @@ use Rattle.doc_model.specs.declared.tree.TreeFault.{TreeFault}
 use Rattle.doc_model.specs.declared.tree.TreeFault.TheVariants.{Taken, NoNode, NotGroup, IntoItself, TreeFull, TooDeep, BadPlace}
 use Rattle.pixel_core.specs.Rgba.{Rgba}
 use Rattle.doc_model.specs.Layers.{Layer, plain}
-use Rattle.doc_model.specs.Forest.{Forest, none, paint, group, count, has, height, depth, inserted, without, only, content, with_look}
-use Rattle.doc_model.specs.Picture.{Doc}
+use Rattle.doc_model.specs.Forest.{Forest, none, paint, group, count, has, height, depth, inserted, without, only, with_look}
+use Rattle.doc_model.specs.Laws.{EachDoc}
+use Rattle.doc_model.proofs.Reached.{each_told, each_told_all}
 use Rattle.doc_model.specs.Changes.{changed, answer, first_of_faults, no_new, no_place, no_node, there, takes, child_count, set_in, new_look}
-use Rattle.doc_model.specs.Strokes.{Stroke, Fate, Open, Ended, Cancelled, Entry, Strokes, Changes, Undoes, Redoes, Purges, Exports, conflict}
-use Rattle.doc_model.specs.Meaning.{Story, start, told, told_all, told_stroke, closed_stroke, laid_stroke, told_change, undone, redone, meaning}
+use Rattle.doc_model.specs.Strokes.{Entry}
+use Rattle.doc_model.specs.Meaning.{Story, start, told, told_all, meaning}
 use Rattle.doc_model.proofs.Weights.{weight, mark, times, IsTree, weight_inserted, weight_within, weight_parts, weight_with_look, weight_count, tree_none, tree_with_content, none_there}
 
 -- a new document comes where no test passed
@@ -137,52 +137,14 @@ tree_changed fresh (change.Look id look) f new e t =
     subst IsTree a.1 (tree_look id look f t)
 
 -- all documents of a story
-pub record TreeStory (s : Story) : Type 0 where
-  pub past : AllByRecursion (IsTree {A = Layer}) s.past
-  pub document : IsTree s.document
-  pub future : AllByRecursion (IsTree {A = Layer}) s.future
-
-all_taken : {A : Type 0} (P : A → Type 0) (n : ℕ) (xs : List A) → AllByRecursion P xs → AllByRecursion P (take n xs)
-all_taken P zero xs all = tt
-all_taken P (suc n) [] all = tt
-all_taken P (suc n) (x ∷ xs) all = (all.0, all_taken P n xs all.1)
-
-tree_laid : (s : Story) (stroke : Stroke) (o : Option Layer) → TreeStory s → TreeStory (laid_stroke s stroke o)
-tree_laid s stroke None t = record { past = t.past; document = t.document; future = t.future }
-tree_laid s stroke (Some layer) t = record { past = (t.document, t.past); document = tree_with_content stroke.layer _ s.document t.document; future = tt }
-
-tree_closed : (s : Story) (stroke : Stroke) (f : Fate) → TreeStory s → TreeStory (closed_stroke s stroke f)
-tree_closed s stroke Cancelled t = record { past = t.past; document = t.document; future = t.future }
-tree_closed s stroke Open t = tree_laid s stroke (content stroke.layer s.document) t
-tree_closed s stroke Ended t = tree_laid s stroke (content stroke.layer s.document) t
-
-tree_stroke : (s : Story) (stroke : Stroke) (o : Option (ℕ × ℕ)) → TreeStory s → TreeStory (told_stroke s stroke o)
-tree_stroke s stroke (Some pair) t = record { past = t.past; document = t.document; future = t.future }
-tree_stroke s stroke None t = tree_closed s stroke stroke.fate t
-
-tree_told_change : (s : Story) (r : Result Doc TreeFault) → ((new : Doc) → r ≡ Ok new → IsTree new) → TreeStory s → TreeStory (told_change s r)
-tree_told_change s (Ok new) is t = record { past = (t.document, t.past); document = is new refl; future = tt }
-tree_told_change s (Err fault) is t = record { past = t.past; document = t.document; future = t.future }
-
-tree_undone : (s : Story) (past : List Doc) → AllByRecursion (IsTree {A = Layer}) past → TreeStory s → TreeStory (undone s past)
-tree_undone s [] all t = record { past = t.past; document = t.document; future = t.future }
-tree_undone s (d ∷ past) all t = record { past = all.1; document = all.0; future = (t.document, t.future) }
-
-tree_redone : (s : Story) (future : List Doc) → AllByRecursion (IsTree {A = Layer}) future → TreeStory s → TreeStory (redone s future)
-tree_redone s [] all t = record { past = t.past; document = t.document; future = t.future }
-tree_redone s (d ∷ future) all t = record { past = (t.document, t.past); document = all.0; future = all.1 }
+abbrev pub TreeStory : Story → Type 0
+TreeStory s = EachDoc (IsTree {A = Layer}) s
 
 pub tree_told : (canvas : Canvas) (s : Story) (e : Entry) → TreeStory s → TreeStory (told canvas s e)
-tree_told canvas s (Strokes stroke) t = tree_stroke s stroke (conflict stroke.jobs) t
-tree_told canvas s (Changes change) t = tree_told_change s (changed plain change s.document) (λ new e. tree_changed plain change s.document new e t.document) t
-tree_told canvas s Undoes t = tree_undone s s.past t.past t
-tree_told canvas s Redoes t = tree_redone s s.future t.future t
-tree_told canvas s (Purges n) t = record { past = all_taken (IsTree {A = Layer}) n s.past t.past; document = t.document; future = t.future }
-tree_told canvas s Exports t = record { past = t.past; document = t.document; future = t.future }
+tree_told canvas s e t = each_told (IsTree {A = Layer}) tree_with_content (tree_changed plain) canvas s e t
 
 pub tree_told_all : (canvas : Canvas) (s : Story) (es : List Entry) → TreeStory s → TreeStory (told_all canvas s es)
-tree_told_all canvas s [] t = t
-tree_told_all canvas s (e ∷ es) t = tree_told_all canvas (told canvas s e) es (tree_told canvas s e t)
+tree_told_all canvas s es t = each_told_all (IsTree {A = Layer}) tree_with_content (tree_changed plain) canvas s es t
 
 -- every document that entries make of the empty one has each id once at most, and never 0
 pub tree_meaning : (canvas : Canvas) (es : List Entry) → TreeStory (meaning canvas es)

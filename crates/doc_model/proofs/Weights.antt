@@ -4,19 +4,7 @@ use Rattle.std.proofs.lemmas.Bool.Decides.{nat_tests}
 use Rattle.doc_model.specs.declared.tree.Look.{Look}
 use Rattle.doc_model.specs.Forest.{Forest, none, paint, group, count, has, join, lower, upper, inserted, within, without, only, with_look, with_content}
 use Rattle.doc_model.proofs.Parents.{Distinct}
-
--- the sum of a number for each node
-abbrev pub weight : {A : Type 0} → (ℕ → ℕ) → Forest A → ℕ
-weight w none = 0
-weight w (paint id look x rest) = w id + weight w rest
-weight w (group id look nodes rest) = w id + (weight w nodes + weight w rest)
-
-abbrev pub mark : ℕ → ℕ → ℕ
-mark q id = cond (eqb q id) 1 0
-
--- how often an id stands there
-abbrev pub times : {A : Type 0} → ℕ → Forest A → ℕ
-times q f = weight (mark q) f
+pub use Rattle.doc_model.specs.Ids.{weight, mark, times, IsTree}
 
 pub weight_join : {A : Type 0} (w : ℕ → ℕ) (a b : Forest A) → weight w (join a b) ≡ weight w a + weight w b
 weight_join w none b = omega arith
@@ -160,11 +148,6 @@ pub weight_count : {A : Type 0} (f : Forest A) → count f ≡ weight (λ _. 1) 
 weight_count none = refl
 weight_count (paint id look x rest) = let a : count rest ≡ weight (λ _. 1) rest = weight_count rest in omega arith
 weight_count (group id look nodes rest) = let a : count nodes ≡ weight (λ _. 1) nodes = weight_count nodes in let b : count rest ≡ weight (λ _. 1) rest = weight_count rest in omega arith
-
--- each id stands once at most, and none is 0
-pub record IsTree {A : Type 0} (f : Forest A) : Type 0 where
-  pub root : times 0 f ≡ 0
-  pub once : (q : ℕ) → times q f ≤ 1
 
 mark_same : (q : ℕ) → mark q q ≡ 1
 mark_same q = taken (eqb q q) 1 0 (grind (arith, nat_tests))

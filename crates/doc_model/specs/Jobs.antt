@@ -37,7 +37,7 @@ reads (Blur rect r) = grown rect r ∷ []
 abbrev pub weighed : (Rgba → ℕ) → List Rgba → ℕ
 weighed channel pixels = sum (map (λ (q : Rgba). q.a * channel q) pixels)
 
--- the mean of n pixels: their mean alpha, and the colours by alpha
+-- the mean of n pixels: their mean alpha, and the colours weighed by alpha. The box blur is a rule of this engine, not of a standard
 abbrev pub mean : ℕ → List Rgba → Rgba
 mean n pixels =
     let alphas = sum (map (λ (q : Rgba). q.a) pixels) in

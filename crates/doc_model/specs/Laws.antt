@@ -1,16 +1,23 @@
 -- Laws of jobs, and of undo and redo.
-use Rattle.std.specs.Prelude.{◌≡◌, ◌≢◌, Bool, true, false, List, [], ◌∷◌, ◌++◌}
+use Rattle.std.specs.Prelude.{◌≡◌, ◌≢◌, ◌≤◌, Bool, true, false, Ok, List, [], ◌∷◌, ◌++◌}
+use Rattle.std.specs.List.{AllByRecursion}
 use Rattle.geom_core.specs.Points.{Point}
 use Rattle.geom_core.specs.Areas.{Area, any_holds}
 use Rattle.geom_core.specs.Grid.{Key}
 use Rattle.doc_model.specs.declared.canvas.Canvas.{Canvas}
 use Rattle.doc_model.specs.declared.job.Job.{Job}
-use Rattle.doc_model.specs.Layers.{Layer, at}
+use Rattle.doc_model.specs.declared.job.Kind.{Kind}
+use Rattle.doc_model.specs.declared.tree.Change.{Change}
+use Rattle.doc_model.specs.Layers.{Layer, at, plain}
 use Rattle.doc_model.specs.Jobs.{reads, writes, apply, published}
-use Rattle.doc_model.specs.Strokes.{Entry, Strokes, Changes, Undoes, Redoes}
+use Rattle.doc_model.specs.Forest.{Forest, count, height}
+use Rattle.doc_model.specs.Ids.{IsTree}
+use Rattle.doc_model.specs.Picture.{Doc}
+use Rattle.doc_model.specs.Changes.{changed}
+use Rattle.doc_model.specs.Strokes.{Entry, Strokes, Changes, Undoes, Redoes, disturb, clash}
 use Rattle.doc_model.specs.declared.command.Outcome.{Outcome}
 use Rattle.doc_model.specs.declared.command.Outcome.TheVariants.{Done}
-use Rattle.doc_model.specs.Meaning.{Story, told}
+use Rattle.doc_model.specs.Meaning.{Story, told, meaning}
 
 -- the layers have one default pixel, and the same pixels on these rectangles
 pub record SameOn (rects : List Area) (a b : Layer) : Type 0 where
@@ -68,3 +75,28 @@ UndoGivesBack = (canvas : Canvas) (s : Story) (e : Entry) → is_change e ≡ tr
 -- a cancelled or refused stroke or change leaves nothing but its outcome
 abbrev pub RefusedLeavesNothing : Type 0
 RefusedLeavesNothing = (canvas : Canvas) (s : Story) (e : Entry) (o : Outcome) → is_change e ≡ true → (told canvas s e).outcomes ≡ s.outcomes ++ o ∷ [] → o ≢ Done → told canvas s e ≡ record s { outcomes = s.outcomes ++ o ∷ [] }
+
+-- whether jobs disturb each other, or clash in a run, doesn't depend on their order
+pub record ConflictsBothWays : Type 0 where
+  pub jobs : (a b : Job) → disturb a b ≡ disturb b a
+  pub kinds : (a b : Kind × Job) → clash a b ≡ clash b a
+
+-- a document of the limits: each id once and never that of the root, 256 nodes beside it, and 16 levels
+pub record IsDocument {A : Type 0} (f : Forest A) : Type 0 where
+  pub tree : IsTree f
+  pub few : count f ≤ 256
+  pub low : height f ≤ 16
+
+-- each document of a story
+pub record EachDoc (P : Doc → Type 0) (s : Story) : Type 0 where
+  pub past : AllByRecursion P s.past
+  pub document : P s.document
+  pub future : AllByRecursion P s.future
+
+-- a change that isn't refused keeps a document within the limits
+abbrev pub ChangesKeepLimits : Type 0
+ChangesKeepLimits = (change : Change) (doc new : Doc) → changed plain change doc ≡ Ok new → IsDocument doc → IsDocument new
+
+-- every document that entries reach is within the limits
+abbrev pub MeaningKeepsLimits : Type 0
+MeaningKeepsLimits = (canvas : Canvas) (es : List Entry) → EachDoc (IsDocument {A = Layer}) (meaning canvas es)

@@ -1,6 +1,7 @@
 pub mod Layers
 pub mod Jobs
 pub mod Forest
+pub mod Ids
 pub mod Flat
 pub mod Picture
 pub mod Changes
@@ -10,4 +11,8 @@ pub mod Lawful
 pub mod Meaning
 pub mod Laws
 pub mod Updates
+pub mod UpdateLaws
 pub mod Codes
+pub mod Canvases
+pub mod Outcomes
+pub mod Readers

@@ -17,7 +17,7 @@ Doc = Forest Layer
 abbrev pub with_look : Look → Rgba → Rgba → Rgba
 with_look look p backdrop = if look.visible then compose look.op p backdrop look.opacity else backdrop
 
--- the nodes laid on a backdrop at a point, from the bottom, each group on a clear one first
+-- the nodes laid on a backdrop at a point, from the bottom, each group on a clear one first: isolated groups in the sense of W3C Compositing and Blending Level 1
 abbrev pub laid : Doc → Point → Rgba → Rgba
 laid none p backdrop = backdrop
 laid (paint id look layer rest) p backdrop = laid rest p (with_look look (at layer p) backdrop)

@@ -1,7 +1,8 @@
 -- The list of patches that wait for a walk.
 use Rattle.std.specs.Prelude.{◌≡◌, ◌≤◌, ◌+◌, ◌==◌, nat_le, Bool, true, false, ◌&&◌, not, if◌then◌else◌, Option, Some, None, List, [], ◌∷◌, ◌++◌, map, length}
 use Rattle.std.specs.List.{filter, list_any, list_all}
-use Rattle.geom_core.specs.Areas.{Area, bound, clipped, lies_in}
+use Rattle.geom_core.specs.Points.{Point}
+use Rattle.geom_core.specs.Areas.{Area, bound, clipped, holds, lies_in}
 use Rattle.geom_core.specs.Grid.{cell, cell_of, parts, same_key}
 use Rattle.doc_model.specs.declared.canvas.Walk.{Walk}
 use Rattle.doc_model.specs.declared.canvas.Walk.TheVariants.{Up, All}
@@ -92,3 +93,7 @@ pub record IsQueue (canvas : Area) (patches : List Patch) : Type 0 where
   pub places : list_all (in_place canvas) patches ≡ true
   pub unlike : all_unlike patches ≡ true
   pub few : length patches ≤ 64
+
+-- whether the point waits for a walk of those that covers picks: a patch of such a walk holds it
+abbrev pub queued_for : (Walk → Bool) → List Patch → Point → Bool
+queued_for covers patches p = list_any (λ (q : Patch). covers q.walk && holds q.rect p) patches

@@ -1,17 +1,34 @@
 //! Jobs, and how they stand to their neighbours.
+ghost use Rattle.std.specs.Prelude.{◌≡◌, ◌≤◌, ◌≤ℤ◌, ◌-ℤ◌, ◌&&◌, pos, negsuc, int_le, [], ◌∷◌, true, false, IfOk, OnOk, OnErr};
+ghost use Rattle.geom_core.specs.Areas.{lies_in, moved, world};
+ghost use Rattle.doc_model.specs.Jobs.{square, grown, reads, writes};
+ghost use Rattle.doc_model.specs.Lawful.{of_limits, within_limits, checks};
 
-use geom_core::Rect;
+use arrayvec::ArrayVec;
+use geom_core::{OutOfWorld, Rect};
 use pixel_core::{Op, Pixel};
+
+/// How far the world's corner lies to the left of 0 and above it.
+const CORNER: i32 = 16384;
+
+/// How many columns and rows the world has.
+const WORLD: u32 = 32768;
+
+/// How many columns and rows the rectangle of a job has at most.
+const LONGEST_SIDE: u32 = 4096;
 
 /// One painting step on a layer.
 #[derive(Clone, Copy, Debug, PartialEq, Eq)]
 pub enum Job {
+    /// Composes the colour onto each point of the rectangle, with the operation and the strength.
     Fill {
         rect: Rect,
         colour: Pixel,
         op: Op,
         strength: u8,
     },
+    /// Composes the colour onto each point of the square of side 2r + 1 round (x, y), with the
+    /// strength times the mask of a round brush.
     Dab {
         x: i32,
         y: i32,
@@ -21,22 +38,180 @@ pub enum Job {
         op: Op,
         strength: u8,
     },
+    /// Moves the pixels of the rectangle by (dx, dy), and leaves the layer's default pixel where
+    /// none comes to stand.
     Move {
         rect: Rect,
         dx: i32,
         dy: i32,
     },
+    /// Gives each point of the rectangle the mean, by alpha, of the pixels at most r columns and r
+    /// rows from it.
     Blur {
         rect: Rect,
         r: u8,
     },
 }
 
-/// How a job stands to its neighbours.
+/// How a job stands to its neighbours in the list of its stroke.
 #[derive(Clone, Copy, Debug, PartialEq, Eq)]
 pub enum Kind {
+    /// Concurrent: it may run beside its neighbours of this kind, and beside a uniquely concurrent one.
     Con,
+    /// Sequential: no other job runs beside it.
     Seq,
+    /// Barrier: no other job runs beside it, and no update is composed or waits then.
     Bar,
+    /// Uniquely concurrent: it may run beside concurrent ones, and beside no other of its kind.
     Uni,
+}
+
+impl Job {
+    /// Whether each point that the job looks at lies in the world.
+    ///
+    /// # Errors
+    /// `OutOfWorld` exactly where one of the rectangles that it reads leaves the world.
+    pub fn check(&self) -> Result<(), OutOfWorld>
+        ensures inside { OnOk result (checks self.now ≡ true) }
+        ensures outside { OnErr result (checks self.now ≡ false) }
+    {
+        match self.read_rects() {
+            Ok(_) => Ok(()),
+            Err(OutOfWorld) => Err(OutOfWorld),
+        }
+    }
+
+    /// The rectangles that the job looks at.
+    pub fn reads(&self) -> ArrayVec<Rect, 2>
+        requires { checks self.now ≡ true }
+        ensures { result.items ≡ reads self.now }
+    {
+        self.read_rects().unwrap()
+    }
+
+    /// The rectangles that the job may change.
+    pub fn writes(&self) -> ArrayVec<Rect, 2>
+        requires { checks self.now ≡ true }
+        ensures { result.items ≡ writes self.now }
+    {
+        match *self {
+            Job::Blur { rect, .. } => one(rect),
+            _ => self.reads(),
+        }
+    }
+
+    /// Whether the job meets the limits: sides of 1 to 4096 columns and rows, a dab's radius of at
+    /// most 128, and a blur's of 1 to 16.
+    pub fn is_within_limits(&self) -> bool
+        ensures { result ≡ within_limits self.now }
+    {
+        match *self {
+            Job::Fill { rect, .. } | Job::Move { rect, .. } => is_of_limits(&rect),
+            Job::Dab { r, .. } => r <= 128,
+            Job::Blur { rect, r } => is_of_limits(&rect) && 1 <= r && r <= 16,
+        }
+    }
+
+    /// The rectangles that the job looks at.
+    ///
+    /// # Errors
+    /// `OutOfWorld` where one of them leaves the world.
+    fn read_rects(&self) -> Result<ArrayVec<Rect, 2>, OutOfWorld>
+        ensures value { IfOk result (λ rects. rects.items ≡ reads self.now) }
+        ensures inside { OnOk result (checks self.now ≡ true) }
+        ensures outside { OnErr result (checks self.now ≡ false) }
+    {
+        match *self {
+            Job::Fill { rect, .. } => Ok(one(in_world(rect))),
+            Job::Dab { x, y, r, .. } => Ok(one(square_round(x, y, r)?)),
+            Job::Move { rect, dx, dy } => Ok(ArrayVec::from([
+                in_world(rect),
+                displaced(&rect, dx, dy)?,
+            ])),
+            Job::Blur { rect, r } => Ok(one(grown_by(&rect, r)?)),
+        }
+    }
+}
+
+/// The rectangle, which has a point and lies in the world as every one does.
+fn in_world(rect: Rect) -> Rect
+    ensures value { result ≡ rect }
+    ensures inside { lies_in rect world ≡ true }
+    ensures columns { 1 ≤ rect.w }
+    ensures rows { 1 ≤ rect.h }
+{
+    let _corner = (rect.left(), rect.top());
+    let _sides = (rect.w(), rect.h());
+    rect
+}
+
+/// The list of one rectangle.
+fn one(rect: Rect) -> ArrayVec<Rect, 2>
+    ensures { result.items ≡ rect ∷ [] }
+{
+    let mut rects = ArrayVec::new();
+    rects.push(rect);
+    rects
+}
+
+fn is_of_limits(rect: &Rect) -> bool
+    ensures { result ≡ of_limits rect.now }
+{
+    rect.w() <= LONGEST_SIDE && rect.h() <= LONGEST_SIDE
+}
+
+/// The square of side 2r + 1 round (x, y).
+fn square_round(x: i32, y: i32, r: u8) -> Result<Rect, OutOfWorld>
+    ensures value { IfOk result (λ rect. rect ≡ square x y r) }
+    ensures inside { OnOk result (lies_in (square x y r) world ≡ true) }
+    ensures outside { OnErr result (lies_in (square x y r) world ≡ false) }
+{
+    if x < -CORNER || y < -CORNER || x >= CORNER || y >= CORNER {
+        return Err(OutOfWorld);
+    }
+    let side = 2 * u32::from(r) + 1;
+    Rect::new(rewound(x, r), rewound(y, r), side, side)
+}
+
+/// The rectangle moved by (dx, dy).
+fn displaced(rect: &Rect, dx: i32, dy: i32) -> Result<Rect, OutOfWorld>
+    ensures value { IfOk result (λ to. to ≡ moved rect.now dx dy) }
+    ensures inside { OnOk result (lies_in (moved rect.now dx dy) world ≡ true) }
+    ensures outside { OnErr result (lies_in (moved rect.now dx dy) world ≡ false) }
+{
+    let _whole = in_world(*rect);
+    if !is_step(dx) || !is_step(dy) {
+        return Err(OutOfWorld);
+    }
+    rect.moved(dx, dy)
+}
+
+/// The rectangle with r more columns and rows on each side.
+fn grown_by(rect: &Rect, r: u8) -> Result<Rect, OutOfWorld>
+    ensures value { IfOk result (λ wide. wide ≡ grown rect.now r) }
+    ensures inside { OnOk result (lies_in (grown rect.now r) world ≡ true) }
+    ensures outside { OnErr result (lies_in (grown rect.now r) world ≡ false) }
+{
+    let w = rect.w() + 2 * u32::from(r);
+    let h = rect.h() + 2 * u32::from(r);
+    if w > WORLD || h > WORLD {
+        return Err(OutOfWorld);
+    }
+    Rect::new(rewound(rect.x(), r), rewound(rect.y(), r), w, h)
+}
+
+/// The column or row that lies r before x.
+fn rewound(x: i32, r: u8) -> i32
+    requires low { world.x ≤ℤ x }
+    requires high { x ≤ℤ pos 16383 }
+    ensures { result ≡ x -ℤ pos r }
+{
+    x - i32::from(r)
+}
+
+/// Whether two points of the world can lie d columns or rows apart.
+fn is_step(d: i32) -> bool
+    ensures { result ≡ (int_le (negsuc 32766) d && int_le d (pos 32767)) }
+{
+    -32767 <= d && d <= 32767
 }

@@ -5,13 +5,16 @@ mod canvas;
 mod command;
 mod job;
 mod laws;
+#[cfg(test)]
+mod tests;
 mod tree;
 
 pub use canvas::{Canvas, Patch, Walk};
 pub use command::{Command, Outcome};
 pub use job::{Job, Kind};
 pub use laws::{
-    job_laws, jobs_commute, redo_then_undo, refused_leaves_nothing, tiles_commute, undo_gives_back,
-    undo_then_redo,
+    changes_keep_limits, conflicts_both_ways, job_laws, jobs_commute, meaning_keeps_limits,
+    queued_covers, queued_keeps_places, redo_then_undo, refused_leaves_nothing, tiles_commute,
+    undo_gives_back, undo_then_redo,
 };
 pub use tree::{Change, Look, TreeFault};

@@ -1,11 +1,11 @@
 -- The tiles of a rectangle by their places in row order.
-use Rattle.std.proofs.Common.{◌≡◌, ℕ, suc, zero, ◌+◌, ◌-◌, ◌*◌, ◌/◌, ◌%◌, ◌≤◌, ◌<◌, Bool, true, false, ◌&&◌, List, [], ◌∷◌, ◌++◌, length, get_or, Option, Some, refl, ap, sym, ◌∙◌, arith, length-append}
-use Rattle.std.specs.Prelude.{ℤ, pos, negsuc, ◌+ℤ◌, ◌-ℤ◌, ◌*ℤ◌, int_le, int_lt, nat_abs, ◌≤ℤ◌, ◌<ℤ◌, slice_get}
+use Rattle.std.proofs.Common.{◌≡◌, ℕ, suc, zero, ◌+◌, ◌-◌, ◌*◌, ◌/◌, ◌%◌, ◌≤◌, ◌<◌, true, ◌&&◌, List, [], ◌∷◌, ◌++◌, length, get_or, Some, refl, ap, sym, ◌∙◌, arith, length-append}
+use Rattle.std.specs.Prelude.{ℤ, pos, ◌+ℤ◌, ◌-ℤ◌, ◌*ℤ◌, int_le, int_lt, slice_get}
 use Rattle.std.proofs.lemmas.List.{get_or_append_left, get_or-append_right}
 use Rattle.std.proofs.lemmas.Option.{slice_get-get_or}
 use borrow.Author.Differences.{ints}
 use Rattle.std.proofs.Math.Nat.{div-lt_iff_lt-mul}
-use Rattle.geom_core.specs.Areas.{Area, area, right, bottom}
+use Rattle.geom_core.specs.Areas.{Area}
 use Rattle.geom_core.specs.Grid.{Key, key, floor_by, count_from, how_many, pieces, keys_in_row, keys_in_rows, keys_of}
 use Rattle.geom_core.specs.Place.{seen}
 use Rattle.geom_core.specs.declared.rect.Rect.TheInside.{Inside}
@@ -30,7 +30,7 @@ count_of a n = (a + n - 1) / 64 + 1 - a / 64
 pieces_shifted : (a n : ℕ) → 1 ≤ n → pieces 64 (pos a -ℤ pos 16384) (((pos a -ℤ pos 16384) +ℤ pos n) -ℤ pos 1) ≡ count_from (pos (a / 64) -ℤ pos 256) (count_of a n)
 pieces_shifted a n h = rw (last_shifted a n h, floor_shifted a, floor_shifted (a + n - 1)) (ap (count_from (pos (a / 64) -ℤ pos 256)) (many_shifted (a / 64) ((a + n - 1) / 64) (omega arith)))
 
-length-count_from : (a : ℤ) (n : ℕ) → length (count_from a n) ≡ n
+pub length-count_from : (a : ℤ) (n : ℕ) → length (count_from a n) ≡ n
 length-count_from a zero = refl
 length-count_from a (suc n) = ap suc (length-count_from (a +ℤ pos 1) n)
 
@@ -46,7 +46,7 @@ length-keys_in_row : (cs : List ℤ) (r : ℤ) → length (keys_in_row cs r) ≡
 length-keys_in_row [] r = refl
 length-keys_in_row (c ∷ cs) r = ap suc (length-keys_in_row cs r)
 
-length-keys_in_rows : (cs rs : List ℤ) → length (keys_in_rows cs rs) ≡ length cs * length rs
+pub length-keys_in_rows : (cs rs : List ℤ) → length (keys_in_rows cs rs) ≡ length cs * length rs
 length-keys_in_rows cs [] = omega arith
 length-keys_in_rows cs (r ∷ rs) = length-append (keys_in_row cs r) (keys_in_rows cs rs) ∙ ap (λ n. n + length (keys_in_rows cs rs)) (length-keys_in_row cs r) ∙ ap (λ n. length cs + n) (length-keys_in_rows cs rs) ∙ more (length cs) (length rs)
   where
@@ -95,26 +95,31 @@ parted c n i h =
     above : (c n i : ℕ) → 0 < c → i < c * n → i / c < n
     above c n i s h = grind (arith, div-lt_iff_lt-mul)
 
+same_key_at : {c c' r r' : ℤ} → c ≡ c' → r ≡ r' → key c r ≡ key c' r'
+same_key_at p q i = key (p i) (q i)
+
+-- the key at a place of a block of c columns from x on and n rows from y on
+pub at_rows : (x y : ℤ) (c n i : ℕ) → i < c * n → slice_get (keys_in_rows (count_from x c) (count_from y n)) i ≡ Some (key (x +ℤ pos (i % c)) (y +ℤ pos (i / c)))
+at_rows x y c n i l =
+    let cs : List ℤ = count_from x c in
+    let rs : List ℤ = count_from y n in
+    let p : (c * (i / c) + i % c ≡ i) × ((i / c < n) × (i % c < c)) = parted c n i l in
+    let nc : length cs ≡ c = length-count_from x c in
+    let nr : length rs ≡ n = length-count_from y n in
+    let d : Key = key (pos 0) (pos 0) in
+    let fits : i < length (keys_in_rows cs rs) = rw (length-keys_in_rows cs rs, nc, nr) l in
+    slice_get-get_or (keys_in_rows cs rs) i d fits ∙ ap Some (
+    ap (λ n. get_or (keys_in_rows cs rs) n d) (sym p.0 ∙ ap (λ n. n * (i / c) + i % c) (sym nc))
+    ∙ get-keys_in_rows cs rs (i % c) (i / c) d (pos 0) (rw nc p.1.1) (rw nr p.1.0)
+    ∙ same_key_at (get-count_from x c (i % c) (pos 0) p.1.1) (get-count_from y n (i / c) (pos 0) p.1.0))
+
 pub at-keys_seen : (r : Inside) (c i : ℕ) → 1 ≤ r.w → 1 ≤ r.h → c ≡ count_of r.left r.w → i < c * count_of r.top r.h
     → slice_get (keys_of (seen r)) i ≡ Some (key (pos (r.left / 64 + i % c) -ℤ pos 256) (pos (r.top / 64 + i / c) -ℤ pos 256))
 at-keys_seen r c i w h ec l =
-    let cs : List ℤ = count_from (pos (r.left / 64) -ℤ pos 256) c in
-    let rs : List ℤ = count_from (pos (r.top / 64) -ℤ pos 256) (count_of r.top r.h) in
-    let p : (c * (i / c) + i % c ≡ i) × ((i / c < count_of r.top r.h) × (i % c < c)) = parted c (count_of r.top r.h) i l in
-    let nc : length cs ≡ c = length-count_from (pos (r.left / 64) -ℤ pos 256) c in
-    let nr : length rs ≡ count_of r.top r.h = length-count_from (pos (r.top / 64) -ℤ pos 256) (count_of r.top r.h) in
-    let d : Key = key (pos 0) (pos 0) in
-    let fits : i < length (keys_in_rows cs rs) = rw (length-keys_in_rows cs rs, nc, nr) l in
-    let found : get_or (keys_in_rows cs rs) i d ≡ key ((pos (r.left / 64) -ℤ pos 256) +ℤ pos (i % c)) ((pos (r.top / 64) -ℤ pos 256) +ℤ pos (i / c)) =
-    ap (λ n. get_or (keys_in_rows cs rs) n d) (sym p.0 ∙ ap (λ n. n * (i / c) + i % c) (sym nc))
-    ∙ get-keys_in_rows cs rs (i % c) (i / c) d (pos 0) (rw nc p.1.1) (rw nr p.1.0)
-    ∙ same_key_at (get-count_from (pos (r.left / 64) -ℤ pos 256) c (i % c) (pos 0) p.1.1) (get-count_from (pos (r.top / 64) -ℤ pos 256) (count_of r.top r.h) (i / c) (pos 0) p.1.0) in
-    ap (λ ks. slice_get ks i) (keys_seen r w h ∙ ap (λ n. keys_in_rows (count_from (pos (r.left / 64) -ℤ pos 256) n) rs) (sym ec))
-    ∙ slice_get-get_or (keys_in_rows cs rs) i d fits ∙ ap Some (found ∙ same_key_at (shifted_sum (r.left / 64) (i % c)) (shifted_sum (r.top / 64) (i / c)))
+    ap (λ ks. slice_get ks i) (keys_seen r w h ∙ ap (λ n. keys_in_rows (count_from (pos (r.left / 64) -ℤ pos 256) n) (count_from (pos (r.top / 64) -ℤ pos 256) (count_of r.top r.h))) (sym ec))
+    ∙ at_rows (pos (r.left / 64) -ℤ pos 256) (pos (r.top / 64) -ℤ pos 256) c (count_of r.top r.h) i l
+    ∙ ap Some (same_key_at (shifted_sum (r.left / 64) (i % c)) (shifted_sum (r.top / 64) (i / c)))
   where
-    same_key_at : {c c' r r' : ℤ} → c ≡ c' → r ≡ r' → key c r ≡ key c' r'
-    same_key_at p q i = key (p i) (q i)
-
     shifted_sum : (a b : ℕ) → ((pos a -ℤ pos 256) +ℤ pos b) ≡ (pos (a + b) -ℤ pos 256)
     shifted_sum a b = omega (arith, ints)
 

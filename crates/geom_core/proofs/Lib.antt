@@ -8,3 +8,9 @@ pub mod Tiles
 pub mod Common
 pub mod Counts
 pub mod Lying
+pub mod Parts
+pub mod Bounds
+pub mod Order
+pub mod Axes
+pub mod Whole
+pub mod Canvas

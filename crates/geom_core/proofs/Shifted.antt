@@ -1,6 +1,6 @@
 -- Coordinates that are kept as numbers from the world's edge on.
-use Rattle.std.proofs.Common.{◌≡◌, ℕ, ◌+◌, ◌-◌, ◌*◌, ◌≤◌, ◌<◌, Bool, true, false, ◌&&◌, refl, ap, sym, ◌∙◌, arith, ltb, leb, max, min, cond}
-use Rattle.std.specs.Prelude.{ℤ, pos, ◌+ℤ◌, ◌-ℤ◌, ◌*ℤ◌, int_le, int_lt, nat_abs}
+use Rattle.std.proofs.Common.{◌≡◌, ℕ, ◌+◌, ◌-◌, ◌*◌, ◌≤◌, ◌<◌, Bool, true, ◌&&◌, refl, sym, ◌∙◌, arith, ltb, max, min}
+use Rattle.std.specs.Prelude.{ℤ, pos, ◌+ℤ◌, ◌-ℤ◌, ◌*ℤ◌, int_lt, nat_abs}
 use Rattle.std.specs.Int.{int_max, int_min}
 use borrow.Author.Differences.{ints}
 use Rattle.geom_core.specs.Areas.{length_between, meets, common, area, Area, bound}

@@ -14,6 +14,7 @@ pub record Area : Type 0 where
   pub w : ℕ
   pub h : ℕ
 
+-- a rectangle by its corner, columns and rows
 abbrev pub area : ℤ → ℤ → ℕ → ℕ → Area
 area x y w h = record { x = x; y = y; w = w; h = h }
 
@@ -24,6 +25,7 @@ right a = a.x +ℤ pos a.w
 abbrev pub bottom : Area → ℤ
 bottom a = a.y +ℤ pos a.h
 
+-- whether the rectangle holds the point
 abbrev pub holds : Area → Point → Bool
 holds a p = (int_le a.x p.x && int_lt p.x (right a)) && (int_le a.y p.y && int_lt p.y (bottom a))
 
@@ -42,6 +44,7 @@ length_between a n b m =
 abbrev pub common : Area → Area → Area
 common a b = area (int_max a.x b.x) (int_max a.y b.y) (length_between a.x a.w b.x b.w) (length_between a.y a.h b.y b.h)
 
+-- whether the rectangle has no point
 abbrev pub is_empty : Area → Bool
 is_empty a = nat_eq a.w 0 || nat_eq a.h 0
 
@@ -62,9 +65,11 @@ pub record IsShared (a b c : Area) : Type 0 where
 abbrev pub lies_in : Area → Area → Bool
 lies_in a b = (int_le b.x a.x && int_le (right a) (right b)) && (int_le b.y a.y && int_le (bottom a) (bottom b))
 
+-- whether the rectangles have a point in common, where each has some
 abbrev pub meets : Area → Area → Bool
 meets a b = (int_lt a.x (right b) && int_lt b.x (right a)) && (int_lt a.y (bottom b) && int_lt b.y (bottom a))
 
+-- the common points, if there are any
 abbrev pub clipped : Area → Area → Option Area
 clipped a b = if meets a b then Some (common a b) else None
 
@@ -75,6 +80,7 @@ bound a b =
     let y = int_min a.y b.y in
     area x y (nat_abs (int_max (right a) (right b) -ℤ x)) (nat_abs (int_max (bottom a) (bottom b) -ℤ y))
 
+-- the rectangle moved by (dx, dy)
 abbrev pub moved : Area → ℤ → ℤ → Area
 moved a dx dy = record a { x = a.x +ℤ dx; y = a.y +ℤ dy }
 
@@ -82,12 +88,14 @@ moved a dx dy = record a { x = a.x +ℤ dx; y = a.y +ℤ dy }
 abbrev pub world : Area
 world = area (negsuc 16383) (negsuc 16383) 32768 32768
 
+-- each corner point lies in the world
 pub record IsInWorld (a : Area) : Type 0 where
   pub left : world.x ≤ℤ a.x
   pub right : right a ≤ℤ right world
   pub top : world.y ≤ℤ a.y
   pub bottom : bottom a ≤ℤ bottom world
 
+-- a rectangle of the world with at least one point
 pub record IsRect (a : Area) : Type 0 where
   pub w : 1 ≤ a.w
   pub h : 1 ≤ a.h
@@ -102,6 +110,7 @@ abbrev pub row : ℤ → ℤ → ℕ → List Point
 row x y zero = []
 row x y (suc n) = point x y ∷ row (x +ℤ pos 1) y n
 
+-- n rows of w points, from the top
 abbrev pub rows : ℤ → ℤ → ℕ → ℕ → List Point
 rows x y w zero = []
 rows x y w (suc n) = row x y w ++ rows x (y +ℤ pos 1) w n

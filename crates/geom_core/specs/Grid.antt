@@ -10,7 +10,7 @@ use Rattle.std.specs.FinSet.{FinSet}
 use Rattle.geom_core.specs.Points.{Point}
 use Rattle.geom_core.specs.declared.key.TileKey.{TileKey}
 use Rattle.std.specs.Prelude.{◌≤ℤ◌, ◌<ℤ◌}
-use Rattle.geom_core.specs.Areas.{Area, area, right, bottom, clipped}
+use Rattle.geom_core.specs.Areas.{Area, area, right, bottom, clipped, common}
 use Rattle.std.specs.Coded.{Coded, code_by, coded×, coded_ℤ}
 use Rattle.std.proofs.Common.{ap, refl}
 use Rattle.std.proofs.lemmas.Cmp.{on_total, then_total, int_cmp_total}
@@ -25,9 +25,11 @@ floor_by n (negsuc x) = negsuc (x / n)
 abbrev pub Key : Type 0
 Key = TileKey
 
+-- the tile of a column and a row
 abbrev pub key : ℤ → ℤ → Key
 key c r = record { col = c; row = r }
 
+-- by row, and then by column
 abbrev pub key_cmp : Key → Key → Ordering
 key_cmp a b = ordering_then (int_cmp a.row b.row) (int_cmp a.col b.col)
 
@@ -38,12 +40,15 @@ pub record IsWorldKey (k : Key) : Type 0 where
   pub top : negsuc 255 ≤ℤ k.row
   pub bottom : k.row <ℤ pos 256
 
+-- whether two keys are one
 abbrev pub same_key : Key → Key → Bool
 same_key = eq_by_cmp key_cmp
 
+-- keys stand in one order
 pub key_cmp_total : IsTotalOrder key_cmp
 key_cmp_total = then_total (on_total (λ (k : Key). k.row) int_cmp_total) (on_total (λ (k : Key). k.col) int_cmp_total)
 
+-- keys that compare alike are one
 pub key_cmp-IsAntisymmetric : IsAntisymmetric key_cmp
 key_cmp-IsAntisymmetric a b h = ap (λ (t : ℤ × ℤ). key t.1 t.0) (exact_pairs int_cmp int_cmp exact_signed exact_signed (a.row, a.col) (b.row, b.col) h)
 
@@ -51,6 +56,7 @@ key_cmp-IsAntisymmetric a b h = ap (λ (t : ℤ × ℤ). key t.1 t.0) (exact_pai
 abbrev pub key_of : Point → Key
 key_of p = key (floor_by 64 p.x) (floor_by 64 p.y)
 
+-- the points of a tile
 abbrev pub tile : Key → Area
 tile k = area (pos 64 *ℤ k.col) (pos 64 *ℤ k.row) 64 64
 
@@ -67,10 +73,12 @@ how_many a b = nat_abs ((b +ℤ pos 1) -ℤ a)
 abbrev pub pieces : ℕ → ℤ → ℤ → List ℤ
 pieces n a b = count_from (floor_by n a) (how_many (floor_by n a) (floor_by n b))
 
+-- a row of keys, one in each of the columns
 abbrev pub keys_in_row : List ℤ → ℤ → List Key
 keys_in_row [] r = []
 keys_in_row (c ∷ cs) r = key c r ∷ keys_in_row cs r
 
+-- the keys in each of the columns and rows, row by row
 abbrev pub keys_in_rows : List ℤ → List ℤ → List Key
 keys_in_rows cs [] = []
 keys_in_rows cs (r ∷ rs) = keys_in_row cs r ++ keys_in_rows cs rs
@@ -79,18 +87,20 @@ keys_in_rows cs (r ∷ rs) = keys_in_row cs r ++ keys_in_rows cs rs
 abbrev pub keys_of : Area → List Key
 keys_of a = keys_in_rows (pieces 64 a.x (right a -ℤ pos 1)) (pieces 64 a.y (bottom a -ℤ pos 1))
 
--- those that some of the rectangles meets
+-- the tiles of one rectangle after another
 abbrev pub all_keys_of : List Area → List Key
 all_keys_of [] = []
 all_keys_of (a ∷ rest) = keys_of a ++ all_keys_of rest
 
+-- the tiles that some of the rectangles meet
 abbrev pub key_set : List Area → FinSet key_cmp
 key_set areas = set.from_list (all_keys_of areas)
 
--- the cells of the largest canvas, in row order
+-- the points of a cell, by its column and row
 abbrev pub cell : Key → Area
 cell k = area (pos 256 *ℤ k.col) (pos 256 *ℤ k.row) 256 256
 
+-- the cells of the largest canvas, in row order
 unfoldable pub cells : List Area
 cells = map cell (keys_in_rows (count_from (pos 0) 8) (count_from (pos 0) 8))
 
@@ -98,9 +108,17 @@ cells = map cell (keys_in_rows (count_from (pos 0) 8) (count_from (pos 0) 8))
 abbrev pub cell_of : Area → Key
 cell_of a = key (floor_by 256 a.x) (floor_by 256 a.y)
 
--- the parts of a rectangle by the cells, in row order
+-- the parts of a rectangle by the cells of the largest canvas, in row order
 abbrev pub parts : Area → List Area
 parts a = filter_map (clipped a) cells
+
+-- the cells that a rectangle meets, by their columns and rows, in row order
+abbrev pub cell_keys_of : Area → List Key
+cell_keys_of a = keys_in_rows (pieces 256 a.x (right a -ℤ pos 1)) (pieces 256 a.y (bottom a -ℤ pos 1))
+
+-- the parts of any rectangle in the cells that it meets, in row order
+abbrev pub cells_of : Area → List Area
+cells_of a = map (λ k. common a (cell k)) (cell_keys_of a)
 
 -- the code by which contracts tell keys apart
 abbrev pub key_code : Coded Key

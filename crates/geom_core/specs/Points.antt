@@ -9,10 +9,12 @@ use Rattle.std.proofs.Common.{ap, refl}
 use Rattle.std.proofs.lemmas.Cmp.{on_total, then_total, int_cmp_total}
 use Rattle.std.proofs.lemmas.Map.Lookups.{exact_pairs, exact_signed}
 
+-- a point by its column and row
 pub record Point : Type 0 where
   pub x : ℤ
   pub y : ℤ
 
+-- the point of a column and a row
 abbrev pub point : ℤ → ℤ → Point
 point x y = record { x = x; y = y }
 
@@ -20,9 +22,11 @@ point x y = record { x = x; y = y }
 abbrev pub point_cmp : Point → Point → Ordering
 point_cmp p q = ordering_then (int_cmp p.y q.y) (int_cmp p.x q.x)
 
+-- whether two points are one
 abbrev pub same_point : Point → Point → Bool
 same_point = eq_by_cmp point_cmp
 
+-- points stand in one order
 pub point_cmp_total : IsTotalOrder point_cmp
 point_cmp_total = then_total (on_total (λ (p : Point). p.y) int_cmp_total) (on_total (λ (p : Point). p.x) int_cmp_total)
 

@@ -1,19 +1,26 @@
-//! The world: rectangles, tiles and cells.
+//! The world of points: its rectangles, its tiles of 64 by 64 points, by which layers keep their
+//! pixels, and its cells of 256 by 256, by which updates are queued.
 #![tactic(auto, using(crate::proofs::Shifted::shifted))]
 
+#[cfg(test)]
+mod by_hand;
 mod key;
+pub mod laws;
 mod rect;
 
 pub use key::{TileKey, tile_of};
 pub use rect::Rect;
 use std::alloc::{AllocError, AllocFailed};
+use thiserror::Error;
 
-/// No memory was left. The object is as it was before the call.
-#[derive(Clone, Copy, Debug, PartialEq, Eq)]
+/// No memory was left. Where a call doesn't say otherwise, all is as it was before it.
+#[derive(Clone, Copy, Debug, PartialEq, Eq, Error)]
+#[error("no memory was left")]
 pub struct NoMemory;
 
-/// A point is outside the world.
-#[derive(Clone, Copy, Debug, PartialEq, Eq)]
+/// A point would lie outside the world, whose x and y go from -16384 to 16383.
+#[derive(Clone, Copy, Debug, PartialEq, Eq, Error)]
+#[error("a point lies outside the world")]
 pub struct OutOfWorld;
 
 impl From<AllocError> for NoMemory {
@@ -26,4 +33,13 @@ impl<T: Drop> From<AllocFailed<T>> for NoMemory {
     fn from(_e: AllocFailed<T>) -> NoMemory {
         NoMemory
     }
+}
+
+/// What a change of tiles has touched.
+#[derive(Clone, Copy, Debug, PartialEq, Eq)]
+pub struct Touched {
+    /// How many tiles were exchanged.
+    pub count: u32,
+    /// The least rectangle round these tiles. None exactly where there are none.
+    pub bound: Option<Rect>,
 }

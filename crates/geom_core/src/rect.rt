@@ -1,8 +1,8 @@
 //! Rectangles of the world.
 ghost use Rattle.std.specs.Prelude.{IfSome, IfNone, false, length, slice_get, Some, ◌/◌, ◌*◌, nat_abs, ◌<ℤ◌, ◌⊎◌, MatchOption, negsuc, ◌≡◌, ℕ, ◌<◌, ◌≤◌, ◌+◌, ◌-◌, true, ◌&&◌, nat_lt, nat_le, ℤ, pos, ◌-ℤ◌, ◌+ℤ◌, ◌≤ℤ◌, int_le, int_lt, IfOk, OnOk, OnErr, MatchResult, SomeIff};
-ghost use Rattle.geom_core.specs.Areas.{IsShared, place_in, Area, area, holds, meets, clipped, bound, moved, right, bottom, world, IsRect, IsInWorld};
+ghost use Rattle.geom_core.specs.Areas.{IsShared, place_in, Area, area, holds, meets, common, clipped, bound, moved, right, bottom, world, IsRect, IsInWorld};
 ghost use Rattle.geom_core.specs.Points.{Point, point};
-ghost use Rattle.geom_core.specs.Grid.{keys_of, IsWorldKey};
+ghost use Rattle.geom_core.specs.Grid.{keys_of, cells_of, cell, key, IsWorldKey};
 ghost use Rattle.geom_core.specs.Place.{IsOffset};
 
 use crate::{OutOfWorld, TileKey};
@@ -11,7 +11,11 @@ use std::marker::Model;
 /// How far the world's corner lies to the left of 0 and above it.
 const CORNER: i32 = 16384;
 
-/// A rectangle of the world with at least one point.
+/// The world has points with x and y from -16384 to 16383, and so this many columns and rows.
+const SIDE: u32 = 32768;
+
+/// A rectangle of the world with at least one point. Contracts see it as an `Area`: the point of
+/// its upper left corner, and how many columns and rows it has.
 #[derive(Clone, Copy, Debug, PartialEq, Eq)]
 pub struct Rect {
     left: u32,
@@ -37,7 +41,23 @@ impl Model for Rect {
     ghost inverse_ok = { λ a h. kept-seen a };
 }
 
+/// The point (0, 0) alone. It fills the unused places of lists of a fixed capacity.
+impl Default for Rect {
+    ghost is_default = { λ r. r ≡ area (pos 0) (pos 0) 1 1 };
+
+    fn default() -> Rect {
+        Rect {
+            left: CORNER as u32,
+            top: CORNER as u32,
+            w: 1,
+            h: 1,
+        }
+    }
+}
+
 impl Rect {
+    /// The rectangle of w columns from x on and h rows from y on, each 1 to 32,768.
+    /// `OutOfWorld` exactly where a corner point lies outside the world.
     pub fn new(x: i32, y: i32, w: u32, h: u32) -> Result<Rect, OutOfWorld>
         requires w { 1 ≤ w × w ≤ 32768 }
         requires h { 1 ≤ h × h ≤ 32768 }
@@ -50,13 +70,13 @@ impl Rect {
         }
         let left = (x + CORNER) as u32;
         let top = (y + CORNER) as u32;
-        if left + w > 32768 || top + h > 32768 {
+        if left + w > SIDE || top + h > SIDE {
             return Err(OutOfWorld);
         }
         Ok(Rect { left, top, w, h })
     }
 
-    /// How far its left column lies from the world's.
+    /// How many columns of the world lie to the left of it.
     pub fn left(&self) -> u32
         ensures value { IsOffset result self.now.x }
         ensures small { result + self.now.w ≤ 32768 }
@@ -64,7 +84,7 @@ impl Rect {
         self.left
     }
 
-    /// How far its top row lies from the world's.
+    /// How many rows of the world lie above it.
     pub fn top(&self) -> u32
         ensures value { IsOffset result self.now.y }
         ensures small { result + self.now.h ≤ 32768 }
@@ -72,6 +92,7 @@ impl Rect {
         self.top
     }
 
+    /// Its leftmost column.
     pub fn x(&self) -> i32
         ensures value { result ≡ self.now.x }
         ensures low { world.x ≤ℤ result }
@@ -80,6 +101,7 @@ impl Rect {
         self.left as i32 - CORNER
     }
 
+    /// Its topmost row.
     pub fn y(&self) -> i32
         ensures value { result ≡ self.now.y }
         ensures low { world.y ≤ℤ result }
@@ -88,6 +110,7 @@ impl Rect {
         self.top as i32 - CORNER
     }
 
+    /// How many columns it has.
     pub fn w(&self) -> u32
         ensures value { result ≡ self.now.w }
         ensures some { 1 ≤ result }
@@ -96,6 +119,7 @@ impl Rect {
         self.w
     }
 
+    /// How many rows it has.
     pub fn h(&self) -> u32
         ensures value { result ≡ self.now.h }
         ensures some { 1 ≤ result }
@@ -104,12 +128,14 @@ impl Rect {
         self.h
     }
 
+    /// Whether it holds the point (x, y).
     pub fn holds(&self, x: i32, y: i32) -> bool
         ensures { result ≡ holds self.now (point x y) }
     {
         within(self.left, self.w, x) && within(self.top, self.h, y)
     }
 
+    /// Whether the two have a point in common.
     pub fn meets(&self, other: &Rect) -> bool
         ensures { result ≡ meets self.now other.now }
     {
@@ -117,24 +143,34 @@ impl Rect {
             && crosses(self.top, self.h, other.top, other.h)
     }
 
-    /// The common points. None where there are none.
+    /// The common points. None exactly where there are none.
     pub fn clip(&self, other: &Rect) -> Option<Rect>
         ensures value { result ≡ clipped self.now other.now }
         ensures shared { IfSome result (IsShared self.now other.now) }
         ensures apart { IfNone result ((p : Point) → holds self.now p ≡ true → holds other.now p ≡ false) }
     {
         if self.meets(other) {
-            let left = self.left.max(other.left);
-            let top = self.top.max(other.top);
-            let w = (self.left + self.w).min(other.left + other.w) - left;
-            let h = (self.top + self.h).min(other.top + other.h) - top;
-            Some(Rect { left, top, w, h })
+            Some(self.common_part(other))
         } else {
             None
         }
     }
 
-    /// The rectangle moved by (dx, dy).
+    /// The common points of two rectangles that have some.
+    fn common_part(&self, other: &Rect) -> Rect
+        requires { meets self.now other.now ≡ true }
+        ensures value { result ≡ common self.now other.now }
+        ensures shared { IsShared self.now other.now result }
+    {
+        let left = self.left.max(other.left);
+        let top = self.top.max(other.top);
+        let w = (self.left + self.w).min(other.left + other.w) - left;
+        let h = (self.top + self.h).min(other.top + other.h) - top;
+        Rect { left, top, w, h }
+    }
+
+    /// The rectangle moved by (dx, dy), each -32,767 to 32,767.
+    /// `OutOfWorld` exactly where a corner point lies outside the world then.
     pub fn moved(&self, dx: i32, dy: i32) -> Result<Rect, OutOfWorld>
         requires dx { negsuc 32766 ≤ℤ dx × dx ≤ℤ pos 32767 }
         requires dy { negsuc 32766 ≤ℤ dy × dy ≤ℤ pos 32767 }
@@ -169,7 +205,7 @@ impl Rect {
 }
 
 impl Rect {
-    /// Where a point stands among its points in row order.
+    /// Where a point of it stands among its points in row order, from 0.
     pub fn place(&self, x: i32, y: i32) -> usize
         requires { holds self.now (point x y) ≡ true }
         ensures value { result ≡ place_in self.now (point x y) }
@@ -180,7 +216,7 @@ impl Rect {
         row * self.w as usize + col
     }
 
-    /// How many tiles it meets.
+    /// How many tiles of 64 by 64 points it meets.
     pub fn tile_count(&self) -> u32
         ensures value { result ≡ length (keys_of self.now) }
         ensures small { result ≤ 262144 }
@@ -190,7 +226,7 @@ impl Rect {
         cols * rows
     }
 
-    /// The tile at place i of those that it meets, in row order.
+    /// The tile at place i, from 0, of those that it meets, in row order.
     pub fn tile_at(&self, i: u32) -> TileKey
         requires { i < length (keys_of self.now) }
         ensures value { slice_get (keys_of self.now) i ≡ Some result }
@@ -215,6 +251,43 @@ impl Rect {
     }
 }
 
+impl Rect {
+    /// How many cells it meets. Cells have 256 by 256 points, with corners at multiples of 256.
+    pub fn cell_count(&self) -> u32
+        ensures value { result ≡ length (cells_of self.now) }
+        ensures some { 1 ≤ result }
+        ensures small { result ≤ 16384 }
+    {
+        let cols = cells_along(self.left, self.w);
+        let rows = cells_along(self.top, self.h);
+        cols * rows
+    }
+
+    /// Its part in the cell at place i, from 0, of those that it meets, in row order.
+    pub fn cell_at(&self, i: u32) -> Rect
+        requires { i < length (cells_of self.now) }
+        ensures { slice_get (cells_of self.now) i ≡ Some result }
+    {
+        let cols = cells_along(self.left, self.w);
+        let cell = Rect::of_cell(self.left / 256 + i % cols, self.top / 256 + i / cols);
+        self.common_part(&cell)
+    }
+
+    /// The cell of a column and a row, which count from the world's corner.
+    fn of_cell(col: u32, row: u32) -> Rect
+        requires col { col < 128 }
+        requires row { row < 128 }
+        ensures { result ≡ cell (key (pos col -ℤ pos 64) (pos row -ℤ pos 64)) }
+    {
+        Rect {
+            left: 256 * col,
+            top: 256 * row,
+            w: 256,
+            h: 256,
+        }
+    }
+}
+
 /// Whether x is one of the n numbers from a on, which counts from the world's edge.
 fn within(a: u32, n: u32, x: i32) -> bool
     requires { a + n ≤ 32768 }
@@ -223,6 +296,7 @@ fn within(a: u32, n: u32, x: i32) -> bool
     a as i32 - CORNER <= x && x < a as i32 - CORNER + n as i32
 }
 
+/// Whether the n numbers from a on and the m from b on have one in common.
 fn crosses(a: u32, n: u32, b: u32, m: u32) -> bool
     requires first { a + n ≤ 32768 }
     requires second { b + m ≤ 32768 }
@@ -264,4 +338,15 @@ fn pieces(a: u32, n: u32) -> u32
     ensures inside { a / 64 + result ≤ 512 }
 {
     (a + n - 1) / 64 + 1 - a / 64
+}
+
+/// How many pieces of 256 the n numbers from a on meet.
+fn cells_along(a: u32, n: u32) -> u32
+    requires some { 1 ≤ n }
+    requires inside { a + n ≤ 32768 }
+    ensures value { result ≡ (a + n - 1) / 256 + 1 - a / 256 }
+    ensures some { 1 ≤ result }
+    ensures inside { a / 256 + result ≤ 128 }
+{
+    (a + n - 1) / 256 + 1 - a / 256
 }

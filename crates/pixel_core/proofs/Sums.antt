@@ -1,9 +1,9 @@
 -- Bounds of the sums that compose pixels.
-use Rattle.std.proofs.Common.{◌≡◌, ℕ, ◌+◌, ◌-◌, ◌*◌, ◌/◌, ◌≤◌, ◌<◌, arith, ap, sym, ◌∙◌, refl, ◌≢◌, ◌==◌, true, false}
+use Rattle.std.proofs.Common.{◌≡◌, ℕ, ◌+◌, ◌-◌, ◌*◌, ◌/◌, ◌≤◌, ◌<◌, arith, ap, refl, ◌≢◌, ◌==◌, true, false}
 use Rattle.std.proofs.Math.Nat.{mul-le-mul_left, div-lt_iff_lt-mul}
 use Rattle.pixel_core.specs.Bytes.{mul, nearest}
 use Rattle.pixel_core.specs.Compose.{weight, compose, laid, channel}
-use Rattle.pixel_core.specs.Rgba.{Rgba, clear, if_canonical, rgba}
+use Rattle.pixel_core.specs.Rgba.{Rgba, if_canonical, rgba}
 use Rattle.pixel_core.specs.declared.blending.Op.{Op}
 use Rattle.pixel_core.specs.declared.blending.Op.TheVariants.{Over, Erase, Multiply, Screen, Addition}
 use Rattle.std.proofs.lemmas.Bool.Decides.{nat_tests}
@@ -55,7 +55,7 @@ erase_is Multiply s d m sa alpha e f g = cc
 erase_is Screen s d m sa alpha e f g = cc
 erase_is Addition s d m sa alpha e f g = cc
 
-composed_laid : (op : Op) (s d : Rgba) (m : ℕ) → op ≢ Erase → compose op s d m ≡ laid op s d (mul s.a m)
+pub composed_laid : (op : Op) (s d : Rgba) (m : ℕ) → op ≢ Erase → compose op s d m ≡ laid op s d (mul s.a m)
 unfolding compose
 composed_laid Erase s d m e = absurd (e refl)
 composed_laid Over s d m e = refl
@@ -63,27 +63,17 @@ composed_laid Multiply s d m e = refl
 composed_laid Screen s d m e = refl
 composed_laid Addition s d m e = refl
 
-test_false : (n : ℕ) → n ≢ 0 → (n == 0) ≡ false
+pub test_false : (n : ℕ) → n ≢ 0 → (n == 0) ≡ false
 test_false n h = grind (arith, nat_tests)
 
-test_true : (n : ℕ) → n ≡ 0 → (n == 0) ≡ true
+pub test_true : (n : ℕ) → n ≡ 0 → (n == 0) ≡ true
 test_true n h = grind (arith, nat_tests)
 
-pub none_is : (op : Op) (s d : Rgba) (m sa w : ℕ) → op ≢ Erase → sa ≡ mul s.a m → w ≡ weight sa d.a → w ≡ 0 → clear ≡ compose op s d m
-none_is op s d m sa w e f g z = let t : (weight (mul s.a m) d.a == 0) ≡ true = test_true _ (ap (λ n. weight n d.a) (sym f) ∙ sym g ∙ z) in sym (composed_laid op s d m e ∙ rw t refl)
-
-heavy : (sa da : ℕ) → sa ≤ 255 → da ≤ 255 → weight sa da ≢ 0 → 255 ≤ weight sa da
+pub heavy : (sa da : ℕ) → sa ≤ 255 → da ≤ 255 → weight sa da ≢ 0 → 255 ≤ weight sa da
 heavy sa da a b h = grind (arith, parts (255 - sa) (255 - da) sa da)
 
-same_rgba : {r r' g g' b b' a a' : ℕ} → r ≡ r' → g ≡ g' → b ≡ b' → a ≡ a' → rgba r g b a ≡ rgba r' g' b' a'
+pub same_rgba : {r r' g g' b b' a a' : ℕ} → r ≡ r' → g ≡ g' → b ≡ b' → a ≡ a' → rgba r g b a ≡ rgba r' g' b' a'
 same_rgba p q t u i = rgba (p i) (q i) (t i) (u i)
 
-laid_open : (op : Op) (s d : Rgba) (sa : ℕ) → weight sa d.a ≢ 0 → laid op s d sa ≡ rgba (channel op sa d.a s.r d.r) (channel op sa d.a s.g d.g) (channel op sa d.a s.b d.b) (nearest (weight sa d.a) 255)
+pub laid_open : (op : Op) (s d : Rgba) (sa : ℕ) → weight sa d.a ≢ 0 → laid op s d sa ≡ rgba (channel op sa d.a s.r d.r) (channel op sa d.a s.g d.g) (channel op sa d.a s.b d.b) (nearest (weight sa d.a) 255)
 laid_open op s d sa z = rw (test_false (weight sa d.a) z) refl
-
-pub laid_is : (op : Op) (s d : Rgba) (m sa w r g b a : ℕ) → op ≢ Erase → sa ≡ mul s.a m → sa ≤ 255 → d.a ≤ 255 → w ≡ weight sa d.a → w ≢ 0
-    → r ≡ channel op sa d.a s.r d.r → g ≡ channel op sa d.a s.g d.g → b ≡ channel op sa d.a s.b d.b → a ≡ nearest w 255 → if_canonical r g b a ≡ compose op s d m
-laid_is op s d m sa w r g b a e f small small' k z er eg eb ea =
-    let hv : 255 ≤ weight sa d.a = heavy sa d.a small small' (λ n. z (k ∙ n)) in
-    let some : a ≢ 0 = (λ n. let low : 1 ≤ nearest w 255 = (let hw : 255 ≤ w = rw k hv in omega arith) in omega (arith, ea)) in
-    rw (test_false a some) (same_rgba er eg eb (ea ∙ ap (λ n. nearest n 255) k) ∙ sym (laid_open op s d sa (λ n. z (k ∙ n))) ∙ ap (laid op s d) f ∙ sym (composed_laid op s d m e))

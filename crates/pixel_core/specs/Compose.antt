@@ -1,11 +1,22 @@
--- Laying one pixel on another.
+-- Laying a source on a backdrop, by the equations of W3C's Compositing and Blending Level 1, in whole numbers.
+--
+-- Alphas and colours are 255ths, and colours aren't premultiplied. The equations, in fractions of 1 and with a small co
+-- for the result's premultiplied colour, are
+--   co = Cs x αs + Cb x αb x (1 - αs) and αo = αs + αb x (1 - αs)     section 5.1, simple alpha compositing
+--   Cs = (1 - αb) x Cs + αb x B(Cb, Cs)                               section 10, the source's colour after blending
+--   B = Cs for normal, Cb x Cs for multiply, Cb + Cs - Cb x Cs for screen     section 10
+--   co = αb x Cb x (1 - αs) and αo = αb x (1 - αs)                    section 9.1, destination out
+-- Over is normal and Erase destination out. Addition is no mode of that text: its B is min(1, Cb + Cs).
+--
+-- Where they round is not in that text: the source's alpha times the strength, a product in B, the alpha that Erase
+-- leaves, and each channel of the result are each rounded to the nearest 255th.
 use Rattle.std.specs.Prelude.{ℕ, ◌+◌, ◌-◌, ◌*◌, ◌==◌, if◌then◌else◌, min, List, [], ◌∷◌}
 use Rattle.pixel_core.specs.declared.blending.Op.{Op}
 use Rattle.pixel_core.specs.declared.blending.Op.TheVariants.{Over, Erase, Multiply, Screen, Addition}
 use Rattle.pixel_core.specs.Bytes.{nearest, mul}
 use Rattle.pixel_core.specs.Rgba.{Rgba, clear}
 
--- what is laid where both are opaque, for one channel
+-- B: the colour where both cover, for one channel
 abbrev pub blend : Op → ℕ → ℕ → ℕ
 blend Over s d = s
 blend Erase s d = d
@@ -13,11 +24,11 @@ blend Multiply s d = mul s d
 blend Screen s d = (s + d) - mul s d
 blend Addition s d = min 255 (s + d)
 
--- 255 * 255 times the alpha of the union of two alphas
+-- 255 * 255 times αo
 abbrev pub weight : ℕ → ℕ → ℕ
 weight sa da = 255 * (sa + da) - sa * da
 
--- one channel of the result
+-- one channel of the result: 255 * 255 * 255 times co, divided by 255 * 255 times αo
 abbrev pub channel : Op → ℕ → ℕ → ℕ → ℕ → ℕ
 channel op sa da s d = nearest ((255 - sa) * da * d + (255 - da) * sa * s + sa * da * blend op s d) (weight sa da)
 
@@ -42,7 +53,7 @@ abbrev pub composed_at : Op → Rgba → Rgba → ℕ → Rgba
 composed_at Erase s d sa = erased d (mul d.a (255 - sa))
 composed_at op s d sa = laid op s d sa
 
--- s laid on d with a strength of m
+-- s laid on d with a strength of m 255ths
 unfoldable pub compose : Op → Rgba → Rgba → ℕ → Rgba
 compose op s d m = composed_at op s d (mul s.a m)
 

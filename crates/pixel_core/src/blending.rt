@@ -1,48 +1,89 @@
 //! Laying one pixel on another.
 
-ghost use Rattle.std.specs.Prelude.{◌≡◌, ℕ, ◌<◌, ◌≤◌, ◌*◌};
-ghost use Rattle.pixel_core.specs.Bytes.{nearest};
-ghost use Rattle.pixel_core.specs.Compose.{compose as composed, on_paper as paper_colours, weight, blend, channel};
+ghost use Rattle.std.specs.Prelude.{◌≡◌, ◌≢◌, ℕ, ◌<◌, ◌≤◌, ◌*◌};
+ghost use Rattle.pixel_core.specs.Compose.{compose as composed, on_paper as paper_colours, laid, weight, blend, channel};
 
-use crate::bytes::mul;
+use crate::bytes::{mul, rounded_255th};
 use crate::pixel::Pixel;
 
-/// How a pixel is laid on another.
+/// How a source is laid on a destination.
+///
+/// `Over`, `Multiply` and `Screen` are the blend modes normal, multiply and screen of W3C's
+/// Compositing and Blending Level 1 (section 10) with its simple alpha compositing (section 5.1).
 #[derive(Clone, Copy, Debug, PartialEq, Eq)]
 pub enum Op {
+    /// The source covers the destination.
     Over,
+    /// The source's alpha takes from the destination's: destination out in W3C's text.
     Erase,
+    /// Where both cover, the product of the colours, each a fraction of 1.
     Multiply,
+    /// Where both cover, the sum of the colours less their product.
     Screen,
+    /// Where both cover, the sum of the colours, at most 1. W3C's text has no such mode.
     Addition,
 }
 
-/// s laid on d with a strength of m.
+/// `s` laid on `d` with a strength of `m` 255ths.
+///
+/// The source's alpha is `mul(s.a, m)`. The result's alpha is αs + αb x (1 - αs), and its colour
+/// follows from co = Cs x αs + Cb x αb x (1 - αs) after blending, by W3C's Compositing and Blending
+/// Level 1, sections 5.1 and 10. Each channel of the result is rounded once, to the nearest 255th.
+#[inline]
 pub fn compose(op: Op, s: Pixel, d: Pixel, m: u8) -> Pixel
     ensures { result ≡ composed op s d m }
 {
     let sa = mul(s.a, m);
+    let da = d.a;
+    if sa == 0 {
+        return d;
+    }
     match op {
         Op::Erase => {
-            let alpha = mul(d.a, 255 - sa);
+            let alpha = mul(da, 255 - sa);
             Pixel::new(d.r, d.g, d.b, alpha)
         }
-        _ => {
-            let w = weight_of(sa, d.a);
-            if w == 0 {
-                Pixel::CLEAR
-            } else {
-                Pixel::new(
-                    channel_of(op, sa, d.a, s.r, d.r),
-                    channel_of(op, sa, d.a, s.g, d.g),
-                    channel_of(op, sa, d.a, s.b, d.b),
-                    alpha_of(w),
-                )
-            }
-        }
+        _ => lay(op, s, d, sa),
     }
 }
 
+/// `s` laid on `d` with the alpha `sa` in place of its own, by an operation other than `Erase`.
+fn lay(op: Op, s: Pixel, d: Pixel, sa: u8) -> Pixel
+    requires { 0 < sa }
+    ensures { result ≡ laid op s d sa }
+{
+    if d.a == 0 {
+        Pixel::new(s.r, s.g, s.b, sa)
+    } else if d.a == 255 {
+        lay_on_opaque(op, s, d, sa)
+    } else {
+        lay_on_any(op, s, d, sa)
+    }
+}
+
+fn lay_on_opaque(op: Op, s: Pixel, d: Pixel, sa: u8) -> Pixel
+    requires opaque { d.a ≡ 255 }
+    ensures { result ≡ laid op s d sa }
+{
+    let r = channel_on_opaque(op, sa, s.r, d.r);
+    let g = channel_on_opaque(op, sa, s.g, d.g);
+    let b = channel_on_opaque(op, sa, s.b, d.b);
+    Pixel::new(r, g, b, 255)
+}
+
+fn lay_on_any(op: Op, s: Pixel, d: Pixel, sa: u8) -> Pixel
+    requires { 0 < sa }
+    ensures { result ≡ laid op s d sa }
+{
+    let w = weight_of(sa, d.a);
+    let r = channel_of(op, sa, d.a, s.r, d.r);
+    let g = channel_of(op, sa, d.a, s.g, d.g);
+    let b = channel_of(op, sa, d.a, s.b, d.b);
+    let a = rounded_255th(w);
+    Pixel::new(r, g, b, a)
+}
+
+/// 255 * 255 times the result's alpha as a fraction of 1.
 fn weight_of(sa: u8, da: u8) -> u32
     ensures value { result ≡ weight sa da }
     ensures small { result ≤ 65025 }
@@ -50,15 +91,7 @@ fn weight_of(sa: u8, da: u8) -> u32
     255 * (sa as u32 + da as u32) - sa as u32 * da as u32
 }
 
-/// The alpha of the union of two alphas, of which w is 255 * 255 times the fraction.
-fn alpha_of(w: u32) -> u8
-    requires { w ≤ 65025 }
-    ensures { result ≡ nearest w 255 }
-{
-    ((2 * w + 255) / 510) as u8
-}
-
-/// What is laid where both are opaque, for one channel.
+/// What is laid where both cover, for one channel.
 fn blend_of(op: Op, s: u8, d: u8) -> u8
     ensures { result ≡ blend op s d }
 {
@@ -69,6 +102,15 @@ fn blend_of(op: Op, s: u8, d: u8) -> u8
         Op::Screen => (s as u16 + d as u16 - mul(s, d) as u16) as u8,
         Op::Addition => s.saturating_add(d),
     }
+}
+
+/// One channel of the result on an opaque destination, whose weight is 255 * 255.
+fn channel_on_opaque(op: Op, sa: u8, s: u8, d: u8) -> u8
+    ensures { result ≡ channel op sa 255 s d }
+{
+    let f = blend_of(op, s, d) as u32;
+    let sa = sa as u32;
+    rounded_255th((255 - sa) * d as u32 + sa * f)
 }
 
 /// One channel of the result.
@@ -84,7 +126,8 @@ fn channel_of(op: Op, sa: u8, da: u8, s: u8, d: u8) -> u8
     ((2 * n + w) / (2 * w)) as u8
 }
 
-/// The colours of `p` laid over an opaque paper.
+/// The colours of `p` laid over an opaque paper: red, green and blue.
+#[inline]
 pub fn on_paper(p: Pixel, paper: Pixel) -> [u8; 3]
     requires opaque { paper.a ≡ 255 }
     ensures { result ≡ paper_colours p paper }

@@ -1,11 +1,12 @@
-//! Pixels.
+//! Pixels of eight bits a channel.
 
 ghost use Rattle.std.specs.Prelude.{◌≡◌};
 ghost use Rattle.pixel_core.specs.Rgba.{if_canonical, bytes_of};
 
 use std::marker::Model;
 
-/// A canonical pixel: clear where its alpha is 0.
+/// A pixel: red, green, blue and alpha in 255ths, colours not premultiplied. It is canonical: where
+/// its alpha is 0 all four are 0, so that pixels that look alike are equal.
 #[derive(Clone, Copy, Debug, PartialEq, Eq)]
 pub struct Pixel {
     pub(crate) r: u8,
@@ -28,6 +29,7 @@ impl Model for Pixel {
 }
 
 impl Pixel {
+    /// The pixel that covers nothing: all four bytes are 0.
     pub const CLEAR: Pixel = Pixel {
         r: 0,
         g: 0,
@@ -35,22 +37,20 @@ impl Pixel {
         a: 0,
     };
 
+    /// The pixel of these bytes, or the clear pixel where `a` is 0.
+    #[inline]
     pub fn new(r: u8, g: u8, b: u8, a: u8) -> Pixel
         ensures { result ≡ if_canonical r g b a }
     {
         if a == 0 {
-            Pixel {
-                r: 0,
-                g: 0,
-                b: 0,
-                a: 0,
-            }
+            Pixel::CLEAR
         } else {
             Pixel { r, g, b, a }
         }
     }
 
     /// Red, green, blue and alpha.
+    #[inline]
     pub fn bytes(self) -> [u8; 4]
         ensures { result ≡ bytes_of self }
     {

@@ -1,0 +1,71 @@
+//! How strongly a round dab paints at each pixel.
+
+ghost use Rattle.std.specs.Prelude.{◌≡◌, ◌≤◌, ◌*◌, true, nat_abs};
+ghost use Rattle.brush_mask.specs.Mask.{mask as strength, inside};
+
+/// The strength, in 255ths, of a round dab of radius `r` pixels at the pixel (`dx`, `dy`) from its
+/// centre: 0 outside the circle, and inside it 255 where the dab is hard. A `soft` dab falls with
+/// the square of the distance, from 255 at the centre.
+#[inline]
+#[tactic(auto, unfolding(crate::specs::Mask::mask))]
+pub fn mask(r: u8, soft: bool, dx: i16, dy: i16) -> u8
+    requires radius { r ≤ 128 }
+    requires across { nat_abs dx ≤ 128 }
+    requires down { nat_abs dy ≤ 128 }
+    ensures { result ≡ strength r soft dx dy }
+{
+    let r2 = square(r as u16);
+    let d2 = square(dx.unsigned_abs()) + square(dy.unsigned_abs());
+    if r2 < d2 {
+        0
+    } else if soft {
+        fallen(r2, d2)
+    } else {
+        255
+    }
+}
+
+fn square(x: u16) -> u32
+    requires { x ≤ 128 }
+    ensures value { result ≡ x * x }
+    ensures small { result ≤ 16384 }
+{
+    x as u32 * x as u32
+}
+
+/// The strength of a soft dab at a distance whose square is `d2`, where its radius has the square `r2`.
+fn fallen(r2: u32, d2: u32) -> u8
+    requires within { d2 ≤ r2 }
+    requires small { r2 ≤ 16384 }
+    ensures { result ≡ inside true r2 d2 }
+{
+    (255 * (r2 + 1 - d2) / (r2 + 1)) as u8
+}
+
+#[cfg(test)]
+mod tests {
+    use super::*;
+
+    #[test]
+    fn masks(rt: HostRuntime) {
+        for (r, soft, dx, dy, want) in [
+            (1u8, true, 0i16, 0i16, 255),
+            (1, true, 1, 0, 127),
+            (1, true, -1, 0, 127),
+            (1, true, 0, 1, 127),
+            (1, true, 0, -1, 127),
+            (1, true, 1, 1, 0),
+            (1, true, -1, 1, 0),
+            (1, false, 1, 0, 255),
+            (1, false, 1, -1, 0),
+            (0, true, 0, 0, 255),
+            (0, true, 1, 0, 0),
+            (2, true, 1, 1, 153),
+            (128, true, 0, -128, 0),
+            (128, false, 128, 0, 255),
+        ] {
+            assert!(rt; r <= 128 && dx.unsigned_abs() <= 128 && dy.unsigned_abs() <= 128);
+            assert_eq!(rt; mask(r, soft, dx, dy), want, "{r} {soft} {dx} {dy}");
+        }
+    }
+}

@@ -1,0 +1,13 @@
+//! What a program reads from, writes to and tells of its work. Each source and sink counts its faults.
+#![tactic(auto)]
+
+mod memory;
+mod outside;
+mod standard;
+
+pub use memory::{MemSink, MemSource};
+pub use outside::{Failed, Gate, NoGate, Sink, Source};
+pub use standard::{StdSink, StdSource};
+
+#[cfg(test)]
+mod tests;

@@ -1,0 +1,62 @@
+//! What a run tells of itself.
+
+ghost use Rattle.std.specs.Prelude.{◌≡◌, ◌≢◌, ◌⊎◌, IfOk, string_bytes};
+ghost use Rattle.std.specs.Io.KnownBytes.{Keeps, Appends};
+ghost use Rattle.io_edge.specs.Faults.{Rose};
+ghost use Rattle.strokes_top.specs.Bytes.{AppendsPrefix};
+ghost use Rattle.strokes_top.specs.Status.{told_by};
+
+use crate::status::Status;
+use crate::transfer::write_all;
+use io_edge::Sink;
+use script_text::Cause;
+use std::alloc::{AllocError, Global};
+
+/// The line of a script's fault.
+fn script_line(alloc: Global, line: u32, cause: Cause) -> Result<String, AllocError>
+    ensures { IfOk result (λ s. string_bytes s ≡ told_by (Status.Script line cause)) }
+{
+    match cause {
+        Cause::NotBuilt => format!(in alloc; "strokes: line {line}: not built yet\n"),
+    }
+}
+
+/// Writes a line as far as the sink takes it.
+fn tell<E: Sink>(err: &mut E, line: &[u8])
+    ensures prefix { AppendsPrefix (E.taken err.old) (E.taken err.new) line.now }
+    ensures whole { ¬ Rose (E.faults err.old) (E.faults err.new) → Appends (E.taken err.old) (E.taken err.new) line.now }
+{
+    let _ = write_all(err, line);
+}
+
+/// Tells a status on the error sink. Where the line finds no memory, the status is that.
+pub fn report<E: Sink>(alloc: Global, err: &mut E, status: Status) -> Status
+    ensures same { (result ≡ status) ⊎ (result ≡ Status.NoMemory) }
+    ensures done { status ≡ Status.Done → result ≡ Status.Done }
+    ensures write_fault { status ≡ Status.WriteFault → result ≡ Status.WriteFault }
+    ensures too_long { status ≡ Status.TooLong → result ≡ Status.TooLong }
+    ensures usage { status ≡ Status.Usage → result ≡ Status.Usage }
+    ensures quiet { result ≡ Status.Done → Keeps (E.taken err.old) (E.taken err.new) }
+    ensures prefix { result ≢ Status.Done → AppendsPrefix (E.taken err.old) (E.taken err.new) (told_by result) }
+    ensures whole { result ≢ Status.Done → ¬ Rose (E.faults err.old) (E.faults err.new) → Appends (E.taken err.old) (E.taken err.new) (told_by result) }
+{
+    match status {
+        Status::Done => {}
+        Status::Usage => tell(
+            err,
+            b"strokes: usage: strokes [--workers N] [--emit picture|log|sum] [--demo NUMBER]\n",
+        ),
+        Status::Script { line, cause } => {
+            let Ok(text) = script_line(alloc, line, cause) else {
+                tell(err, b"strokes: out of memory\n");
+                return Status::NoMemory;
+            };
+            tell(err, text.as_bytes());
+        }
+        Status::ReadFault => tell(err, b"strokes: reading failed\n"),
+        Status::WriteFault => tell(err, b"strokes: writing failed\n"),
+        Status::NoMemory => tell(err, b"strokes: out of memory\n"),
+        Status::TooLong => tell(err, b"strokes: script is longer than 1048576 bytes\n"),
+    }
+    status
+}

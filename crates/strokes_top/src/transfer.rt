@@ -1,0 +1,65 @@
+//! Reading all of a source, and writing all of some bytes.
+
+ghost use Rattle.std.specs.Prelude.{◌≡◌, ◌≢◌, ◌≤◌, length, Err, IfOk, OnOk, OnErr, IsErrOf};
+ghost use Rattle.std.specs.Io.KnownBytes.{Consumes, IsAtEnd, Appends};
+ghost use Rattle.io_edge.specs.Faults.{HasCause, Rose};
+ghost use Rattle.strokes_top.specs.Bytes.{AppendsPrefix, ConsumesMore, ConsumesAtMost};
+
+use io_edge::{Failed, Sink, Source};
+use std::alloc::Global;
+
+/// Writes all bytes. Where it fails, the sink took the first of them.
+pub fn write_all<K: Sink>(out: &mut K, bytes: &[u8]) -> Result<(), Failed>
+    ensures ok { OnOk result (Appends (K.taken out.old) (K.taken out.new) bytes.now) }
+    ensures err { OnErr result (AppendsPrefix (K.taken out.old) (K.taken out.new) bytes.now) }
+    ensures cause { HasCause (K.faults out.old) (K.faults out.new) result }
+{
+    let mut at = 0;
+    while at < bytes.len() {
+        let (_, rest) = bytes.split_at(at);
+        at += out.write(rest)?;
+    }
+    Ok(())
+}
+
+/// The most bytes that a script may have.
+pub const LIMIT: usize = 1_048_576;
+
+/// Why a source wasn't read to its end.
+#[derive(Clone, Copy, Debug, PartialEq, Eq)]
+pub enum ReadError {
+    /// A read failed.
+    Failed,
+    /// There are more than `LIMIT` bytes.
+    TooLong,
+    /// Memory ran out.
+    NoMemory,
+}
+
+/// Reads all that is left, where that is at most `LIMIT` bytes.
+pub fn read_all<S: Source>(alloc: Global, source: &mut S) -> Result<Vec<u8>, ReadError>
+    ensures all { IfOk result (λ v. Consumes (S.left source.old) (S.left source.new) v.items) }
+    ensures to_the_end { OnOk result (IsAtEnd (S.left source.new)) }
+    ensures too_long { IsErrOf result ReadError.TooLong → ConsumesMore LIMIT (S.left source.old) (S.left source.new) }
+    ensures within_limit { result ≢ Err ReadError.TooLong → ConsumesAtMost LIMIT (S.left source.old) (S.left source.new) }
+    ensures failed { IsErrOf result ReadError.Failed → Rose (S.faults source.old) (S.faults source.new) }
+    ensures later { S.faults source.old ≤ S.faults source.new }
+{
+    let mut bytes = Vec::new(alloc);
+    let mut chunk = [0u8; 4096];
+    loop {
+        let n = match source.read(&mut chunk) {
+            Ok(n) => n,
+            Err(Failed) => return Err(ReadError::Failed),
+        };
+        if n == 0 {
+            return Ok(bytes);
+        }
+        if n > LIMIT - bytes.len() {
+            return Err(ReadError::TooLong);
+        }
+        if bytes.extend_from_slice(&chunk[..n]).is_err() {
+            return Err(ReadError::NoMemory);
+        }
+    }
+}
