@@ -4,7 +4,7 @@ ghost use Rattle.std.specs.Prelude.{◌≡◌, ◌++◌, ◌∷◌, [], ◌<◌,
 ghost use Rattle.std.specs.Fmt.{signed_decimal};
 ghost use Rattle.std.specs.Char.{digit_char};
 ghost use Rattle.doc_model.specs.declared.tree.Change.TheVariants.{Layer, Look as ChangeLook};
-ghost use Rattle.doc_model.specs.declared.job.Job.TheVariants.{Fill, Move, Blur};
+ghost use Rattle.doc_model.specs.declared.job.Job.TheVariants.{Fill, Dab, Move, Blur};
 ghost use Rattle.doc_model.specs.declared.command.Command.TheVariants.{Stroke, Add};
 ghost use Rattle.script_text.specs.Words.{kind_text as said_kind, op_text as said_op, edge_text as said_edge, seen_text as said_seen};
 ghost use Rattle.script_text.specs.Text.{rgb_text, rgba_text, spaced, line, spot_fields, area_fields, ink_fields, ground_fields, mark_fields, job_word as said_job_word, job_text_fields, change_text, command_text, canvas_line, text};
@@ -209,6 +209,23 @@ fn add_blur(out: &mut Vec<u8>, rect: &Rect, r: u8) -> Result<(), NoMemory>
     add_number(out, r as u32)
 }
 
+#[allow(clippy::too_many_arguments)]
+fn add_dab(
+    out: &mut Vec<u8>,
+    x: i32,
+    y: i32,
+    r: u8,
+    soft: bool,
+    colour: Pixel,
+    op: Op,
+    strength: u8,
+) -> Result<(), NoMemory>
+    ensures { OnOk result (out.new.items ≡ out.old.items ++ spaced (job_text_fields (Dab x y r soft colour op strength))) }
+{
+    add_tip(out, x, y, r, soft)?;
+    add_ink(out, colour, op, strength)
+}
+
 /// Adds the fields of a job behind its stroke and its kind.
 fn add_job(out: &mut Vec<u8>, job: &Job) -> Result<(), NoMemory>
     ensures { OnOk result (out.new.items ≡ out.old.items ++ spaced (job_text_fields job.now)) }
@@ -228,10 +245,7 @@ fn add_job(out: &mut Vec<u8>, job: &Job) -> Result<(), NoMemory>
             colour,
             op,
             strength,
-        } => {
-            add_tip(out, *x, *y, *r, *soft)?;
-            add_ink(out, *colour, *op, *strength)
-        }
+        } => add_dab(out, *x, *y, *r, *soft, *colour, *op, *strength),
         Job::Move { rect, dx, dy } => add_move(out, rect, *dx, *dy),
         Job::Blur { rect, r } => add_blur(out, rect, *r),
     }
