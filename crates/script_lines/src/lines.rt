@@ -52,4 +52,3 @@ pub fn is_command(fields: &[&[u8]]) -> bool
         },
     }
 }
-

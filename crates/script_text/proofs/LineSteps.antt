@@ -1,6 +1,5 @@
 -- What one more line adds.
-use Rattle.std.proofs.Common.{◌≡◌, ℕ, Bool, true, false, Option, Some, None, List, [], ◌∷◌, ◌++◌, refl, sym, ap, ◌∙◌}
-use Rattle.std.specs.Option.{option_to_list}
+use Rattle.std.proofs.Common.{◌≡◌, ℕ, true, false, Option, Some, None, List, [], ◌∷◌, refl, sym, ap, ◌∙◌}
 use Rattle.std.specs.Str.{bytes_eq}
 use Rattle.std.proofs.lemmas.List.{append-nil}
 use Rattle.doc_model.specs.declared.canvas.Canvas.{Canvas}
@@ -8,7 +7,7 @@ use Rattle.script_text.specs.declared.reading.Reading.{Reading}
 use Rattle.script_text.specs.Words.{canvas_text, word_of}
 use Rattle.script_text.specs.Jobs.{Fields}
 use Rattle.script_text.specs.Forms.{canvas}
-use Rattle.script_text.specs.Reading.{given, first_canvas, canvas_in, command_in, command_by, start_by}
+use Rattle.script_text.specs.Reading.{given, first_canvas, command_by}
 use Rattle.script_text.specs.Read.{Takes, TakesCommand}
 
 pub first_none : (o : Option Canvas) → first_canvas o None ≡ o

@@ -1,5 +1,5 @@
 -- Going over the lines of a script, one after another.
-use Rattle.std.proofs.Common.{◌≡◌, ℕ, ◌+◌, ◌<◌, ◌≤◌, suc, zero, Bool, true, false, if◌then◌else◌, Option, Some, None, Result, Ok, Err, List, [], ◌∷◌, ◌++◌, length, map, filter, get_or, take, drop, add-one, refl, sym, ap, ◌∙◌, subst, arith}
+use Rattle.std.proofs.Common.{◌≡◌, ℕ, ◌+◌, ◌<◌, ◌≤◌, suc, true, false, Option, Some, None, Result, Ok, Err, List, [], ◌∷◌, ◌++◌, length, map, filter, get_or, take, drop, add-one, refl, sym, ap, ◌∙◌, subst, arith}
 use Rattle.std.specs.List.{filter_map, slice_split, count_by}
 use Rattle.std.specs.Prelude.{◌==◌}
 use Rattle.std.specs.Option.{option_to_list}
@@ -22,7 +22,7 @@ use Rattle.script_text.specs.declared.reading.Reading.{Reading}
 use Rattle.script_text.specs.declared.reading.Start.{Start}
 use Rattle.script_text.specs.Jobs.{Fields}
 use Rattle.script_text.specs.Script.{Contents}
-use Rattle.script_text.specs.Reading.{NumberedLine, numbered, command_lines, canvas_in, command_in, first_canvas, canvas_of, commands_of, starts_of, start_by, cause_by, cause, first_fault, end_by, end_fault, fault_after, fault, contents_by, unless, script}
+use Rattle.script_text.specs.Reading.{NumberedLine, numbered, command_lines, canvas_in, command_in, first_canvas, canvas_of, commands_of, starts_of, start_by, cause_by, cause, end_by, end_fault, fault_after, fault, contents_by, script}
 use Rattle.script_text.specs.Read.{Takes, IsRefused, Answers, Fits, StartsAre, started_by}
 
 -- the commands among lines, which are numbered from n on

@@ -1,5 +1,5 @@
 -- Adding a command to a draft.
-use Rattle.std.proofs.Common.{◌≡◌, ℕ, ◌+◌, ◌<◌, ◌≤◌, suc, zero, Bool, true, false, ◌&&◌, ◌||◌, not, nat_lt, nat_le, if◌then◌else◌, Option, Some, None, is_some, List, [], ◌∷◌, ◌++◌, length, map, filter, refl, sym, ap, ◌∙◌, subst, arith, rules}
+use Rattle.std.proofs.Common.{◌≡◌, ℕ, ◌+◌, ◌≤◌, suc, zero, Bool, true, false, ◌||◌, not, nat_lt, nat_le, if◌then◌else◌, Option, Some, None, List, [], ◌∷◌, ◌++◌, length, map, filter, refl, sym, ap, ◌∙◌, subst, arith}
 use Rattle.std.specs.Prelude.{◌==◌}
 use Rattle.std.specs.List.{list_any}
 use Rattle.std.proofs.lemmas.List.Folds.{list_any-append}
@@ -16,7 +16,7 @@ use Rattle.script_lines.specs.declared.cause.Cause.{Cause}
 use Rattle.script_lines.specs.declared.cause.Cause.TheVariants.{UsedAgain, TooManyJobs}
 use Rattle.script_text.specs.declared.draft.Fed.{Fed}
 use Rattle.script_text.specs.Following.{misfit, not_open, or_else}
-use Rattle.script_text.specs.Table.{Tells, is_open, has_fewer, is_few, fewer, stroke_of, after, at_number, next_fed, one_more, closed, start_cause, close_cause, job_cause, exports_after}
+use Rattle.script_text.specs.Table.{Tells, has_fewer, fewer, next_fed, one_more, closed, start_cause, close_cause, job_cause, exports_after}
 use Rattle.script_text.proofs.Tables.{same_any, none_any, same_filter, job_started, job_open, job_export, job_room, job_other, none_fewer, close_started, close_room, close_export, close_itself, close_other, same_number, lt_more}
 
 -- tests that agree

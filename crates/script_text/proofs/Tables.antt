@@ -1,21 +1,15 @@
 -- What a table of strokes tells after one more command.
-use Rattle.std.proofs.Common.{◌≡◌, ℕ, ◌+◌, suc, zero, Bool, true, false, ◌&&◌, ◌||◌, not, nat_lt, nat_le, if◌then◌else◌, Option, Some, None, is_some, List, [], ◌∷◌, ◌++◌, length, map, filter, refl, sym, ap, ◌∙◌, arith, rules}
+use Rattle.std.proofs.Common.{◌≡◌, ℕ, ◌+◌, suc, Bool, true, false, ◌&&◌, nat_lt, if◌then◌else◌, List, [], ◌∷◌, ◌++◌, length, map, filter, refl, ap, arith}
 use Rattle.std.specs.Prelude.{◌==◌}
 use Rattle.std.specs.List.{list_any}
-use Rattle.std.proofs.lemmas.List.Folds.{list_any-append}
-use Rattle.std.proofs.lemmas.List.Elements.{filter-append}
 use Rattle.std.proofs.lemmas.List.{length-append}
-use Rattle.std.proofs.lemmas.Grind.{common_steps}
 use Rattle.std.proofs.lemmas.Bool.Decides.{nat_tests}
 use Rattle.doc_model.specs.declared.job.Job.{Job}
 use Rattle.doc_model.specs.declared.job.Kind.{Kind}
 use Rattle.doc_model.specs.declared.command.Command.{Command}
-use Rattle.doc_model.specs.declared.command.Command.TheVariants as command
-use Rattle.doc_model.specs.Strokes.{Entry, Stroke, Strokes, Changes, Undoes, Redoes, Purges, Exports, Fate, Open, Ended, Cancelled, with_job, with_fate, fed, all_fed, entries}
-use Rattle.doc_model.specs.Lawful.{is_stroke, is_open_stroke, has_room, is_export, is_open as is_open_fate}
-use Rattle.script_text.specs.declared.draft.Fed.{Fed}
-use Rattle.script_text.specs.Following.{misfit, not_open}
-use Rattle.script_text.specs.Table.{Tells, is_open, has_fewer, is_few, fewer, stroke_of, after, at_number, next_fed, one_more, closed, start_cause, close_cause, job_cause}
+use Rattle.doc_model.specs.Strokes.{Entry, Strokes, Changes, Undoes, Redoes, Purges, Exports, Fate, with_job, with_fate, fed, all_fed, entries}
+use Rattle.doc_model.specs.Lawful.{is_stroke, is_open_stroke, is_export, is_open as is_open_fate}
+use Rattle.script_text.specs.Table.{fewer}
 
 pub all_fed-append : (es : List Entry) (cs : List Command) (c : Command) → all_fed es (cs ++ c ∷ []) ≡ fed (all_fed es cs) c
 all_fed-append es [] c = refl

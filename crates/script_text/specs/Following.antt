@@ -1,5 +1,5 @@
 -- What a command may not do after the commands before it.
-use Rattle.std.specs.Prelude.{ℕ, nat_lt, Bool, true, false, not, if◌then◌else◌, Option, Some, None, List, length}
+use Rattle.std.specs.Prelude.{ℕ, nat_lt, not, if◌then◌else◌, Option, Some, None, List, length}
 use Rattle.std.specs.List.{list_any, filter}
 use Rattle.doc_model.specs.declared.command.Command.{Command}
 use Rattle.doc_model.specs.declared.command.Command.TheVariants as command

@@ -1,5 +1,5 @@
 -- What each line says by itself, behind its command word.
-use Rattle.std.specs.Prelude.{ℕ, Bool, false, List, [], ◌∷◌, Result, Ok, Err}
+use Rattle.std.specs.Prelude.{ℕ, false, List, [], ◌∷◌, Result, Ok, Err}
 use Rattle.pixel_core.specs.Rgba.{Rgba, clear, rgba as pixel}
 use Rattle.doc_model.specs.declared.canvas.Canvas.{Canvas}
 use Rattle.doc_model.specs.declared.tree.Change.{Change}

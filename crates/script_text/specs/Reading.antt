@@ -1,5 +1,5 @@
 -- What the bytes of a script say, or its first fault.
-use Rattle.std.specs.Prelude.{ℕ, suc, Bool, true, false, if◌then◌else◌, Option, Some, None, is_some, Result, Ok, Err, List, [], ◌∷◌, ◌++◌, filter, map}
+use Rattle.std.specs.Prelude.{ℕ, suc, if◌then◌else◌, Option, Some, None, Result, Ok, Err, List, [], ◌∷◌, ◌++◌, filter}
 use Rattle.std.specs.List.{list_any, filter_map}
 use Rattle.std.specs.Str.{bytes_eq}
 use Rattle.doc_model.specs.declared.canvas.Canvas.{Canvas}
@@ -17,7 +17,7 @@ use Rattle.script_text.specs.Script.{Contents, contents}
 use Rattle.script_text.specs.Words.{word_of, canvas_text}
 use Rattle.script_text.specs.Jobs.{Fields}
 use Rattle.script_text.specs.Forms.{canvas, command_of}
-use Rattle.script_text.specs.Following.{or_else, misfit}
+use Rattle.script_text.specs.Following.{misfit}
 
 -- a line and its number
 pub record NumberedLine : Type 0 where

@@ -1,5 +1,5 @@
 -- The canonical text of a script: one command a line, with single spaces.
-use Rattle.std.specs.Prelude.{ℕ, ◌/◌, ◌%◌, ◌==◌, ℤ, Bool, true, false, ◌&&◌, if◌then◌else◌, List, [], ◌∷◌, ◌++◌}
+use Rattle.std.specs.Prelude.{ℕ, ◌/◌, ◌%◌, Bool, true, false, if◌then◌else◌, List, [], ◌∷◌, ◌++◌}
 use Rattle.std.specs.List.{flat_map}
 use Rattle.std.specs.Fmt.{decimal, signed_decimal}
 use Rattle.std.specs.Char.{digit_char}
@@ -9,7 +9,6 @@ use Rattle.pixel_core.specs.declared.blending.Op.{Op}
 use Rattle.doc_model.specs.declared.canvas.Canvas.{Canvas}
 use Rattle.doc_model.specs.declared.job.Job.{Job}
 use Rattle.doc_model.specs.declared.job.Job.TheVariants as job
-use Rattle.doc_model.specs.declared.job.Kind.{Kind}
 use Rattle.doc_model.specs.declared.tree.Change.{Change}
 use Rattle.doc_model.specs.declared.tree.Change.TheVariants as change
 use Rattle.doc_model.specs.declared.command.Command.{Command}

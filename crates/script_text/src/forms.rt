@@ -83,12 +83,7 @@ fn clear_layer(id: &[u8], parent: &[u8], place: &[u8]) -> Result<Change, Cause>
 }
 
 #[tactic(auto, unfolding(crate::specs::Forms::layer))]
-fn coloured_layer(
-    id: &[u8],
-    parent: &[u8],
-    place: &[u8],
-    colour: &[u8],
-) -> Result<Change, Cause>
+fn coloured_layer(id: &[u8], parent: &[u8], place: &[u8], colour: &[u8]) -> Result<Change, Cause>
     ensures value { result ≡ told_layer (id.now ∷ parent.now ∷ place.now ∷ colour.now ∷ []) }
     ensures ranges { IfOk result (λ c. change_in_range c ≡ true) }
 {

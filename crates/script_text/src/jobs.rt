@@ -133,7 +133,12 @@ fn grown_rect(inner: &Rect, r: u8) -> Result<Rect, Cause>
 {
     let d = r as i32;
     let more = 2 * r as u32;
-    rect(inner.x() - d, inner.y() - d, inner.w() + more, inner.h() + more)
+    rect(
+        inner.x() - d,
+        inner.y() - d,
+        inner.w() + more,
+        inner.h() + more,
+    )
 }
 
 /// A fill, where the world holds its rectangle.

@@ -7,6 +7,8 @@ mod jobs;
 mod printing;
 mod reading;
 mod script;
+#[cfg(test)]
+mod tests;
 mod words;
 
 pub use printing::print;

@@ -1,6 +1,4 @@
-use Rattle.std.proofs.Common.{rules, arith, get_or, take, ◌∙◌, sym, []}
-use Rattle.std.specs.Borrow.{Bor}
-use Rattle.std.proofs.lemmas.Grind.{common_steps}
+use Rattle.std.proofs.Common.{rules, get_or, take, ◌∙◌, sym, []}
 use Rattle.script_lines.specs.Lines.{pointed, is_some_field}
 use Rattle.script_lines.proofs.LineLemmas.{pointed_more, keeps, filter_skips}
 use Rattle.script_lines.proofs.lines.fields_of.Goals as goal

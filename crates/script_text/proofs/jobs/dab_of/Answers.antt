@@ -1,4 +1,4 @@
-use Rattle.std.proofs.Common.{◌≡◌, refl, rules, to_z, of_z, w32, arith}
+use Rattle.std.proofs.Common.{◌≡◌, refl, to_z, of_z, w32, arith}
 use borrow.Author.Differences.{ints}
 use Rattle.std.proofs.lemmas.Int.{to_z-of_z}
 use Rattle.doc_model.specs.Jobs.{square}

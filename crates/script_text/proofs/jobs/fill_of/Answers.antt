@@ -1,4 +1,4 @@
-use Rattle.std.proofs.Common.{rules, ap}
+use Rattle.std.proofs.Common.{ap}
 use Rattle.doc_model.specs.declared.job.Job.TheVariants.{Fill}
 use Rattle.script_text.specs.Jobs.{area_of}
 use Rattle.script_text.proofs.World.{checked_sound, box, held, one, answer}

@@ -1,4 +1,4 @@
-use Rattle.std.proofs.Common.{◌≡◌, refl, arith, ◌+◌, ◌*◌, to_z, of_z, w32}
+use Rattle.std.proofs.Common.{◌≡◌, arith, ◌+◌, ◌*◌, to_z, of_z, w32}
 use Rattle.std.specs.Prelude.{ℤ, pos, ◌-ℤ◌}
 use borrow.Author.Differences.{ints}
 use Rattle.geom_core.specs.Areas.{area}

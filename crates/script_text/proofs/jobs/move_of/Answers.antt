@@ -1,4 +1,4 @@
-use Rattle.std.proofs.Common.{◌≡◌, rules, ap, sym, ◌∙◌, true, Err, arith, subst, false, to_z, of_z, w32}
+use Rattle.std.proofs.Common.{◌≡◌, rules, ◌∙◌, true, Err, arith, subst, false, to_z, of_z, w32}
 use borrow.Author.Differences.{ints}
 use Rattle.geom_core.specs.Areas.{lies_in, world, moved}
 use Rattle.doc_model.specs.declared.job.Job.TheVariants.{Move}

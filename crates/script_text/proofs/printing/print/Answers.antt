@@ -1,4 +1,4 @@
-use Rattle.std.proofs.Common.{◌≡◌, ◌≤◌, ◌++◌, ◌∙◌, ap, arith, rules, length}
+use Rattle.std.proofs.Common.{◌≤◌, ◌++◌, ◌∙◌, ap, rules, length}
 use Rattle.std.specs.List.{flat_map}
 use Rattle.std.proofs.lemmas.List.{take_all}
 use Rattle.script_text.specs.Text.{text, canvas_line, command_text}

@@ -1,5 +1,4 @@
-use Rattle.std.proofs.Common.{rules, arith, ◌≡◌, ◌<◌, ◌≤◌, ◌+◌, ◌++◌, ◌∷◌, [], ◌∙◌, sym, ap, subst, refl, get_or, take, drop, map, length, None, List, true, false, Err}
-use Rattle.std.specs.Prelude.{ℕ}
+use Rattle.std.proofs.Common.{rules, ◌≡◌, ◌<◌, ◌≤◌, ◌+◌, [], sym, ap, subst, get_or, map, length, None, true, false, Err}
 use Rattle.script_lines.specs.Lines.{pointed, fields, is_command}
 use Rattle.script_text.specs.Reading.{fault, fault_after, cause_by, script}
 use Rattle.script_text.specs.Read.{Answers, IsRefused, Takes, Fits}
@@ -52,14 +51,14 @@ loop-i-preserved c =
     let at : f ≡ get_or all i f = line_at refs i c.index.result.now f h (search rules) (search rules) in
     elim c.if-is_command.branch [
       | then-is_command+in_ok-reading w ↦
-        let is : is_command f ≡ true = search rules in
-        let t : Takes r w.in_ok-reading.reading (i + 1) f = search rules in
-        let fits : Fits w.in_ok-reading.reading.canvas = search rules in
-        let none : cause_by r.canvas r.draft f ≡ None = search rules in
-        subst (λ x. Going all (i + 1) x total) (sym w.reading-is) (taken all i f r w.in_ok-reading.reading total k at is c.loop-i.invariant t fits none)
+          let is : is_command f ≡ true = search rules in
+          let t : Takes r w.in_ok-reading.reading (i + 1) f = search rules in
+          let fits : Fits w.in_ok-reading.reading.canvas = search rules in
+          let none : cause_by r.canvas r.draft f ≡ None = search rules in
+          subst (λ x. Going all (i + 1) x total) (sym w.reading-is) (taken all i f r w.in_ok-reading.reading total k at is c.loop-i.invariant t fits none)
       | else-is_command w ↦
-        let is : is_command f ≡ false = search rules in
-        subst (λ x. Going all (i + 1) x total) (sym w.reading-is) (passed all i f r total k at is c.loop-i.invariant)
+          let is : is_command f ≡ false = search rules in
+          subst (λ x. Going all (i + 1) x total) (sym w.reading-is) (passed all i f r total k at is c.loop-i.invariant)
     ]
 
 pub finish-requires-clause-starts : goal.finish-requires-clause-starts

@@ -5,7 +5,7 @@ use Rattle.std.specs.BTreeMap.{get}
 use Rattle.doc_model.specs.Strokes.{entries, fed}
 use Rattle.doc_model.specs.Lawful.{is_export, lawful}
 use Rattle.script_text.specs.Following.{misfit}
-use Rattle.script_text.specs.Table.{Tells, next_fed, exports_after}
+use Rattle.script_text.specs.Table.{Tells, next_fed}
 use Rattle.script_text.specs.Script.{in_range}
 use Rattle.script_text.proofs.Legal.{lawful_more, ranges_more}
 use Rattle.script_text.proofs.Tables.{entries-append}
@@ -22,7 +22,7 @@ invariant_of-draft c =
     let now : entries c.add_last.new.items.items ≡ fed es c.args.command = ap entries more ∙ entries-append cs c.args.command in
     record {
       tells = λ m. subst (λ l. Tells l m (get nat_cmp c.keep.new.strokes m)) (sym now)
-        (subst (λ f. Tells (fed es c.args.command) m f) (sym (kept m))
+          (subst (λ f. Tells (fed es c.args.command) m f) (sym (kept m))
           (step es c.args.command m (get nat_cmp d.strokes m) fits (c.draft.invariant.tells m)));
       exports = c.exports_after.ensures ∙ (exports_step es c.args.command d.exports c.draft.invariant.exports ∙ ap (λ l. length (filter is_export l)) (sym now));
       few = subst (λ n. n ≤ 64) (sym c.exports_after.ensures) (exports_few es c.args.command d.exports c.draft.invariant.exports c.draft.invariant.few fits);

@@ -1,6 +1,4 @@
-use Rattle.std.proofs.Common.{◌≡◌, ◌∙◌, arith, sym, ap, subst, rules}
-use Rattle.std.proofs.lemmas.Grind.{common_steps}
-use Rattle.doc_model.specs.Strokes.{entries}
+use Rattle.std.proofs.Common.{◌∙◌}
 use Rattle.script_text.specs.Following.{misfit}
 use Rattle.script_text.proofs.Steps.{start_same, close_same, job_same}
 use Rattle.script_text.proofs.draft.Draft.misfit.Goals as goal

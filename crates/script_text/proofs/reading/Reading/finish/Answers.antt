@@ -1,4 +1,4 @@
-use Rattle.std.proofs.Common.{◌≡◌, rules, true, ◌&&◌, refl, sym, ap, subst, ◌∙◌, None, List}
+use Rattle.std.proofs.Common.{◌≡◌, rules, true, sym, subst, None, List}
 use Rattle.doc_model.specs.declared.command.Command.{Command}
 use Rattle.doc_model.specs.Strokes.{entries}
 use Rattle.script_text.specs.Script.{is_script, contents, in_limits}
@@ -13,4 +13,4 @@ from_parts-requires c =
     let left : left_open (entries cs) c.args.self.starts.items ≡ None = search rules in
     let limits : in_limits c.in-Some.canvas ≡ true = search rules in
     subst (λ (l : List Command). is_script (contents c.in-Some.canvas l) ≡ true) (sym c.into_commands.ensures.items)
-      (is_script_by c.in-Some.canvas cs limits c.into_commands.ensures.ranges c.into_commands.ensures.lawful (all_shut c.args.self.starts.items cs c.requires.starts left))
+    (is_script_by c.in-Some.canvas cs limits c.into_commands.ensures.ranges c.into_commands.ensures.lawful (all_shut c.args.self.starts.items cs c.requires.starts left))

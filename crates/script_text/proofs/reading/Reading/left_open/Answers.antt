@@ -1,4 +1,4 @@
-use Rattle.std.proofs.Common.{rules, ◌≡◌, sym, ◌∙◌}
+use Rattle.std.proofs.Common.{rules}
 use Rattle.doc_model.specs.Strokes.{entries}
 use Rattle.script_text.proofs.Closing.{left_found, left_next}
 use Rattle.script_text.proofs.reading.Reading.left_open.Goals as goal
