@@ -1,5 +1,10 @@
-pub mod Lines
-pub mod Fields
-pub mod Drawing
-pub mod Form
-pub mod Refusal
+pub mod Words
+pub mod Jobs
+pub mod Forms
+pub mod Following
+pub mod Script
+pub mod Reading
+pub mod Read
+pub mod Table
+pub mod Draft
+pub mod Text

@@ -1,12 +1,17 @@
-//! Scripts as text: which bytes are one, and which commands it has.
+//! Scripts as text: read line by line, and printed in their canonical form.
 #![tactic(auto)]
 
-mod fields;
-mod form;
-mod lines;
-mod refusal;
+mod draft;
+mod forms;
+mod jobs;
+mod printing;
+mod reading;
 mod script;
+#[cfg(test)]
+mod tests;
+mod words;
 
-pub use form::read;
-pub use refusal::{Cause, ReadRefusal, ScriptFault};
-pub use script::Script;
+pub use printing::print;
+pub use reading::read;
+pub use script::{MakeRefusal, ReadRefusal, Script, ScriptFault};
+pub use script_lines::Cause;

@@ -1,0 +1,12 @@
+//! Lines and fields of scripts, and what a field spells: numbers and colours.
+#![tactic(auto)]
+
+mod cause;
+mod colours;
+mod lines;
+mod numbers;
+
+pub use cause::Cause;
+pub use colours::{rgb, rgba};
+pub use lines::{fields_of, is_command, lines_of};
+pub use numbers::{natural, number_in};

@@ -1,0 +1,80 @@
+-- Commands that may follow others.
+use Rattle.std.proofs.Common.{◌≡◌, Bool, true, false, ◌&&◌, not, nat_lt, if◌then◌else◌, Option, Some, None, List, [], ◌∷◌, ◌++◌, length, filter, refl, ap, ◌∙◌}
+use Rattle.std.specs.List.{list_any, list_all}
+use Rattle.std.proofs.lemmas.List.Folds.{list_all-append}
+use Rattle.doc_model.specs.declared.command.Command.{Command}
+use Rattle.doc_model.specs.declared.command.Command.TheVariants as command
+use Rattle.doc_model.specs.declared.canvas.Canvas.{Canvas}
+use Rattle.doc_model.specs.Strokes.{Entry, fed, all_fed, entries}
+use Rattle.doc_model.specs.Lawful.{is_stroke, is_open_stroke, has_room, is_export, may_follow, lawful_after, lawful}
+use Rattle.script_lines.specs.declared.cause.Cause.{Cause}
+use Rattle.script_lines.specs.declared.cause.Cause.TheVariants.{UsedAgain, UnknownStroke, ClosedStroke, TooManyJobs, TooManyExports}
+use Rattle.script_text.specs.Following.{misfit, not_open, or_else}
+use Rattle.script_text.specs.Script.{in_range, is_sound, is_script, contents, in_limits, all_closed}
+
+free : (a : Bool) → (if a then Some UsedAgain else None) ≡ None → not a ≡ true
+free true h = absurd (cc (h))
+free false h = refl
+
+live : (a b : Bool) → (if not a then Some UnknownStroke else (if not b then Some ClosedStroke else None)) ≡ None → b ≡ true
+live true true h = refl
+live true false h = absurd (cc (h))
+live false b h = absurd (cc (h))
+
+first_none : (o p : Option Cause) → or_else o p ≡ None → o ≡ None
+first_none None p h = refl
+first_none (Some c) p h = absurd (cc (h))
+
+second_none : (o p : Option Cause) → or_else o p ≡ None → p ≡ None
+second_none None p h = h
+second_none (Some c) p h = absurd (cc (h))
+
+room : (a : Bool) → (if a then None else Some TooManyJobs) ≡ None → a ≡ true
+room true h = refl
+room false h = absurd (cc (h))
+
+space : (a : Bool) → (if a then None else Some TooManyExports) ≡ None → a ≡ true
+space true h = refl
+space false h = absurd (cc (h))
+
+all_three : (a b c : Bool) → a ≡ true → b ≡ true → c ≡ true → (a && (b && c)) ≡ true
+all_three a b c h k l = rw (h, k, l) refl
+
+-- a command that fits may follow
+pub follows : (es : List Entry) (c : Command) → misfit es c ≡ None → is_sound c ≡ true → may_follow es c ≡ true
+unfolding misfit
+follows es (command.Change change) h s = refl
+follows es (command.Stroke n layer x) h s = free (list_any (is_stroke n) es) h
+follows es (command.Add n kind j) h s = all_three _ (list_any (is_open_stroke n) es) (list_any (has_room n) es) s (live (list_any (is_stroke n) es) (list_any (is_open_stroke n) es) (first_none _ _ h)) (room (list_any (has_room n) es) (second_none (not_open n es) _ h))
+follows es (command.End n) h s = live (list_any (is_stroke n) es) (list_any (is_open_stroke n) es) h
+follows es (command.Cancel n) h s = live (list_any (is_stroke n) es) (list_any (is_open_stroke n) es) h
+follows es command.Undo h s = refl
+follows es command.Redo h s = refl
+follows es (command.Purge keep) h s = refl
+follows es command.Export h s = space (nat_lt (length (filter is_export es)) 64) h
+
+and_assoc : (a b c : Bool) → (a && (b && c)) ≡ ((a && b) && c)
+and_assoc true b c = refl
+and_assoc false b c = refl
+
+and_true : (a : Bool) → (a && true) ≡ a
+and_true true = refl
+and_true false = refl
+
+pub lawful_after-append : (es : List Entry) (cs : List Command) (c : Command) → lawful_after es (cs ++ c ∷ []) ≡ (lawful_after es cs && may_follow (all_fed es cs) c)
+lawful_after-append es [] c = and_true (may_follow es c)
+lawful_after-append es (d ∷ cs) c = ap (λ b. may_follow es d && b) (lawful_after-append (fed es d) cs c) ∙ and_assoc (may_follow es d) (lawful_after (fed es d) cs) (may_follow (all_fed (fed es d) cs) c)
+
+pub lawful_more : (cs : List Command) (c : Command) → lawful cs ≡ true → misfit (entries cs) c ≡ None → is_sound c ≡ true → lawful (cs ++ c ∷ []) ≡ true
+lawful_more cs c l f s = lawful_after-append [] cs c ∙ rw (l, follows (entries cs) c f s) refl
+
+pub ranges_more : (cs : List Command) (c : Command) → list_all in_range cs ≡ true → in_range c ≡ true → list_all in_range (cs ++ c ∷ []) ≡ true
+ranges_more cs c h k = list_all-append in_range cs (c ∷ []) ∙ rw (h, k) refl
+
+-- the four parts of a script
+pub is_script_by : (c : Canvas) (cs : List Command) → in_limits c ≡ true → list_all in_range cs ≡ true → lawful cs ≡ true → all_closed cs ≡ true → is_script (contents c cs) ≡ true
+unfolding is_script
+is_script_by c cs a b d e = four (in_limits c) (list_all in_range cs) (lawful cs) (all_closed cs) a b d e
+  where
+    four : (p q r s : Bool) → p ≡ true → q ≡ true → r ≡ true → s ≡ true → ((p && q) && (r && s)) ≡ true
+    four p q r s h k l m = rw (h, k, l, m) refl

@@ -1,0 +1,139 @@
+-- The lines that add a job to a stroke, behind their command word.
+use Rattle.std.specs.Prelude.{ℕ, ℤ, pos, negsuc, ◌≤ℤ◌, ◌≤◌, ◌==◌, List, [], ◌∷◌, length, Result, Ok, Err, if◌then◌else◌}
+use Rattle.geom_core.specs.Areas.{Area, area, lies_in, world}
+use Rattle.doc_model.specs.declared.job.Job.{Job}
+use Rattle.doc_model.specs.declared.job.Job.TheVariants as job
+use Rattle.doc_model.specs.declared.command.Command.{Command}
+use Rattle.doc_model.specs.declared.command.Command.TheVariants.{Add}
+use Rattle.doc_model.specs.Lawful.{checks}
+use Rattle.script_lines.specs.declared.cause.Cause.{Cause}
+use Rattle.script_lines.specs.declared.cause.Cause.TheVariants.{FieldCount, OutOfWorld}
+use Rattle.script_lines.specs.Causes.{◌>>=◌}
+use Rattle.script_lines.specs.Numbers.{natural, number_in}
+use Rattle.script_lines.specs.Colours.{rgba}
+use Rattle.script_text.specs.declared.words.Work.{Work}
+use Rattle.script_text.specs.declared.words.Work.TheVariants.{Fill, Dab, Move, Blur}
+use Rattle.script_text.specs.declared.jobs.Outline.{Outline}
+use Rattle.script_text.specs.declared.jobs.Ink.{Ink}
+use Rattle.script_text.specs.declared.jobs.Tip.{Tip}
+use Rattle.script_text.specs.Words.{kind_of, op_of, edge_of}
+
+-- the fields of a line behind its command word
+abbrev pub Fields : Type 0
+Fields = List (List ℕ)
+
+-- a column or a row
+abbrev pub coordinate : List ℕ → Result ℤ Cause
+coordinate = number_in (negsuc 32767) (pos 32767)
+
+-- how far a move goes, by columns or rows
+abbrev pub distance : List ℕ → Result ℤ Cause
+distance = number_in (negsuc 32766) (pos 32767)
+
+-- a rectangle, in the world or not
+unfoldable pub outline : List ℕ → List ℕ → List ℕ → List ℕ → Result Outline Cause
+outline left top width height = do
+  x ← coordinate left
+  y ← coordinate top
+  w ← natural 1 4096 width
+  h ← natural 1 4096 height
+  Ok (record { x = x; y = y; w = w; h = h })
+
+abbrev pub area_of : Outline → Area
+area_of o = area o.x o.y o.w o.h
+
+-- the numbers are in their ranges
+pub record IsOutline (o : Outline) : Type 0 where
+  pub left : negsuc 32767 ≤ℤ o.x
+  pub right : o.x ≤ℤ pos 32767
+  pub top : negsuc 32767 ≤ℤ o.y
+  pub bottom : o.y ≤ℤ pos 32767
+  pub some_w : 1 ≤ o.w
+  pub w : o.w ≤ 4096
+  pub some_h : 1 ≤ o.h
+  pub h : o.h ≤ 4096
+
+-- a colour, and how it is laid on
+unfoldable pub ink : List ℕ → List ℕ → List ℕ → Result Ink Cause
+ink colour operation strength = do
+  pixel ← rgba colour
+  op ← op_of operation
+  m ← natural 0 255 strength
+  Ok (record { colour = pixel; op = op; strength = m })
+
+-- the centre and the radius of a dab, and whether its edge is soft
+unfoldable pub tip : List ℕ → List ℕ → List ℕ → List ℕ → Result Tip Cause
+tip left top radius edge = do
+  x ← coordinate left
+  y ← coordinate top
+  r ← natural 0 128 radius
+  soft ← edge_of edge
+  Ok (record { x = x; y = y; r = r; soft = soft })
+
+-- the numbers are in their ranges
+pub record IsTip (t : Tip) : Type 0 where
+  pub left : negsuc 32767 ≤ℤ t.x
+  pub right : t.x ≤ℤ pos 32767
+  pub top : negsuc 32767 ≤ℤ t.y
+  pub bottom : t.y ≤ℤ pos 32767
+  pub r : t.r ≤ 128
+
+-- a rectangle, where the world holds it
+abbrev pub in_world : Area → Result Area Cause
+in_world a = if lies_in a world then Ok a else Err OutOfWorld
+
+-- a job, all of whose read rectangles lie in the world
+abbrev pub checked : Job → Result Job Cause
+checked j = if checks j then Ok j else Err OutOfWorld
+
+unfoldable pub fill : Fields → Result Job Cause
+fill (left ∷ top ∷ width ∷ height ∷ colour ∷ operation ∷ strength ∷ []) = do
+  o ← outline left top width height
+  i ← ink colour operation strength
+  checked (job.Fill (area_of o) i.colour i.op i.strength)
+fill _ = Err FieldCount
+
+unfoldable pub dab : Fields → Result Job Cause
+dab (left ∷ top ∷ radius ∷ edge ∷ colour ∷ operation ∷ strength ∷ []) = do
+  t ← tip left top radius edge
+  i ← ink colour operation strength
+  checked (job.Dab t.x t.y t.r t.soft i.colour i.op i.strength)
+dab _ = Err FieldCount
+
+unfoldable pub move_by : Fields → Result Job Cause
+move_by (left ∷ top ∷ width ∷ height ∷ columns ∷ rows ∷ []) = do
+  o ← outline left top width height
+  dx ← distance columns
+  dy ← distance rows
+  checked (job.Move (area_of o) dx dy)
+move_by _ = Err FieldCount
+
+unfoldable pub blur : Fields → Result Job Cause
+blur (left ∷ top ∷ width ∷ height ∷ radius ∷ []) = do
+  o ← outline left top width height
+  r ← natural 1 16 radius
+  checked (job.Blur (area_of o) r)
+blur _ = Err FieldCount
+
+-- how many fields a job has behind its stroke and its kind
+abbrev pub job_fields : Work → ℕ
+job_fields Fill = 7
+job_fields Dab = 7
+job_fields Move = 6
+job_fields Blur = 5
+
+unfoldable pub job_of : Work → Fields → Result Job Cause
+job_of Fill = fill
+job_of Dab = dab
+job_of Move = move_by
+job_of Blur = blur
+
+-- a job of a stroke
+unfoldable pub paint : Work → Fields → Result Command Cause
+paint work (number ∷ kind ∷ others) = if length others == job_fields work then (do
+  n ← natural 0 4294967295 number
+  k ← kind_of kind
+  j ← job_of work others
+  Ok (Add n k j))
+    else Err FieldCount
+paint work _ = Err FieldCount

@@ -1,0 +1,57 @@
+-- How one line changes what was read.
+use Rattle.std.specs.Prelude.{◌≡◌, ℕ, true, List, ◌++◌, map, Option, Some, None, Result, Ok, Err}
+use Rattle.std.specs.Option.{option_to_list}
+use Rattle.std.specs.List.{filter_map}
+use Rattle.doc_model.specs.declared.command.Command.TheVariants as command
+use Rattle.doc_model.specs.declared.canvas.Canvas.{Canvas}
+use Rattle.doc_model.specs.declared.command.Command.{Command}
+use Rattle.script_lines.specs.declared.cause.Cause.{Cause}
+use Rattle.script_text.specs.declared.script.ScriptFault.{ScriptFault}
+use Rattle.script_text.specs.declared.script.ReadRefusal.{ReadRefusal}
+use Rattle.script_text.specs.declared.script.ReadRefusal.TheVariants.{Fault, NoMemory}
+use Rattle.script_text.specs.declared.reading.Reading.{Reading}
+use Rattle.script_text.specs.declared.reading.Start.{Start}
+use Rattle.script_text.specs.Script.{Contents, in_limits}
+use Rattle.script_text.specs.Jobs.{Fields}
+use Rattle.script_text.specs.Reading.{canvas_in, command_in, first_canvas, start_by}
+
+abbrev pub refusal : ℕ → Cause → ReadRefusal
+refusal line cause = Fault (record { line = line; cause = cause })
+
+-- a line is refused for its cause, or for want of memory
+abbrev pub IsRefused : {A : Type 0} → Result A ReadRefusal → ℕ → Option Cause → Type 0
+IsRefused (Ok x) line cause = cause ≡ None
+IsRefused (Err (Fault f)) line cause = (f.line ≡ line) × (cause ≡ Some f.cause)
+IsRefused (Err NoMemory) line cause = Unit {0}
+
+-- a command more, or none
+pub record TakesCommand (old new : Reading) (line : ℕ) (command : Option Command) : Type 0 where
+  pub canvas : new.canvas ≡ old.canvas
+  pub draft : new.draft ≡ old.draft ++ option_to_list command
+  pub starts : new.starts.items ≡ old.starts.items ++ option_to_list (start_by line command)
+
+-- what a line says is added
+pub record Takes (old new : Reading) (line : ℕ) (fields : Fields) : Type 0 where
+  pub canvas : new.canvas ≡ first_canvas old.canvas (canvas_in fields)
+  pub draft : new.draft ≡ old.draft ++ option_to_list (command_in fields)
+  pub starts : new.starts.items ≡ old.starts.items ++ option_to_list (start_by line (command_in fields))
+
+-- the answer to bytes with that fault, or none, and what they say then
+abbrev pub Answers : Result Contents ReadRefusal → Option ScriptFault → Option Contents → Type 0
+Answers (Ok s) fault told = (fault ≡ None) × (told ≡ Some s)
+Answers (Err (Fault f)) fault told = fault ≡ Some f
+Answers (Err NoMemory) fault told = Unit {0}
+
+-- the canvas, if there is one, is within the limits
+abbrev pub Fits : Option Canvas → Type 0
+Fits None = Unit {0}
+Fits (Some c) = in_limits c ≡ true
+
+-- the number of a stroke that a command starts
+abbrev pub started_by : Command → Option ℕ
+started_by (command.Stroke n layer exclusive) = Some n
+started_by c = None
+
+-- the starts are those of the commands
+abbrev pub StartsAre : List Start → List Command → Type 0
+StartsAre starts commands = map (λ s. s.no) starts ≡ filter_map started_by commands

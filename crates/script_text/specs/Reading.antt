@@ -1,0 +1,149 @@
+-- What the bytes of a script say, or its first fault.
+use Rattle.std.specs.Prelude.{ℕ, suc, if◌then◌else◌, Option, Some, None, Result, Ok, Err, List, [], ◌∷◌, ◌++◌, filter}
+use Rattle.std.specs.List.{list_any, filter_map}
+use Rattle.std.specs.Str.{bytes_eq}
+use Rattle.doc_model.specs.declared.canvas.Canvas.{Canvas}
+use Rattle.doc_model.specs.declared.command.Command.{Command}
+use Rattle.doc_model.specs.declared.command.Command.TheVariants as command
+use Rattle.doc_model.specs.Strokes.{Entry, entries}
+use Rattle.doc_model.specs.Lawful.{is_open_stroke}
+use Rattle.script_lines.specs.declared.cause.Cause.{Cause}
+use Rattle.script_lines.specs.declared.cause.Cause.TheVariants.{UnknownWord, CanvasMissing, CanvasAgain, StrokeLeft}
+use Rattle.script_lines.specs.Lines.{lines, is_command}
+use Rattle.script_text.specs.declared.words.Word.{Word}
+use Rattle.script_text.specs.declared.script.ScriptFault.{ScriptFault}
+use Rattle.script_text.specs.declared.reading.Start.{Start}
+use Rattle.script_text.specs.Script.{Contents, contents}
+use Rattle.script_text.specs.Words.{word_of, canvas_text}
+use Rattle.script_text.specs.Jobs.{Fields}
+use Rattle.script_text.specs.Forms.{canvas, command_of}
+use Rattle.script_text.specs.Following.{misfit}
+
+-- a line and its number
+pub record NumberedLine : Type 0 where
+  pub number : ℕ
+  pub fields : Fields
+
+-- the lines, numbered from n on
+abbrev pub numbered : ℕ → List Fields → List NumberedLine
+numbered n [] = []
+numbered n (fields ∷ others) = record { number = n; fields = fields } ∷ numbered (suc n) others
+
+-- the lines that are commands, with their numbers from 1 on
+abbrev pub command_lines : List ℕ → List NumberedLine
+command_lines bytes = filter (λ l. is_command l.fields) (numbered 1 (lines bytes))
+
+-- what a step gave, or why it failed
+abbrev pub given : {A : Type 0} → Result A Cause → Option A
+given (Ok x) = Some x
+given (Err c) = None
+
+abbrev pub failing : {A : Type 0} → Result A Cause → Option Cause
+failing (Ok x) = None
+failing (Err c) = Some c
+
+-- the canvas that a line says
+abbrev pub canvas_in : Fields → Option Canvas
+canvas_in [] = None
+canvas_in (word ∷ others) = if bytes_eq word canvas_text then given (canvas others) else None
+
+-- the command of a word and its fields
+abbrev pub command_by : Option Word → Fields → Option Command
+command_by None others = None
+command_by (Some word) others = given (command_of word others)
+
+-- the command that a line says
+abbrev pub command_in : Fields → Option Command
+command_in [] = None
+command_in (word ∷ others) = if bytes_eq word canvas_text then None else command_by (word_of word) others
+
+abbrev pub first_canvas : Option Canvas → Option Canvas → Option Canvas
+first_canvas (Some c) other = Some c
+first_canvas None other = other
+
+-- the first canvas of some lines
+abbrev pub canvas_of : List NumberedLine → Option Canvas
+canvas_of [] = None
+canvas_of (line ∷ others) = first_canvas (canvas_in line.fields) (canvas_of others)
+
+-- the commands of some lines
+abbrev pub commands_of : List NumberedLine → List Command
+commands_of before = filter_map (λ l. command_in l.fields) before
+
+-- what is wrong with a canvas line, where there was that canvas or none
+abbrev pub canvas_cause : Option Canvas → Fields → Option Cause
+canvas_cause None others = failing (canvas others)
+canvas_cause (Some c) others = Some CanvasAgain
+
+-- what is wrong with what a line says, by itself or after those commands
+abbrev pub command_cause : List Command → Result Command Cause → Option Cause
+command_cause commands (Err c) = Some c
+command_cause commands (Ok c) = misfit (entries commands) c
+
+-- what is wrong with a line of a word other than the canvas
+abbrev pub word_cause : Option Canvas → List Command → Option Word → Fields → Option Cause
+word_cause before commands None others = Some UnknownWord
+word_cause None commands (Some word) others = Some CanvasMissing
+word_cause (Some c) commands (Some word) others = command_cause commands (command_of word others)
+
+-- what is wrong with a line after that canvas and those commands
+unfoldable pub cause_by : Option Canvas → List Command → Fields → Option Cause
+cause_by before commands [] = None
+cause_by before commands (word ∷ others) = if bytes_eq word canvas_text then canvas_cause before others else word_cause before commands (word_of word) others
+
+-- the first cause of a command line after the lines before it
+abbrev pub cause : List NumberedLine → Fields → Option Cause
+cause before fields = cause_by (canvas_of before) (commands_of before) fields
+
+-- where a command starts a stroke
+abbrev pub start_by : ℕ → Option Command → Option Start
+start_by n (Some (command.Stroke number layer exclusive)) = Some (record { line = n; no = number })
+start_by n c = None
+
+-- the strokes in the order of their start
+abbrev pub starts_of : List NumberedLine → List Start
+starts_of before = filter_map (λ l. start_by l.number (command_in l.fields)) before
+
+-- the line of the first stroke that is still open among the entries
+abbrev pub left_open : List Entry → List Start → Option ℕ
+left_open es [] = None
+left_open es (s ∷ others) = if list_any (is_open_stroke s.no) es then Some s.line else left_open es others
+
+abbrev pub left_fault : Option ℕ → Option ScriptFault
+left_fault None = None
+left_fault (Some n) = Some (record { line = n; cause = StrokeLeft })
+
+-- what is wrong where no line is
+abbrev pub end_by : Option Canvas → List Command → List Start → Option ScriptFault
+end_by None commands starts = Some (record { line = 1; cause = CanvasMissing })
+end_by (Some c) commands starts = left_fault (left_open (entries commands) starts)
+
+abbrev pub end_fault : List NumberedLine → Option ScriptFault
+end_fault before = end_by (canvas_of before) (commands_of before) (starts_of before)
+
+-- a fault of a line, or else another
+abbrev pub first_fault : ℕ → Option Cause → Option ScriptFault → Option ScriptFault
+first_fault n (Some c) other = Some (record { line = n; cause = c })
+first_fault n None other = other
+
+-- the first fault of lines after others that are good
+unfoldable pub fault_after : List NumberedLine → List NumberedLine → Option ScriptFault
+fault_after before [] = end_fault before
+fault_after before (line ∷ others) = first_fault line.number (cause before line.fields) (fault_after (before ++ line ∷ []) others)
+
+-- the first fault of a script
+unfoldable pub fault : List ℕ → Option ScriptFault
+fault bytes = fault_after [] (command_lines bytes)
+
+-- what good lines say
+abbrev pub contents_by : Option Canvas → List Command → Option Contents
+contents_by None commands = None
+contents_by (Some c) commands = Some (contents c commands)
+
+abbrev pub unless : Option ScriptFault → Option Contents → Option Contents
+unless (Some f) told = None
+unless None told = told
+
+-- the canvas and the commands of a script without a fault
+unfoldable pub script : List ℕ → Option Contents
+script bytes = unless (fault bytes) (contents_by (canvas_of (command_lines bytes)) (commands_of (command_lines bytes)))

@@ -1,0 +1,86 @@
+-- What is kept of a stroke while commands are added.
+use Rattle.std.specs.Prelude.{◌≡◌, ℕ, ◌+◌, ◌==◌, nat_lt, nat_le, Bool, true, false, ◌&&◌, if◌then◌else◌, Option, Some, None, is_some, List, length}
+use Rattle.std.specs.List.{list_any}
+use Rattle.doc_model.specs.declared.command.Command.{Command}
+use Rattle.doc_model.specs.declared.command.Command.TheVariants as command
+use Rattle.doc_model.specs.Strokes.{Entry, Strokes}
+use Rattle.doc_model.specs.Lawful.{is_stroke, is_open_stroke}
+use Rattle.script_lines.specs.declared.cause.Cause.{Cause}
+use Rattle.script_lines.specs.declared.cause.Cause.TheVariants.{UsedAgain, UnknownStroke, ClosedStroke, TooManyJobs}
+use Rattle.script_text.specs.declared.draft.Fed.{Fed}
+
+abbrev pub is_open : Option Fed → Bool
+is_open None = false
+is_open (Some f) = f.live
+
+abbrev pub has_fewer : ℕ → Option Fed → Bool
+has_fewer k None = false
+has_fewer k (Some f) = nat_lt f.jobs k
+
+-- whether the entry is the stroke with that number, with fewer than k jobs
+abbrev pub fewer : ℕ → ℕ → Entry → Bool
+fewer k n (Strokes s) = (s.no == n) && nat_lt (length s.jobs) k
+fewer k n e = false
+
+-- whether it has no more jobs than a stroke may have
+abbrev pub is_few : Option Fed → Bool
+is_few None = true
+is_few (Some f) = nat_le f.jobs 4096
+
+-- what is kept tells of the stroke with that number
+pub record Tells (es : List Entry) (n : ℕ) (found : Option Fed) : Type 0 where
+  pub started : list_any (is_stroke n) es ≡ is_some found
+  pub live : list_any (is_open_stroke n) es ≡ is_open found
+  pub room : (k : ℕ) → list_any (fewer k n) es ≡ has_fewer k found
+  pub few : is_few found ≡ true
+
+-- the number of the stroke that a command is about
+abbrev pub stroke_of : Command → Option ℕ
+stroke_of (command.Stroke n layer exclusive) = Some n
+stroke_of (command.Add n kind job) = Some n
+stroke_of (command.End n) = Some n
+stroke_of (command.Cancel n) = Some n
+stroke_of c = None
+
+abbrev pub one_more : Option Fed → Option Fed
+one_more None = None
+one_more (Some f) = Some (record f { jobs = f.jobs + 1 })
+
+abbrev pub closed : Option Fed → Option Fed
+closed None = None
+closed (Some f) = Some (record f { live = false })
+
+-- what is kept of that stroke after the command
+abbrev pub after : Option Fed → Command → Option Fed
+after found (command.Stroke n layer exclusive) = Some (record { live = true; jobs = 0 })
+after found (command.Add n kind job) = one_more found
+after found (command.End n) = closed found
+after found (command.Cancel n) = closed found
+after found c = found
+
+-- what is kept under the number m, where it becomes new under the number that a command is about
+abbrev pub at_number : Option ℕ → ℕ → Option Fed → Option Fed → Option Fed
+at_number None m new old = old
+at_number (Some n) m new old = if n == m then new else old
+
+-- what is kept under the number m after the command
+abbrev pub next_fed : Command → ℕ → Option Fed → Option Fed
+next_fed c m old = at_number (stroke_of c) m (after old c) old
+
+-- how many exports there are after the command
+abbrev pub exports_after : ℕ → Command → ℕ
+exports_after n command.Export = n + 1
+exports_after n c = n
+
+-- why it can't be started, closed or given a job
+abbrev pub start_cause : Option Fed → Option Cause
+start_cause None = None
+start_cause (Some f) = Some UsedAgain
+
+abbrev pub close_cause : Option Fed → Option Cause
+close_cause None = Some UnknownStroke
+close_cause (Some f) = if f.live then None else Some ClosedStroke
+
+abbrev pub job_cause : Option Fed → Option Cause
+job_cause None = Some UnknownStroke
+job_cause (Some f) = if f.live then (if nat_lt f.jobs 4096 then None else Some TooManyJobs) else Some ClosedStroke

@@ -1,0 +1,284 @@
+//! What each line says by itself.
+
+ghost use Rattle.std.specs.Prelude.{◌≡◌, [], ◌∷◌, nat_le, ◌&&◌, true, IfOk};
+ghost use Rattle.script_lines.specs.Lines.{pointed};
+ghost use Rattle.script_text.specs.Script.{in_limits, is_spot, is_number, change_in_range, in_range, is_sound};
+ghost use Rattle.script_text.specs.Forms.{sides as told_sides, canvas as told_canvas, spot as told_spot, layer as told_layer, group as told_group, remove as told_remove, place as told_place, look as told_look, stroke as told_stroke, one_number as told_number, alone as told_alone, command_of as told_command};
+
+use crate::jobs::paint;
+use crate::words::{Word, exclusive_of, op_of, seen_of};
+use doc_model::{Canvas, Change, Command, Look};
+use pixel_core::Pixel;
+use script_lines::{Cause, natural, rgb, rgba};
+
+#[tactic(auto, unfolding(crate::specs::Forms::sides))]
+fn sides(width: &[u8], height: &[u8]) -> Result<(u16, u16), Cause>
+    ensures value { result ≡ told_sides width.now height.now }
+    ensures w { IfOk result (λ s. (nat_le 1 s.0 && nat_le s.0 2048) ≡ true) }
+    ensures h { IfOk result (λ s. (nat_le 1 s.1 && nat_le s.1 2048) ≡ true) }
+{
+    let w = natural(1, 2048, width)? as u16;
+    let h = natural(1, 2048, height)? as u16;
+    Ok((w, h))
+}
+
+#[tactic(auto, unfolding(crate::specs::Forms::canvas))]
+fn white_canvas(width: &[u8], height: &[u8]) -> Result<Canvas, Cause>
+    ensures value { result ≡ told_canvas (width.now ∷ height.now ∷ []) }
+    ensures limits { IfOk result (λ c. in_limits c ≡ true) }
+{
+    let (w, h) = sides(width, height)?;
+    let paper = Pixel::new(255, 255, 255, 255);
+    Ok(Canvas { w, h, paper })
+}
+
+#[tactic(auto, unfolding(crate::specs::Forms::canvas))]
+fn coloured_canvas(width: &[u8], height: &[u8], colour: &[u8]) -> Result<Canvas, Cause>
+    ensures value { result ≡ told_canvas (width.now ∷ height.now ∷ colour.now ∷ []) }
+    ensures limits { IfOk result (λ c. in_limits c ≡ true) }
+{
+    let (w, h) = sides(width, height)?;
+    let paper = rgb(colour)?;
+    Ok(Canvas { w, h, paper })
+}
+
+/// The canvas, on white paper unless its colour is told.
+#[tactic(auto, unfolding(crate::specs::Forms::canvas))]
+pub(crate) fn canvas(fields: &[&[u8]]) -> Result<Canvas, Cause>
+    ensures value { result ≡ told_canvas (pointed fields.now) }
+    ensures limits { IfOk result (λ c. in_limits c ≡ true) }
+{
+    match fields {
+        [width, height] => white_canvas(width, height),
+        [width, height, colour] => coloured_canvas(width, height, colour),
+        _ => Err(Cause::FieldCount),
+    }
+}
+
+/// A node, the group above it, and its place there.
+#[tactic(auto, unfolding(crate::specs::Forms::spot))]
+fn spot(id: &[u8], parent: &[u8], place: &[u8]) -> Result<(u16, u16, u8), Cause>
+    ensures value { result ≡ told_spot id.now parent.now place.now }
+    ensures ranges { IfOk result (λ s. is_spot s.0 s.1 s.2 ≡ true) }
+{
+    let id = natural(1, 65535, id)? as u16;
+    let parent = natural(0, 65535, parent)? as u16;
+    let place = natural(0, 255, place)? as u8;
+    Ok((id, parent, place))
+}
+
+#[tactic(auto, unfolding(crate::specs::Forms::layer))]
+fn clear_layer(id: &[u8], parent: &[u8], place: &[u8]) -> Result<Change, Cause>
+    ensures value { result ≡ told_layer (id.now ∷ parent.now ∷ place.now ∷ []) }
+    ensures ranges { IfOk result (λ c. change_in_range c ≡ true) }
+{
+    let (id, parent, place) = spot(id, parent, place)?;
+    let ground = Pixel::CLEAR;
+    Ok(Change::Layer {
+        id,
+        parent,
+        place,
+        ground,
+    })
+}
+
+#[tactic(auto, unfolding(crate::specs::Forms::layer))]
+fn coloured_layer(id: &[u8], parent: &[u8], place: &[u8], colour: &[u8]) -> Result<Change, Cause>
+    ensures value { result ≡ told_layer (id.now ∷ parent.now ∷ place.now ∷ colour.now ∷ []) }
+    ensures ranges { IfOk result (λ c. change_in_range c ≡ true) }
+{
+    let (id, parent, place) = spot(id, parent, place)?;
+    let ground = rgba(colour)?;
+    Ok(Change::Layer {
+        id,
+        parent,
+        place,
+        ground,
+    })
+}
+
+/// A paint layer, clear unless its default pixel is told.
+#[tactic(auto, unfolding(crate::specs::Forms::layer))]
+fn layer(fields: &[&[u8]]) -> Result<Change, Cause>
+    ensures value { result ≡ told_layer (pointed fields.now) }
+    ensures ranges { IfOk result (λ c. change_in_range c ≡ true) }
+{
+    match fields {
+        [id, parent, place] => clear_layer(id, parent, place),
+        [id, parent, place, colour] => coloured_layer(id, parent, place, colour),
+        _ => Err(Cause::FieldCount),
+    }
+}
+
+#[tactic(auto, unfolding(crate::specs::Forms::group))]
+fn group(fields: &[&[u8]]) -> Result<Change, Cause>
+    ensures value { result ≡ told_group (pointed fields.now) }
+    ensures ranges { IfOk result (λ c. change_in_range c ≡ true) }
+{
+    match fields {
+        [id, parent, place] => {
+            let (id, parent, place) = spot(id, parent, place)?;
+            Ok(Change::Group { id, parent, place })
+        }
+        _ => Err(Cause::FieldCount),
+    }
+}
+
+#[tactic(auto, unfolding(crate::specs::Forms::remove))]
+fn remove(fields: &[&[u8]]) -> Result<Change, Cause>
+    ensures value { result ≡ told_remove (pointed fields.now) }
+    ensures ranges { IfOk result (λ c. change_in_range c ≡ true) }
+{
+    match fields {
+        [id] => {
+            let id = natural(1, 65535, id)? as u16;
+            Ok(Change::Remove { id })
+        }
+        _ => Err(Cause::FieldCount),
+    }
+}
+
+#[tactic(auto, unfolding(crate::specs::Forms::place))]
+fn place(fields: &[&[u8]]) -> Result<Change, Cause>
+    ensures value { result ≡ told_place (pointed fields.now) }
+    ensures ranges { IfOk result (λ c. change_in_range c ≡ true) }
+{
+    match fields {
+        [id, parent, at] => {
+            let (id, parent, place) = spot(id, parent, at)?;
+            Ok(Change::Place { id, parent, place })
+        }
+        _ => Err(Cause::FieldCount),
+    }
+}
+
+#[tactic(auto, unfolding(crate::specs::Forms::look))]
+fn look_of(id: &[u8], opacity: &[u8], operation: &[u8], seen: &[u8]) -> Result<Change, Cause>
+    ensures value { result ≡ told_look (id.now ∷ opacity.now ∷ operation.now ∷ seen.now ∷ []) }
+    ensures ranges { IfOk result (λ c. change_in_range c ≡ true) }
+{
+    let id = natural(1, 65535, id)? as u16;
+    let opacity = natural(0, 255, opacity)? as u8;
+    let op = op_of(operation)?;
+    let visible = seen_of(seen)?;
+    let look = Look {
+        opacity,
+        op,
+        visible,
+    };
+    Ok(Change::Look { id, look })
+}
+
+#[tactic(auto, unfolding(crate::specs::Forms::look))]
+fn look(fields: &[&[u8]]) -> Result<Change, Cause>
+    ensures value { result ≡ told_look (pointed fields.now) }
+    ensures ranges { IfOk result (λ c. change_in_range c ≡ true) }
+{
+    match fields {
+        [id, opacity, operation, seen] => look_of(id, opacity, operation, seen),
+        _ => Err(Cause::FieldCount),
+    }
+}
+
+#[tactic(auto, unfolding(crate::specs::Forms::stroke))]
+fn shared_stroke(number: &[u8], on: &[u8]) -> Result<Command, Cause>
+    ensures value { result ≡ told_stroke (number.now ∷ on.now ∷ []) }
+    ensures ranges { IfOk result (λ c. in_range c ≡ true) }
+    ensures sound { IfOk result (λ c. is_sound c ≡ true) }
+{
+    let no = natural(0, 4294967295, number)? as u32;
+    let layer = natural(1, 65535, on)? as u16;
+    let exclusive = false;
+    Ok(Command::Stroke {
+        no,
+        layer,
+        exclusive,
+    })
+}
+
+#[tactic(auto, unfolding(crate::specs::Forms::stroke))]
+fn exclusive_stroke(number: &[u8], on: &[u8], mark: &[u8]) -> Result<Command, Cause>
+    ensures value { result ≡ told_stroke (number.now ∷ on.now ∷ mark.now ∷ []) }
+    ensures ranges { IfOk result (λ c. in_range c ≡ true) }
+    ensures sound { IfOk result (λ c. is_sound c ≡ true) }
+{
+    let no = natural(0, 4294967295, number)? as u32;
+    let layer = natural(1, 65535, on)? as u16;
+    let exclusive = exclusive_of(mark)?;
+    Ok(Command::Stroke {
+        no,
+        layer,
+        exclusive,
+    })
+}
+
+/// The start of a stroke, exclusive where a mark says so.
+#[tactic(auto, unfolding(crate::specs::Forms::stroke))]
+fn stroke(fields: &[&[u8]]) -> Result<Command, Cause>
+    ensures value { result ≡ told_stroke (pointed fields.now) }
+    ensures ranges { IfOk result (λ c. in_range c ≡ true) }
+    ensures sound { IfOk result (λ c. is_sound c ≡ true) }
+{
+    match fields {
+        [number, on] => shared_stroke(number, on),
+        [number, on, mark] => exclusive_stroke(number, on, mark),
+        _ => Err(Cause::FieldCount),
+    }
+}
+
+/// The one number of a line.
+#[tactic(auto, unfolding(crate::specs::Forms::one_number))]
+fn one_number(fields: &[&[u8]]) -> Result<u32, Cause>
+    ensures value { result ≡ told_number (pointed fields.now) }
+    ensures range { IfOk result (λ n. is_number n ≡ true) }
+{
+    match fields {
+        [number] => Ok(natural(0, 4294967295, number)? as u32),
+        _ => Err(Cause::FieldCount),
+    }
+}
+
+/// A command that is its word alone.
+fn alone(command: Command, fields: &[&[u8]]) -> Result<Command, Cause>
+    requires ranges { in_range command ≡ true }
+    requires sound { is_sound command ≡ true }
+    ensures value { result ≡ told_alone command (pointed fields.now) }
+    ensures ranges { IfOk result (λ c. in_range c ≡ true) }
+    ensures sound { IfOk result (λ c. is_sound c ≡ true) }
+{
+    if fields.is_empty() {
+        Ok(command)
+    } else {
+        Err(Cause::FieldCount)
+    }
+}
+
+/// The command of a line, behind its word.
+#[tactic(auto, unfolding(crate::specs::Forms::command_of))]
+pub(crate) fn command_of(word: Word, fields: &[&[u8]]) -> Result<Command, Cause>
+    ensures value { result ≡ told_command word (pointed fields.now) }
+    ensures ranges { IfOk result (λ c. in_range c ≡ true) }
+    ensures sound { IfOk result (λ c. is_sound c ≡ true) }
+{
+    match word {
+        Word::Layer => Ok(Command::Change(layer(fields)?)),
+        Word::Group => Ok(Command::Change(group(fields)?)),
+        Word::Remove => Ok(Command::Change(remove(fields)?)),
+        Word::Place => Ok(Command::Change(place(fields)?)),
+        Word::Look => Ok(Command::Change(look(fields)?)),
+        Word::Stroke => stroke(fields),
+        Word::Paint(work) => paint(work, fields),
+        Word::End => Ok(Command::End {
+            no: one_number(fields)?,
+        }),
+        Word::Cancel => Ok(Command::Cancel {
+            no: one_number(fields)?,
+        }),
+        Word::Undo => alone(Command::Undo, fields),
+        Word::Redo => alone(Command::Redo, fields),
+        Word::Purge => Ok(Command::Purge {
+            keep: one_number(fields)?,
+        }),
+        Word::Export => alone(Command::Export, fields),
+    }
+}

@@ -1,0 +1,200 @@
+//! Reading a script line by line.
+
+ghost use Rattle.std.specs.Prelude.{◌≡◌, ◌<◌, length, None, Some, ◌++◌, ◌∷◌, [], IfOk, OnOk, true};
+ghost use Rattle.std.specs.Option.{option_to_list};
+ghost use Rattle.script_lines.specs.Lines.{pointed};
+ghost use Rattle.doc_model.specs.Strokes.{entries};
+ghost use Rattle.script_text.specs.Script.{in_range, is_sound};
+ghost use Rattle.script_text.specs.Forms.{canvas as said_canvas};
+ghost use Rattle.script_text.specs.Following.{misfit};
+ghost use Rattle.script_text.specs.Reading.{canvas_cause, word_cause, command_cause, cause_by, canvas_in, command_in, command_by, given, first_canvas, start_by, left_open, end_by, contents_by, fault, script};
+ghost use Rattle.script_text.specs.Read.{refusal, IsRefused, Fits, StartsAre, Answers, Takes, TakesCommand};
+
+use crate::draft::{Draft, add_last};
+use crate::forms::{canvas, command_of};
+use crate::script::{ReadRefusal, Script, ScriptFault};
+use crate::words::{Word, is, word_of};
+use doc_model::{Canvas, Command};
+use script_lines::{Cause, fields_of, is_command, lines_of};
+use std::alloc::Global;
+
+/// Where a stroke starts.
+#[derive(Clone, Copy, Debug, PartialEq, Eq)]
+pub(crate) struct Start {
+    line: u32,
+    no: u32,
+}
+
+/// What the lines so far say.
+#[derive(Drop)]
+pub(crate) struct Reading {
+    canvas: Option<Canvas>,
+    draft: Draft,
+    starts: Vec<Start>,
+}
+
+/// The refusal of a line.
+fn at(line: u32, cause: Cause) -> ReadRefusal
+    ensures { result ≡ refusal line cause }
+{
+    ReadRefusal::Fault(ScriptFault { line, cause })
+}
+
+/// Where the command starts a stroke.
+fn start_of(line: u32, command: &Command) -> Option<Start>
+    ensures { result ≡ start_by line (Some command.now) }
+{
+    match command {
+        Command::Stroke { no, .. } => Some(Start { line, no: *no }),
+        _ => None,
+    }
+}
+
+impl Reading {
+    fn new(alloc: Global) -> Self
+        ensures canvas { result.canvas ≡ None }
+        ensures draft { result.draft ≡ [] }
+        ensures starts { result.starts.items ≡ [] }
+    {
+        Reading {
+            canvas: None,
+            draft: Draft::new(alloc),
+            starts: Vec::new(alloc),
+        }
+    }
+
+    /// A canvas line, behind its word.
+    fn take_canvas(self, number: u32, others: &[&[u8]]) -> Result<Reading, ReadRefusal>
+        requires { Fits self.canvas }
+        ensures refused { IsRefused result number (canvas_cause self.canvas (pointed others.now)) }
+        ensures canvas { IfOk result (λ r. r.canvas ≡ given (said_canvas (pointed others.now))) }
+        ensures draft { IfOk result (λ r. r.draft ≡ self.draft) }
+        ensures starts { IfOk result (λ r. r.starts ≡ self.starts) }
+        ensures first { OnOk result (self.canvas ≡ None) }
+        ensures fits { IfOk result (λ r. Fits r.canvas) }
+    {
+        if self.canvas.is_some() {
+            return Err(at(number, Cause::CanvasAgain));
+        }
+        match canvas(others) {
+            Ok(canvas) => Ok(Reading {
+                canvas: Some(canvas),
+                draft: self.draft,
+                starts: self.starts,
+            }),
+            Err(cause) => Err(at(number, cause)),
+        }
+    }
+
+    /// What a line says, where it says a command.
+    fn add(self, number: u32, command: Command) -> Result<Reading, ReadRefusal>
+        requires ranges { in_range command ≡ true }
+        requires sound { is_sound command ≡ true }
+        ensures refused { IsRefused result number (misfit (entries self.draft) command) }
+        ensures taken { IfOk result (λ r. TakesCommand self r number (Some command)) }
+    {
+        if let Some(cause) = self.draft.misfit(&command) {
+            return Err(at(number, cause));
+        }
+        let start = start_of(number, &command);
+        let mut starts = self.starts;
+        if let Some(start) = start {
+            add_last(&mut starts, start)?;
+        }
+        Ok(Reading {
+            canvas: self.canvas,
+            draft: self.draft.add(command)?,
+            starts,
+        })
+    }
+
+    /// A line other than a canvas, behind its word.
+    fn take_word(
+        self,
+        number: u32,
+        word: Option<Word>,
+        others: &[&[u8]],
+    ) -> Result<Reading, ReadRefusal>
+        ensures refused { IsRefused result number (word_cause self.canvas self.draft word (pointed others.now)) }
+        ensures taken { IfOk result (λ r. TakesCommand self r number (command_by word (pointed others.now))) }
+    {
+        let Some(word) = word else {
+            return Err(at(number, Cause::UnknownWord));
+        };
+        if self.canvas.is_none() {
+            return Err(at(number, Cause::CanvasMissing));
+        }
+        match command_of(word, others) {
+            Ok(command) => self.add(number, command),
+            Err(cause) => Err(at(number, cause)),
+        }
+    }
+
+    /// A line that is a command.
+    #[tactic(auto, unfolding(crate::specs::Reading::cause_by))]
+    fn take(self, number: u32, fields: &[&[u8]]) -> Result<Reading, ReadRefusal>
+        requires { Fits self.canvas }
+        ensures refused { IsRefused result number (cause_by self.canvas self.draft (pointed fields.now)) }
+        ensures taken { IfOk result (λ r. Takes self r number (pointed fields.now)) }
+        ensures fits { IfOk result (λ r. Fits r.canvas) }
+    {
+        match fields {
+            [] => Ok(self),
+            [word, others @ ..] => {
+                if is(word, b"canvas") {
+                    self.take_canvas(number, others)
+                } else {
+                    self.take_word(number, word_of(word), others)
+                }
+            }
+        }
+    }
+}
+
+impl Reading {
+    /// The line of the first stroke that is still open.
+    fn left_open(&self) -> Option<u32>
+        ensures { result ≡ left_open (entries self.now.draft) self.now.starts.items }
+    {
+        for i in 0..self.starts.len() {
+            let start = self.starts[i];
+            if self.draft.is_open(start.no) {
+                return Some(start.line);
+            }
+        }
+        None
+    }
+
+    /// The script, where a canvas was read and all strokes are closed.
+    fn finish(self) -> Result<Script, ReadRefusal>
+        requires fits { Fits self.canvas }
+        requires starts { StartsAre self.starts.items self.draft }
+        ensures { Answers result (end_by self.canvas self.draft self.starts.items) (contents_by self.canvas self.draft) }
+    {
+        let left = self.left_open();
+        let Reading { canvas, draft, .. } = self;
+        let Some(canvas) = canvas else {
+            return Err(at(1, Cause::CanvasMissing));
+        };
+        match left {
+            Some(line) => Err(at(line, Cause::StrokeLeft)),
+            None => Ok(Script::from_parts(canvas, draft.into_commands())),
+        }
+    }
+}
+
+/// The script that the bytes spell, or the first fault of its lines.
+pub fn read(alloc: Global, bytes: &[u8]) -> Result<Script, ReadRefusal>
+    requires { length bytes.now < 4294967295 }
+    ensures { Answers result (fault bytes.now) (script bytes.now) }
+{
+    let lines = lines_of(alloc, bytes)?;
+    let mut reading = Reading::new(alloc);
+    for i in 0..lines.len() {
+        let fields = fields_of(alloc, lines[i])?;
+        if is_command(&fields) {
+            reading = reading.take(i as u32 + 1, &fields)?;
+        }
+    }
+    reading.finish()
+}
