@@ -55,3 +55,9 @@ started_by c = None
 -- the starts are those of the commands
 abbrev pub StartsAre : List Start → List Command → Type 0
 StartsAre starts commands = map (λ s. s.no) starts ≡ filter_map started_by commands
+
+-- that canvas and those commands were read
+pub record IsGathered (r : Reading) (c : Canvas) (commands : List Command) : Type 0 where
+  pub canvas : r.canvas ≡ Some c
+  pub draft : r.draft ≡ commands
+  pub starts : StartsAre r.starts.items commands

@@ -4,6 +4,7 @@
 mod draft;
 mod forms;
 mod jobs;
+mod making;
 mod printing;
 mod reading;
 mod script;

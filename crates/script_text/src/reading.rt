@@ -8,7 +8,7 @@ ghost use Rattle.script_text.specs.Script.{in_range, is_sound};
 ghost use Rattle.script_text.specs.Forms.{canvas as said_canvas};
 ghost use Rattle.script_text.specs.Following.{misfit};
 ghost use Rattle.script_text.specs.Reading.{canvas_cause, word_cause, command_cause, cause_by, canvas_in, command_in, command_by, given, first_canvas, start_by, left_open, end_by, contents_by, fault, script};
-ghost use Rattle.script_text.specs.Read.{refusal, IsRefused, Fits, StartsAre, Answers, Takes, TakesCommand};
+ghost use Rattle.script_text.specs.Read.{refusal, IsRefused, IsGathered, Fits, StartsAre, Answers, Takes, TakesCommand};
 
 use crate::draft::{Draft, add_last};
 use crate::forms::{canvas, command_of};
@@ -63,6 +63,17 @@ impl Reading {
         }
     }
 
+    /// A canvas, and no commands.
+    pub(crate) fn with_canvas(alloc: Global, canvas: Canvas) -> Self
+        ensures { IsGathered result canvas [] }
+    {
+        Reading {
+            canvas: Some(canvas),
+            draft: Draft::new(alloc),
+            starts: Vec::new(alloc),
+        }
+    }
+
     /// A canvas line, behind its word.
     fn take_canvas(self, number: u32, others: &[&[u8]]) -> Result<Reading, ReadRefusal>
         requires { Fits self.canvas }
@@ -87,7 +98,7 @@ impl Reading {
     }
 
     /// What a line says, where it says a command.
-    fn add(self, number: u32, command: Command) -> Result<Reading, ReadRefusal>
+    pub(crate) fn add(self, number: u32, command: Command) -> Result<Reading, ReadRefusal>
         requires ranges { in_range command ≡ true }
         requires sound { is_sound command ≡ true }
         ensures refused { IsRefused result number (misfit (entries self.draft) command) }
@@ -166,7 +177,7 @@ impl Reading {
     }
 
     /// The script, where a canvas was read and all strokes are closed.
-    fn finish(self) -> Result<Script, ReadRefusal>
+    pub(crate) fn finish(self) -> Result<Script, ReadRefusal>
         requires fits { Fits self.canvas }
         requires starts { StartsAre self.starts.items self.draft }
         ensures { Answers result (end_by self.canvas self.draft self.starts.items) (contents_by self.canvas self.draft) }

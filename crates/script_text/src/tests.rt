@@ -1,6 +1,7 @@
 //! Scripts, their faults, and their text.
 
-use crate::{Cause, ReadRefusal, print, read};
+use crate::{Cause, MakeRefusal, ReadRefusal, Script, print, read};
+use doc_model::Command;
 use std::alloc::Global;
 
 /// The first fault of a script of up to 1,000 bytes.
@@ -83,4 +84,26 @@ fn prints(rt: HostRuntime) {
         printed.as_slice()
             == b"canvas 1 1 ffffff\nlayer 1 0 0\nstroke 1 1\nfill 1 seq 0 0 1 1 ff000080 over 255\nend 1\nexport\n".as_slice()
     );
+}
+
+#[test]
+fn scripts_of_commands(rt: HostRuntime) {
+    let Ok(script) = read(
+        rt.alloc(),
+        b"canvas 1 1\nlayer 1 0 0\nstroke 1 1\nend 1\nexport",
+    ) else {
+        panic!(rt; "not read");
+    };
+    let Ok(commands) = Vec::from_slice(rt.alloc(), script.commands()) else {
+        panic!(rt; "no memory");
+    };
+    let Ok(made) = Script::from_commands(rt.alloc(), script.canvas(), commands) else {
+        panic!(rt; "not made");
+    };
+    assert!(rt; made.commands() == script.commands());
+    let Ok(alone) = Vec::from_slice(rt.alloc(), &[Command::End { no: 1 }]) else {
+        panic!(rt; "no memory");
+    };
+    let refused = Script::from_commands(rt.alloc(), script.canvas(), alone);
+    assert!(rt; matches!(refused, Err(MakeRefusal::NotScript)));
 }

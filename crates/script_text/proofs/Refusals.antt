@@ -1,0 +1,193 @@
+-- Commands that are no script.
+use Rattle.std.proofs.Common.{◌≡◌, ℕ, ◌+◌, ◌<◌, suc, zero, Bool, true, false, ◌&&◌, ◌||◌, not, nat_lt, if◌then◌else◌, Option, Some, None, List, [], ◌∷◌, ◌++◌, length, take, get_or, filter, map, refl, sym, ap, ◌∙◌, subst, arith}
+use Rattle.std.specs.Prelude.{◌==◌}
+use Rattle.std.specs.List.{list_any, list_all, filter_map}
+use Rattle.std.specs.Option.{option_to_list}
+use Rattle.std.proofs.lemmas.List.{take_more, map-append}
+use Rattle.std.proofs.lemmas.List.Folds.{list_all_at}
+use Rattle.std.proofs.lemmas.List.Elements.{filter_map-append}
+use Rattle.doc_model.specs.declared.canvas.Canvas.{Canvas}
+use Rattle.doc_model.specs.declared.command.Command.{Command}
+use Rattle.doc_model.specs.declared.command.Command.TheVariants as command
+use Rattle.doc_model.specs.Strokes.{Entry, Strokes, Changes, Undoes, Redoes, Purges, Exports, fed, all_fed, entries}
+use Rattle.doc_model.specs.Lawful.{is_stroke, is_open_stroke, has_room, is_export, is_closed_entry, may_follow, lawful_after, lawful, is_open as is_open_fate}
+use Rattle.script_lines.specs.declared.cause.Cause.{Cause}
+use Rattle.script_lines.specs.declared.cause.Cause.TheVariants.{UsedAgain, UnknownStroke, ClosedStroke, TooManyJobs, TooManyExports}
+use Rattle.script_text.specs.declared.reading.Start.{Start}
+use Rattle.script_text.specs.declared.reading.Reading.{Reading}
+use Rattle.script_text.specs.declared.script.ScriptFault.{ScriptFault}
+use Rattle.script_text.specs.Following.{misfit, or_else}
+use Rattle.script_text.specs.Script.{in_range, is_sound, is_script, contents, in_limits, all_closed}
+use Rattle.script_text.specs.Reading.{left_open, left_fault, start_by}
+use Rattle.script_text.specs.Read.{IsGathered, TakesCommand, started_by}
+
+and_false : (b : Bool) → (b && false) ≡ false
+and_false true = refl
+and_false false = refl
+
+-- a command that may not follow those before it
+pub lawful_at : (es : List Entry) (cs : List Command) (i : ℕ) (c : Command) → i < length cs → c ≡ get_or cs i c → may_follow (all_fed es (take i cs)) c ≡ false → lawful_after es cs ≡ false
+lawful_at es [] i c h e f = absurd (omega arith)
+lawful_at es (d ∷ cs) zero c h e f = rw (subst (λ k. may_follow es k ≡ false) e f) refl
+lawful_at es (d ∷ cs) (suc i) c h e f = rw (lawful_at (fed es d) cs i c (omega arith) e f) (and_false (may_follow es d))
+
+not_free : (a : Bool) (x : Cause) → (if a then Some UsedAgain else None) ≡ Some x → not a ≡ false
+not_free true x h = refl
+not_free false x h = absurd (cc (h))
+
+not_live : (a b : Bool) (x : Cause) → (b ≡ true → a ≡ true) → (if not a then Some UnknownStroke else (if not b then Some ClosedStroke else None)) ≡ Some x → b ≡ false
+not_live true true x up h = absurd (cc (h))
+not_live true false x up h = refl
+not_live false true x up h = absurd (cc (up refl))
+not_live false false x up h = refl
+
+first_true : (a b : Bool) → (a && b) ≡ true → a ≡ true
+first_true true b k = refl
+first_true false b k = k
+
+second_true : (a b : Bool) → (a && b) ≡ true → b ≡ true
+second_true true b k = k
+second_true false b k = absurd (cc (k))
+
+either : (a b : Bool) → (a ≡ true) → (a || b) ≡ true
+either a b k = rw k refl
+
+later : (a b : Bool) → (b ≡ true) → (a || b) ≡ true
+later true b k = refl
+later false b k = k
+
+open_here : (n : ℕ) (e : Entry) → is_open_stroke n e ≡ true → is_stroke n e ≡ true
+open_here n (Strokes s) k = first_true (s.no == n) (is_open_fate s.fate) k
+open_here n (Changes c) k = k
+open_here n Undoes k = k
+open_here n Redoes k = k
+open_here n (Purges keep) k = k
+open_here n Exports k = k
+
+open_more : (n : ℕ) (e : Entry) (es : List Entry) (b : Bool) → is_open_stroke n e ≡ b → (list_any (is_open_stroke n) es ≡ true → list_any (is_stroke n) es ≡ true) → (b || list_any (is_open_stroke n) es) ≡ true → (is_stroke n e || list_any (is_stroke n) es) ≡ true
+open_more n e es true k rest l = either (is_stroke n e) (list_any (is_stroke n) es) (open_here n e k)
+open_more n e es false k rest l = later (is_stroke n e) (list_any (is_stroke n) es) (rest l)
+
+-- an open stroke is a stroke
+started : (n : ℕ) (es : List Entry) → list_any (is_open_stroke n) es ≡ true → list_any (is_stroke n) es ≡ true
+started n [] h = h
+started n (e ∷ es) h = open_more n e es (is_open_stroke n e) refl (started n es) h
+
+closed_not : (n : ℕ) (e : Entry) → is_open_stroke n e ≡ true → is_closed_entry e ≡ false
+closed_not n (Strokes s) k = rw (second_true (s.no == n) (is_open_fate s.fate) k) refl
+closed_not n (Changes c) k = absurd (cc (k))
+closed_not n Undoes k = absurd (cc (k))
+closed_not n Redoes k = absurd (cc (k))
+closed_not n (Purges keep) k = absurd (cc (k))
+closed_not n Exports k = absurd (cc (k))
+
+not_closed_more : (n : ℕ) (e : Entry) (es : List Entry) (b : Bool) → is_open_stroke n e ≡ b → (list_any (is_open_stroke n) es ≡ true → list_all is_closed_entry es ≡ false) → (b || list_any (is_open_stroke n) es) ≡ true → (is_closed_entry e && list_all is_closed_entry es) ≡ false
+not_closed_more n e es true k rest l = rw (closed_not n e k) refl
+not_closed_more n e es false k rest l = rw (rest l) (and_false (is_closed_entry e))
+
+-- an open stroke isn't closed
+open_not_closed : (n : ℕ) (es : List Entry) → list_any (is_open_stroke n) es ≡ true → list_all is_closed_entry es ≡ false
+open_not_closed n [] h = absurd (cc (h))
+open_not_closed n (e ∷ es) h = not_closed_more n e es (is_open_stroke n e) refl (open_not_closed n es) h
+
+left_more : (es : List Entry) (s : Start) (starts : List Start) (n : ℕ) (b : Bool) → list_any (is_open_stroke s.no) es ≡ b → (left_open es starts ≡ Some n → list_all is_closed_entry es ≡ false) → (if b then Some s.line else left_open es starts) ≡ Some n → list_all is_closed_entry es ≡ false
+left_more es s starts n true e rest h = open_not_closed s.no es e
+left_more es s starts n false e rest h = rest h
+
+pub some_left : (es : List Entry) (starts : List Start) (n : ℕ) → left_open es starts ≡ Some n → list_all is_closed_entry es ≡ false
+some_left es [] n h = absurd (cc (h))
+some_left es (s ∷ starts) n h = left_more es s starts n (list_any (is_open_stroke s.no) es) refl (some_left es starts n) h
+
+add_bad : (s a b r : Bool) (x : Cause) → (b ≡ true → a ≡ true) → or_else (if not a then Some UnknownStroke else (if not b then Some ClosedStroke else None)) (if r then None else Some TooManyJobs) ≡ Some x → (s && (b && r)) ≡ false
+add_bad s true true true x up h = absurd (cc (h))
+add_bad s true true false x up h = and_false s
+add_bad s true false r x up h = and_false s
+add_bad s false true r x up h = absurd (cc (up refl))
+add_bad s false false r x up h = and_false s
+
+not_space : (a : Bool) (x : Cause) → (if a then None else Some TooManyExports) ≡ Some x → a ≡ false
+not_space true x h = absurd (cc (h))
+not_space false x h = refl
+
+-- a command that doesn't fit
+pub misfits : (es : List Entry) (c : Command) (x : Cause) → misfit es c ≡ Some x → may_follow es c ≡ false
+unfolding misfit
+misfits es (command.Change change) x h = absurd (cc (h))
+misfits es (command.Stroke n layer e) x h = not_free (list_any (is_stroke n) es) x h
+misfits es (command.Add n kind j) x h = add_bad (is_sound (command.Add n kind j)) (list_any (is_stroke n) es) (list_any (is_open_stroke n) es) (list_any (has_room n) es) x (started n es) h
+misfits es (command.End n) x h = not_live (list_any (is_stroke n) es) (list_any (is_open_stroke n) es) x (started n es) h
+misfits es (command.Cancel n) x h = not_live (list_any (is_stroke n) es) (list_any (is_open_stroke n) es) x (started n es) h
+misfits es command.Undo x h = absurd (cc (h))
+misfits es command.Redo x h = absurd (cc (h))
+misfits es (command.Purge keep) x h = absurd (cc (h))
+misfits es command.Export x h = not_space (nat_lt (length (filter is_export es)) 64) x h
+
+-- a job that doesn't meet the limits
+pub unsound : (es : List Entry) (c : Command) → is_sound c ≡ false → may_follow es c ≡ false
+unsound es (command.Change change) h = absurd (cc (h))
+unsound es (command.Stroke n layer e) h = absurd (cc (h))
+unsound es (command.Add n kind j) h = rw h refl
+unsound es (command.End n) h = absurd (cc (h))
+unsound es (command.Cancel n) h = absurd (cc (h))
+unsound es command.Undo h = absurd (cc (h))
+unsound es command.Redo h = absurd (cc (h))
+unsound es (command.Purge keep) h = absurd (cc (h))
+unsound es command.Export h = absurd (cc (h))
+
+-- a command that can't stand at its place
+pub bad_range : (cs : List Command) (i : ℕ) (c : Command) → i < length cs → c ≡ get_or cs i c → in_range c ≡ false → (list_all in_range cs && lawful cs) ≡ false
+bad_range cs i c h e f = rw (list_all_at in_range cs i c h (subst (λ k. in_range k ≡ false) e f)) refl
+
+pub bad_place : (cs : List Command) (i : ℕ) (c : Command) → i < length cs → c ≡ get_or cs i c → may_follow (entries (take i cs)) c ≡ false → (list_all in_range cs && lawful cs) ≡ false
+bad_place cs i c h e f = rw (lawful_at [] cs i c h e f) (and_false (list_all in_range cs))
+
+start_is : (n : ℕ) (c : Command) → map (λ (s : Start). s.no) (option_to_list (start_by n (Some c))) ≡ filter_map started_by (c ∷ [])
+start_is n (command.Change change) = refl
+start_is n (command.Stroke k layer e) = refl
+start_is n (command.Add k kind j) = refl
+start_is n (command.End k) = refl
+start_is n (command.Cancel k) = refl
+start_is n command.Undo = refl
+start_is n command.Redo = refl
+start_is n (command.Purge keep) = refl
+start_is n command.Export = refl
+
+-- one command more
+pub gathered_more : (r new : Reading) (canvas : Canvas) (cs : List Command) (i n : ℕ) (c : Command) → i < length cs → c ≡ get_or cs i c → IsGathered r canvas (take i cs) → TakesCommand r new n (Some c) → IsGathered new canvas (take (i + 1) cs)
+gathered_more r new canvas cs i n c h e g t =
+    let more : take (i + 1) cs ≡ take i cs ++ c ∷ [] = take_more cs i c h ∙ ap (λ d. take i cs ++ d ∷ []) (sym e) in
+    record {
+      canvas = t.canvas ∙ g.canvas;
+      draft = t.draft ∙ (ap (λ l. l ++ c ∷ []) g.draft ∙ sym more);
+      starts = ap (map (λ (s : Start). s.no)) t.starts ∙ (map-append (λ (s : Start). s.no) r.starts.items (option_to_list (start_by n (Some c))) ∙ ((λ j. g.starts j ++ start_is n c j) ∙ (sym (filter_map-append started_by (take i cs) (c ∷ [])) ∙ ap (filter_map started_by) (sym more))));
+    }
+
+pub no_limits : (c : Canvas) (cs : List Command) → in_limits c ≡ false → is_script (contents c cs) ≡ false
+unfolding is_script
+no_limits c cs h = rw h refl
+
+pub no_commands : (c : Canvas) (cs : List Command) → (list_all in_range cs && lawful cs) ≡ false → is_script (contents c cs) ≡ false
+unfolding is_script
+no_commands c cs h = go (in_limits c) (list_all in_range cs) (lawful cs) (all_closed cs) h
+  where
+    go : (p q r s : Bool) → (q && r) ≡ false → ((p && q) && (r && s)) ≡ false
+    go false q r s k = refl
+    go true false r s k = refl
+    go true true r s k = rw k refl
+
+pub not_closed : (c : Canvas) (cs : List Command) → all_closed cs ≡ false → is_script (contents c cs) ≡ false
+unfolding is_script
+not_closed c cs h = rw h (go (in_limits c && list_all in_range cs) (lawful cs))
+  where
+    go : (p r : Bool) → (p && (r && false)) ≡ false
+    go p r = rw (and_false r) (and_false p)
+
+left_some : (o : Option ℕ) (f : ScriptFault) → left_fault o ≡ Some f → (n : ℕ) × (o ≡ Some n)
+left_some None f h = absurd (cc (h))
+left_some (Some n) f h = (n, refl)
+
+-- a stroke that is left open
+pub left_bad : (c : Canvas) (cs : List Command) (starts : List Start) (f : ScriptFault) → left_fault (left_open (entries cs) starts) ≡ Some f → is_script (contents c cs) ≡ false
+left_bad c cs starts f h =
+    let n = left_some (left_open (entries cs) starts) f h in
+    not_closed c cs (some_left (entries cs) starts n.0 n.1)
