@@ -1,5 +1,5 @@
 -- The commands that come to each stage of the form.
-use Rattle.std.proofs.Common.{◌≡◌, ℕ, suc, ◌==◌, Bool, true, false, ◌&&◌, not, List, [], ◌∷◌, ◌++◌, map, Option, Some, None, Result, Ok, Err, refl, sym, ap, ◌∙◌, subst, arith}
+use Rattle.std.proofs.Common.{◌≡◌, ℕ, suc, ◌==◌, Bool, true, false, ◌&&◌, not, List, [], ◌∷◌, ◌++◌, map, Result, Ok, refl, sym, ap, ◌∙◌, subst, arith}
 use Rattle.pixel_core.specs.Rgba.{Rgba, clear}
 use Rattle.pixel_core.specs.declared.blending.Op.TheVariants.{Over}
 use Rattle.geom_core.specs.Areas.{Area}
@@ -13,7 +13,7 @@ use Rattle.doc_model.specs.declared.command.Command.{Command}
 use Rattle.doc_model.specs.declared.command.Command.TheVariants as command
 use Rattle.strokes_top.specs.declared.form.Stage.{Stage}
 use Rattle.strokes_top.specs.declared.form.Stage.TheVariants.{Empty, Layered, Open, Closed, Exported}
-use Rattle.strokes_top.specs.Form.{is_first_layer, is_coat, if_so, onward, next, course}
+use Rattle.strokes_top.specs.Form.{is_first_layer, is_coat, if_so, onward, course}
 
 -- a rectangle that a colour is laid over with a strength
 pub record Coat : Type 0 where
@@ -46,11 +46,12 @@ form coats Empty = []
 form coats Layered = first_layer ∷ []
 form coats stage = first_layer ∷ command.Stroke 1 1 false ∷ (map added coats ++ tail stage)
 
-left : (a b : Bool) → (a && b) ≡ true → a ≡ true
+-- both of two tests
+pub left : (a b : Bool) → (a && b) ≡ true → a ≡ true
 left true b h = refl
 left false b h = absurd (cc (h))
 
-right : (a b : Bool) → (a && b) ≡ true → b ≡ true
+pub right : (a b : Bool) → (a && b) ≡ true → b ≡ true
 right true b h = h
 right false b h = absurd (cc (h))
 

@@ -31,7 +31,7 @@ use Rattle.strokes_top.specs.Output.{header, output}
 use Rattle.strokes_top.specs.declared.form.Stage.{Stage}
 use Rattle.strokes_top.specs.declared.form.Stage.TheVariants.{Empty, Layered, Open as Opened, Closed, Exported}
 use Rattle.strokes_top.specs.Form.{course}
-use Rattle.strokes_top.proofs.Forms.{Coat, fill_of, added, form, tail, form_of}
+use Rattle.strokes_top.proofs.Forms.{Coat, fill_of, added, form, form_of}
 use Rattle.strokes_top.specs.Painting.{filled, pixel_of, point_bytes, rows_bytes}
 
 -- a coat as a job with its kind

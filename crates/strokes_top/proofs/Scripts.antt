@@ -1,5 +1,5 @@
 -- What is known of a script.
-use Rattle.std.proofs.Common.{◌≡◌, ◌==◌, Bool, true, false, ◌&&◌, List, [], Option, Some, None, refl, sym, subst, ◌≢◌, Ok, arith}
+use Rattle.std.proofs.Common.{◌≡◌, ◌==◌, true, ◌&&◌, List, [], Option, Some, None, sym, subst, ◌≢◌, Ok, arith}
 use Rattle.std.specs.Prelude.{ℕ, nat_le, IsSomeAnd}
 use Rattle.std.specs.Io.KnownBytes.{Appends}
 use Rattle.std.proofs.lemmas.List.{append-nil}
@@ -11,16 +11,9 @@ use Rattle.strokes_top.specs.declared.form.Stage.{Stage}
 use Rattle.strokes_top.specs.declared.form.Stage.TheVariants.{Empty, Exported}
 use Rattle.strokes_top.specs.Form.{course}
 use Rattle.strokes_top.specs.Output.{output}
+use Rattle.strokes_top.proofs.Forms.{left, right}
 use Rattle.strokes_top.proofs.FormsMean.{output_nothing}
 use Rattle.script_text.specs.Script.{Contents, in_limits, in_range, all_closed, is_script}
-
-left : (a b : Bool) → (a && b) ≡ true → a ≡ true
-left true b h = refl
-left false b h = absurd (cc (h))
-
-right : (a b : Bool) → (a && b) ≡ true → b ≡ true
-right true b h = h
-right false b h = absurd (cc (h))
 
 opaque_paper : (c : Canvas) → in_limits c ≡ true → c.paper.a ≡ 255
 opaque_paper c h = grind (arith, right (is_pixel c.paper) (c.paper.a == 255) (right ((nat_le 1 c.w && nat_le c.w 2048) && (nat_le 1 c.h && nat_le c.h 2048)) (is_pixel c.paper && (c.paper.a == 255)) h))

@@ -52,7 +52,10 @@ fn next(stage: Stage, command: &Command) -> Option<Stage>
     ensures { result ≡ next_stage stage command.now }
 {
     let (fits, after) = match command {
-        Command::Change(change) => (stage == Stage::Empty && is_first_layer(change), Stage::Layered),
+        Command::Change(change) => (
+            stage == Stage::Empty && is_first_layer(change),
+            Stage::Layered,
+        ),
         Command::Stroke {
             no,
             layer,
