@@ -4,10 +4,12 @@
 mod memory;
 mod outside;
 mod standard;
+mod whole;
 
 pub use memory::{MemSink, MemSource};
 pub use outside::{Failed, Gate, NoGate, Sink, Source};
 pub use standard::{StdSink, StdSource};
+pub use whole::{write_all, write_pieces};
 
 #[cfg(test)]
 mod tests;

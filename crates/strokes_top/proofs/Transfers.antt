@@ -3,7 +3,7 @@ use Rattle.std.proofs.Common.{◌≡◌, ℕ, List, [], ◌++◌, Option, Some, 
 use Rattle.std.specs.Io.KnownBytes.{Appends, Consumes}
 use Rattle.std.proofs.lemmas.List.{append-nil}
 use Rattle.io_edge.specs.declared.outside.Failed.{Failed}
-use Rattle.strokes_top.specs.Bytes.{AppendsPrefix}
+use Rattle.io_edge.specs.Bytes.{AppendsPrefix}
 
 pub appends_both : (a b c : Option (List ℕ)) (xs ys : List ℕ) → Appends a b xs → Appends b c ys → Appends a c (xs ++ ys)
 appends_both None b c xs ys h k = tt

@@ -1,11 +1,7 @@
--- What a run reads and writes.
-use Rattle.std.specs.Prelude.{ℕ, ◌≡◌, ◌<◌, ◌≤◌, List, ◌++◌, length}
+-- What a run reads.
+use Rattle.std.specs.Prelude.{ℕ, ◌<◌, ◌≤◌, List, length}
 use Rattle.std.specs.declared.option.Option.{Option}
-use Rattle.std.specs.Io.KnownBytes.{Appends, Consumes}
-
--- known bytes grow by the first of these bytes
-abbrev pub AppendsPrefix : Option (List ℕ) → Option (List ℕ) → List ℕ → Type 0
-AppendsPrefix old new bs = (front rest : List ℕ) × (bs ≡ front ++ rest) × Appends old new front
+use Rattle.std.specs.Io.KnownBytes.{Consumes}
 
 -- more than limit of the known bytes were taken
 abbrev pub ConsumesMore : ℕ → Option (List ℕ) → Option (List ℕ) → Type 0

@@ -3,7 +3,7 @@ use Rattle.std.specs.Prelude.{◌≡◌, ℕ, List, [], Option, Some, IfSome, Is
 use Rattle.std.specs.Io.KnownBytes.{Appends}
 use Rattle.script_text.specs.Reading.{script}
 use Rattle.script_text.specs.declared.script.ScriptFault.{ScriptFault}
-use Rattle.strokes_top.specs.Bytes.{AppendsPrefix}
+use Rattle.io_edge.specs.Bytes.{AppendsPrefix}
 use Rattle.strokes_top.specs.Output.{output}
 use Rattle.strokes_top.specs.Refusal.{refusal}
 

@@ -4,15 +4,14 @@ ghost use Rattle.std.specs.Prelude.{◌≡◌, ◌*◌, Ok, IfOk, OnOk, OnErr, l
 ghost use Rattle.std.specs.Io.KnownBytes.{Appends};
 ghost use Rattle.io_edge.specs.Faults.{HasCause};
 ghost use Rattle.geom_core.specs.Points.{point};
-ghost use Rattle.strokes_top.specs.Bytes.{AppendsPrefix};
+ghost use Rattle.io_edge.specs.Bytes.{AppendsPrefix};
 ghost use Rattle.strokes_top.specs.Form.{course};
 ghost use Rattle.strokes_top.specs.Output.{header as header_bytes, output};
 ghost use Rattle.strokes_top.specs.Painting.{filled as filled_at, pixel_of, row_bytes};
 
 use crate::form::Stage;
-use crate::transfer::write_all;
 use doc_model::{Command, Job};
-use io_edge::{Failed, Sink};
+use io_edge::{Failed, Sink, write_all};
 use pixel_core::{Op, Pixel, compose, on_paper};
 use script_text::Script;
 use std::alloc::{AllocError, Global};

@@ -3,12 +3,11 @@
 ghost use Rattle.std.specs.Prelude.{◌≡◌, ◌≢◌, ◌⊎◌, IfOk, string_bytes};
 ghost use Rattle.std.specs.Io.KnownBytes.{Keeps, Appends};
 ghost use Rattle.io_edge.specs.Faults.{Rose};
-ghost use Rattle.strokes_top.specs.Bytes.{AppendsPrefix};
+ghost use Rattle.io_edge.specs.Bytes.{AppendsPrefix};
 ghost use Rattle.strokes_top.specs.Status.{told_by};
 
 use crate::status::Status;
-use crate::transfer::write_all;
-use io_edge::Sink;
+use io_edge::{Sink, write_all};
 use script_text::Cause;
 use std::alloc::{AllocError, Global};
 

@@ -1,26 +1,12 @@
-//! Reading all of a source, and writing all of some bytes.
+//! Reading all of a source.
 
 ghost use Rattle.std.specs.Prelude.{◌≡◌, ◌≢◌, ◌≤◌, length, Err, IfOk, OnOk, OnErr, IsErrOf};
-ghost use Rattle.std.specs.Io.KnownBytes.{Consumes, IsAtEnd, Appends};
-ghost use Rattle.io_edge.specs.Faults.{HasCause, Rose};
-ghost use Rattle.strokes_top.specs.Bytes.{AppendsPrefix, ConsumesMore, ConsumesAtMost};
+ghost use Rattle.std.specs.Io.KnownBytes.{Consumes, IsAtEnd};
+ghost use Rattle.io_edge.specs.Faults.{Rose};
+ghost use Rattle.strokes_top.specs.Bytes.{ConsumesMore, ConsumesAtMost};
 
-use io_edge::{Failed, Sink, Source};
+use io_edge::{Failed, Source};
 use std::alloc::Global;
-
-/// Writes all bytes. Where it fails, the sink took the first of them.
-pub fn write_all<K: Sink>(out: &mut K, bytes: &[u8]) -> Result<(), Failed>
-    ensures ok { OnOk result (Appends (K.taken out.old) (K.taken out.new) bytes.now) }
-    ensures err { OnErr result (AppendsPrefix (K.taken out.old) (K.taken out.new) bytes.now) }
-    ensures cause { HasCause (K.faults out.old) (K.faults out.new) result }
-{
-    let mut at = 0;
-    while at < bytes.len() {
-        let (_, rest) = bytes.split_at(at);
-        at += out.write(rest)?;
-    }
-    Ok(())
-}
 
 /// The most bytes that a script may have.
 pub const LIMIT: usize = 1_048_576;

@@ -1,0 +1,10 @@
+//! The queue of entries: what was fed and has no outcome yet, in order, and the outcomes so far.
+#![tactic(auto)]
+
+mod entry;
+mod queue;
+#[cfg(test)]
+mod tests;
+
+pub use entry::Entry;
+pub use queue::Queue;

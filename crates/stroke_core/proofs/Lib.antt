@@ -1,0 +1,2 @@
+pub mod MoreJobs
+pub mod RunFacts

@@ -1,0 +1,181 @@
+-- What one more job at the end changes of the conflict, and of what is kept.
+use Rattle.std.proofs.Common.{◌≡◌, ℕ, suc, zero, ◌+◌, ◌-◌, ◌<◌, ◌≤◌, Bool, true, false, cond, [], ◌∷◌, ◌++◌, Option, Some, None, is_some, length, take, refl, sym, ap, ◌∙◌, arith}
+use Rattle.doc_model.specs.declared.job.Job.{Job}
+use Rattle.doc_model.specs.declared.job.Kind.{Kind}
+use Rattle.doc_model.specs.Least.{least, least_from}
+use Rattle.doc_model.specs.Strokes as strokes
+use Rattle.doc_model.specs.Strokes.{Jobs, conflict, conflicting, first_conflicting, second_of, pair_at, pair_of, up_to}
+use Rattle.doc_model.proofs.Conflicts.{conflicting-take, IsLeastFrom, least_from_is}
+use Rattle.stroke_core.specs.Fed.{Fed, StandsFor, found, pair_or, plus}
+
+take_front : (jobs rest : Jobs) → take (length jobs) (jobs ++ rest) ≡ jobs
+take_front [] rest = refl
+take_front (j ∷ jobs) rest = ap (λ js. j ∷ js) (take_front jobs rest)
+
+take_less : (m : ℕ) (jobs rest : Jobs) → m ≤ length jobs → take m (jobs ++ rest) ≡ take m jobs
+take_less zero jobs rest h = refl
+take_less (suc m) [] rest h = absurd (omega arith)
+take_less (suc m) (j ∷ jobs) rest h = ap (λ js. j ∷ js) (take_less m jobs rest (omega arith))
+
+-- jobs of the front conflict as they did
+conflicting_front : (jobs rest : Jobs) (i j : ℕ) → i < j → j < length jobs → conflicting (jobs ++ rest) i j ≡ conflicting jobs i j
+conflicting_front jobs rest i j h l = sym (conflicting-take (length jobs) (jobs ++ rest) i j h l) ∙ ap (λ js. conflicting js i j) (take_front jobs rest)
+
+cond_same : {b c : Bool} {x y : Option ℕ} (k : ℕ) → b ≡ c → x ≡ y → cond b (Some k) x ≡ cond c (Some k) y
+cond_same k e f i = cond (e i) (Some k) (f i)
+
+least_same : (k n : ℕ) (s t : ℕ → Bool) → ((i : ℕ) → k ≤ i → i < k + n → s i ≡ t i) → least_from k n s ≡ least_from k n t
+least_same k zero s t same = refl
+least_same k (suc n) s t same = cond_same k (same k (omega arith) (omega arith)) (least_same (k + 1) n s t (λ i a b. same i (omega arith) (omega arith)))
+
+abbrev or_then : Option ℕ → Option ℕ → Option ℕ
+or_then None b = b
+or_then (Some i) b = Some i
+
+least_more : (k n : ℕ) (t : ℕ → Bool) → least_from k (suc n) t ≡ or_then (least_from k n t) (cond (t (k + n)) (Some (k + n)) None)
+least_more k zero t = ap (λ m. cond (t m) (Some m) None) (same k)
+  where
+    same : (k : ℕ) → k ≡ k + 0
+    same k = omega arith
+least_more k (suc n) t = ap (cond (t k) (Some k)) (least_more (k + 1) n t ∙ ap (λ m. or_then (least_from (k + 1) n t) (cond (t m) (Some m) None)) (next k n)) ∙ out (t k) _ _
+  where
+    next : (k n : ℕ) → (k + 1) + n ≡ k + suc n
+    next k n = omega arith
+
+    out : (b : Bool) (x y : Option ℕ) → cond b (Some k) (or_then x y) ≡ or_then (cond b (Some k) x) y
+    out true x y = refl
+    out false x y = refl
+
+first_front : (jobs rest : Jobs) (j : ℕ) → j < length jobs → first_conflicting (jobs ++ rest) j ≡ first_conflicting jobs j
+first_front jobs rest j l = least_same 0 j _ _ (λ i a b. conflicting_front jobs rest i j (omega arith) l)
+
+pub length_last : (jobs : Jobs) (x : Kind × Job) → length (jobs ++ x ∷ []) ≡ suc (length jobs)
+length_last [] x = refl
+length_last (j ∷ jobs) x = ap suc (length_last jobs x)
+
+second_more : (jobs : Jobs) (x : Kind × Job) → second_of (jobs ++ x ∷ []) ≡ or_then (second_of jobs) (cond (is_some (first_conflicting (jobs ++ x ∷ []) (length jobs))) (Some (length jobs)) None)
+second_more jobs x =
+    ap (λ n. least n (λ j. is_some (first_conflicting (jobs ++ x ∷ []) j))) (length_last jobs x)
+    ∙ least_more 0 (length jobs) (λ j. is_some (first_conflicting (jobs ++ x ∷ []) j))
+    ∙ (λ i. or_then (least_same 0 (length jobs) _ (λ j. is_some (first_conflicting jobs j)) (λ j a b. ap is_some (first_front jobs (x ∷ []) j (omega arith))) i)
+    (cond (is_some (first_conflicting (jobs ++ x ∷ []) (zero_plus (length jobs) i))) (Some (zero_plus (length jobs) i)) None))
+  where
+    zero_plus : (n : ℕ) → 0 + n ≡ n
+    zero_plus n = omega arith
+
+-- one more job adds at most the pair of which it is the second
+pub conflict_more : (jobs : Jobs) (x : Kind × Job) → conflict (jobs ++ x ∷ []) ≡ pair_or (conflict jobs) (pair_of (first_conflicting (jobs ++ x ∷ []) (length jobs)) (length jobs))
+unfolding conflict
+conflict_more jobs x = ap (pair_at (jobs ++ x ∷ [])) (second_more jobs x) ∙ go (second_of jobs) (least_from_is 0 (length jobs) (λ j. is_some (first_conflicting jobs j)))
+  where
+    last : Option ℕ
+    last = first_conflicting (jobs ++ x ∷ []) (length jobs)
+
+    go : (o : Option ℕ) → IsLeastFrom 0 (length jobs) (λ j. is_some (first_conflicting jobs j)) o → pair_at (jobs ++ x ∷ []) (or_then o (cond (is_some last) (Some (length jobs)) None)) ≡ pair_or (pair_at jobs o) (pair_of last (length jobs))
+    go None told = new last refl
+      where
+        new : (o : Option ℕ) → last ≡ o → pair_at (jobs ++ x ∷ []) (cond (is_some o) (Some (length jobs)) None) ≡ pair_of o (length jobs)
+        new None e = refl
+        new (Some i) e = ap (λ o. pair_of o (length jobs)) e
+    go (Some m) told = ap (λ o. pair_of o m) (first_front jobs (x ∷ []) m (omega (arith, told.1))) ∙ old (first_conflicting jobs m) told.2
+      where
+        old : (o : Option ℕ) → is_some o ≡ true → pair_of o m ≡ pair_or (pair_of o m) (pair_of last (length jobs))
+        old None e = cc
+        old (Some i) e = refl
+
+-- the second of a pair is the number of a job
+pub second_small : (jobs : Jobs) (pair : ℕ × ℕ) → conflict jobs ≡ Some pair → pair.1 - 1 ≤ length jobs
+unfolding conflict
+second_small jobs pair e = go (second_of jobs) (least_from_is 0 (length jobs) (λ j. is_some (first_conflicting jobs j))) e
+  where
+    of_pair : (o : Option ℕ) (m : ℕ) → m < length jobs → pair_of o m ≡ Some pair → pair.1 - 1 ≤ length jobs
+    of_pair None m l e = cc
+    of_pair (Some i) m l e = let same : (suc i, suc m) ≡ pair = cc in let second : suc m ≡ pair.1 = ap (λ (p : ℕ × ℕ). p.1) same in omega arith
+
+    go : (o : Option ℕ) → IsLeastFrom 0 (length jobs) (λ j. is_some (first_conflicting jobs j)) o → pair_at jobs o ≡ Some pair → pair.1 - 1 ≤ length jobs
+    go None told e = cc
+    go (Some m) told e = of_pair (first_conflicting jobs m) m (omega (arith, told.1)) e
+
+one_less : (n : ℕ) → suc n - 1 ≡ n
+one_less n = omega arith
+
+-- where nothing conflicted, all jobs before the new one are kept
+up_to_last : (jobs : Jobs) (x : Kind × Job) (o : Option ℕ) (pair : ℕ × ℕ) → pair_of o (length jobs) ≡ Some pair → take (pair.1 - 1) (jobs ++ x ∷ []) ≡ jobs
+up_to_last jobs x None pair e = cc
+up_to_last jobs x (Some i) pair e =
+    let same : (suc i, suc (length jobs)) ≡ pair = cc in
+    ap (λ (p : ℕ × ℕ). take (p.1 - 1) (jobs ++ x ∷ [])) (sym same) ∙ ap (λ n. take n (jobs ++ x ∷ [])) (one_less (length jobs)) ∙ take_front jobs (x ∷ [])
+
+more_none : (fed : Jobs) (x : Kind × Job) → conflict fed ≡ None → conflict (fed ++ x ∷ []) ≡ pair_of (first_conflicting (fed ++ x ∷ []) (length fed)) (length fed)
+more_none fed x e = conflict_more fed x ∙ ap (λ o. pair_or o (pair_of (first_conflicting (fed ++ x ∷ []) (length fed)) (length fed))) e
+
+more_some : (fed : Jobs) (x : Kind × Job) (old : ℕ × ℕ) → conflict fed ≡ Some old → conflict (fed ++ x ∷ []) ≡ Some old
+more_some fed x old e = conflict_more fed x ∙ ap (λ o. pair_or o (pair_of (first_conflicting (fed ++ x ∷ []) (length fed)) (length fed))) e
+
+-- what is kept of one more job, by the pair
+pub kept_by : (fed : Jobs) (x : Kind × Job) (o : Option (ℕ × ℕ)) → conflict fed ≡ o → (p : Option (ℕ × ℕ)) → conflict (fed ++ x ∷ []) ≡ p → strokes.kept (fed ++ x ∷ []) ≡ cond (is_some p) (strokes.kept fed) (strokes.kept fed ++ x ∷ [])
+kept_by fed x None e None f = ap (up_to (fed ++ x ∷ [])) f ∙ sym (ap (λ o. up_to fed o ++ x ∷ []) e)
+kept_by fed x None e (Some pair) f = ap (up_to (fed ++ x ∷ [])) f ∙ up_to_last fed x _ pair (sym (more_none fed x e) ∙ f) ∙ sym (ap (up_to fed) e)
+kept_by fed x (Some old) e None f = let t : None ≡ Some old = sym f ∙ more_some fed x old e in cc
+kept_by fed x (Some old) e (Some pair) f = ap (up_to (fed ++ x ∷ [])) (more_some fed x old e) ∙ take_less (old.1 - 1) fed (x ∷ []) (second_small fed old e) ∙ sym (ap (up_to fed) e)
+
+-- the conflict with one more job is seen on the kept jobs
+found_by : (fed : Jobs) (x : Kind × Job) (o : Option (ℕ × ℕ)) → conflict fed ≡ o → pair_or o (conflict (up_to fed o ++ x ∷ [])) ≡ conflict (fed ++ x ∷ [])
+found_by fed x None e = refl
+found_by fed x (Some old) e = sym (more_some fed x old e)
+
+pub found_stands : (fed : Jobs) (x : Kind × Job) (s : Fed) → StandsFor fed s → found s x ≡ conflict (fed ++ x ∷ [])
+found_stands fed x s h = (λ i. pair_or (h.conflict_is i) (conflict (h.kept_is i ++ x ∷ []))) ∙ found_by fed x (conflict fed) refl
+
+pub stands_added : (fed : Jobs) (x : Kind × Job) (s : Fed) → StandsFor fed s → found s x ≡ None → StandsFor (fed ++ x ∷ []) (record s { jobs = s.jobs ++ x ∷ [] })
+stands_added fed x s h e =
+    let f : conflict (fed ++ x ∷ []) ≡ None = sym (found_stands fed x s h) ∙ e in
+    record {
+      kept_is = ap (λ js. js ++ x ∷ []) h.kept_is ∙ sym (kept_by fed x _ refl None f);
+      conflict_is = none_before s.overlap _ e ∙ sym f;
+    }
+  where
+    none_before : (o p : Option (ℕ × ℕ)) → pair_or o p ≡ None → o ≡ None
+    none_before None p e = refl
+    none_before (Some pair) p e = cc
+
+pub stands_refused : (fed : Jobs) (x : Kind × Job) (s : Fed) (pair : ℕ × ℕ) → StandsFor fed s → found s x ≡ Some pair → StandsFor (fed ++ x ∷ []) (record s { overlap = Some pair })
+stands_refused fed x s pair h e =
+    let f : conflict (fed ++ x ∷ []) ≡ Some pair = sym (found_stands fed x s h) ∙ e in
+    record {
+      kept_is = h.kept_is ∙ sym (kept_by fed x _ refl (Some pair) f);
+      conflict_is = sym f;
+    }
+
+-- where no two of its jobs conflict, a stroke's pair is that of the first that conflicts with the new one
+found_first : (s : Fed) (x : Kind × Job) → s.overlap ≡ None → conflict s.jobs ≡ None → found s x ≡ pair_of (first_conflicting (s.jobs ++ x ∷ []) (length s.jobs)) (length s.jobs)
+found_first s x e h = ap (λ o. pair_or o (conflict (s.jobs ++ x ∷ []))) e ∙ more_none s.jobs x h
+
+pub found_none : (s : Fed) (x : Kind × Job) → s.overlap ≡ None → conflict s.jobs ≡ None → first_conflicting (s.jobs ++ x ∷ []) (length s.jobs) ≡ None → found s x ≡ None
+found_none s x e h none = found_first s x e h ∙ ap (λ o. pair_of o (length s.jobs)) none
+
+pub found_some : (s : Fed) (x : Kind × Job) (first : ℕ) → s.overlap ≡ None → conflict s.jobs ≡ None → Some first ≡ plus 1 (first_conflicting (s.jobs ++ x ∷ []) (length s.jobs)) → found s x ≡ Some (first, length s.jobs + 1)
+found_some s x first e h told = found_first s x e h ∙ go (first_conflicting (s.jobs ++ x ∷ []) (length s.jobs)) told
+  where
+    go : (o : Option ℕ) → Some first ≡ plus 1 o → pair_of o (length s.jobs) ≡ Some (first, length s.jobs + 1)
+    go None told = cc
+    go (Some i) told = let same : first ≡ 1 + i = cc in let a : suc i ≡ first = omega arith in let b : (n : ℕ) → suc n ≡ n + 1 = λ n. omega arith in (λ i. Some (a i, b (length s.jobs) i))
+
+pub found_kept : (s : Fed) (x : Kind × Job) (pair : ℕ × ℕ) → s.overlap ≡ Some pair → found s x ≡ Some pair
+found_kept s x pair e = ap (λ o. pair_or o (conflict (s.jobs ++ x ∷ []))) e
+
+pub plus_none : (n : ℕ) (o : Option ℕ) → None ≡ plus n o → o ≡ None
+plus_none n None e = refl
+plus_none n (Some i) e = cc
+
+pub conflict_nil : conflict [] ≡ None
+unfolding conflict
+conflict_nil = refl
+
+pub stands_still : (fed : Jobs) (x : Kind × Job) (s : Fed) (pair : ℕ × ℕ) → StandsFor fed s → s.overlap ≡ Some pair → StandsFor (fed ++ x ∷ []) s
+stands_still fed x s pair h e =
+    let f : conflict (fed ++ x ∷ []) ≡ Some pair = sym (found_stands fed x s h) ∙ found_kept s x pair e in
+    record {
+      kept_is = h.kept_is ∙ sym (kept_by fed x _ refl (Some pair) f);
+      conflict_is = e ∙ sym f;
+    }

@@ -1,0 +1,10 @@
+//! Strokes: lists of painting jobs that are fed one after another, and are refused at the first job
+//! that conflicts with an earlier one of its run.
+#![tactic(auto)]
+
+mod footprint;
+mod stroke;
+#[cfg(test)]
+mod tests;
+
+pub use stroke::{AddFault, ClosedStroke, OpenStroke};
