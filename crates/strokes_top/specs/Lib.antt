@@ -3,4 +3,6 @@ pub mod Output
 pub mod Painting
 pub mod Words
 pub mod Status
+pub mod Form
+pub mod Refusal
 pub mod Run

@@ -6,7 +6,7 @@ use Rattle.doc_model.specs.declared.canvas.Canvas.{Canvas}
 use Rattle.doc_model.specs.Picture.{Frame}
 use Rattle.doc_model.specs.Strokes.{entries}
 use Rattle.doc_model.specs.Meaning.{meaning}
-use Rattle.script_text.specs.Drawing.{Drawing}
+use Rattle.script_text.specs.Script.{Contents}
 
 -- the kind, the columns and rows, and the largest value of a colour
 abbrev pub header : ℕ → ℕ → List ℕ
@@ -17,5 +17,5 @@ abbrev pub frame_bytes : Canvas → Frame → List ℕ
 frame_bytes canvas points = header canvas.w canvas.h ++ concat points
 
 -- the frames that the script's commands export, one after another
-abbrev pub output : Drawing → List ℕ
+abbrev pub output : Contents → List ℕ
 output d = flat_map (frame_bytes d.canvas) (meaning d.canvas (entries d.commands)).frames

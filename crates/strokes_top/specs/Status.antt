@@ -1,7 +1,7 @@
 -- The code of a status, and the line that tells it.
 use Rattle.std.specs.Prelude.{ℕ, List, [], ◌++◌, codes}
 use Rattle.std.specs.Fmt.{decimal}
-use Rattle.script_text.specs.declared.refusal.Cause.{Cause}
+use Rattle.script_lines.specs.Causes.{text}
 use Rattle.strokes_top.specs.declared.status.Status.{Status}
 use Rattle.strokes_top.specs.declared.status.Status.TheVariants.{Done, Usage, Script, ReadFault, WriteFault, NoMemory, TooLong}
 
@@ -15,15 +15,11 @@ code_of WriteFault = 5
 code_of NoMemory = 6
 code_of TooLong = 7
 
--- what is wrong with a line
-abbrev pub cause_text : Cause → List ℕ
-cause_text cause = codes "not built yet"
-
 -- the line on the error sink
 abbrev pub told_by : Status → List ℕ
 told_by Done = []
 told_by Usage = codes "strokes: usage: strokes [--workers N] [--emit picture|log|sum] [--demo NUMBER]\n"
-told_by (Script line cause) = codes "strokes: line " ++ decimal line ++ (codes ": " ++ cause_text cause ++ codes "\n")
+told_by (Script line cause) = codes "strokes: line " ++ decimal line ++ (codes ": " ++ text cause ++ codes "\n")
 told_by ReadFault = codes "strokes: reading failed\n"
 told_by WriteFault = codes "strokes: writing failed\n"
 told_by NoMemory = codes "strokes: out of memory\n"

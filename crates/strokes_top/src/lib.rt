@@ -2,7 +2,9 @@
 #![tactic(auto)]
 
 mod command;
+mod form;
 mod painting;
+mod place;
 mod report;
 mod status;
 mod transfer;

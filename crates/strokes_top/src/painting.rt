@@ -1,14 +1,15 @@
 //! The picture of a script, row by row.
 
-ghost use Rattle.std.specs.Prelude.{◌≡◌, ◌*◌, IfOk, OnOk, OnErr, length, string_bytes};
+ghost use Rattle.std.specs.Prelude.{◌≡◌, ◌*◌, Ok, IfOk, OnOk, OnErr, length, string_bytes};
 ghost use Rattle.std.specs.Io.KnownBytes.{Appends};
 ghost use Rattle.io_edge.specs.Faults.{HasCause};
 ghost use Rattle.geom_core.specs.Points.{point};
-ghost use Rattle.script_text.specs.Form.{IsCoats};
 ghost use Rattle.io_edge.specs.Bytes.{AppendsPrefix};
+ghost use Rattle.strokes_top.specs.Form.{course};
 ghost use Rattle.strokes_top.specs.Output.{header as header_bytes, output};
 ghost use Rattle.strokes_top.specs.Painting.{filled as filled_at, pixel_of, row_bytes};
 
+use crate::form::Stage;
 use doc_model::{Command, Job};
 use io_edge::{Failed, Sink, write_all};
 use pixel_core::{Op, Pixel, compose, on_paper};
@@ -75,7 +76,7 @@ pub fn header_of(alloc: Global, w: u16, h: u16) -> Result<String, AllocError>
     Ok(text)
 }
 
-/// Writes the picture of a script, with a line for one row. It takes no memory. Where it fails, the
+/// Writes the picture of a script that exports one, with a line for one row. It takes no memory. Where it fails, the
 /// sink took the first bytes of the picture.
 pub fn write_picture<K: Sink>(
     script: &Script,
@@ -83,7 +84,8 @@ pub fn write_picture<K: Sink>(
     line: &mut [u8],
     out: &mut K,
 ) -> Result<(), Failed>
-    requires form { IsCoats script.now }
+    requires form { course 0 Stage.Empty script.now.commands ≡ Ok Stage.Exported }
+    requires opaque { script.now.canvas.paper.a ≡ 255 }
     requires header { header.now ≡ header_bytes script.now.canvas.w script.now.canvas.h }
     requires room { length line.old ≡ 3 * script.now.canvas.w }
     ensures ok { OnOk result (Appends (K.taken out.old) (K.taken out.new) (output script.now)) }

@@ -15,9 +15,9 @@ use std::alloc::{AllocError, Global};
 fn script_line(alloc: Global, line: u32, cause: Cause) -> Result<String, AllocError>
     ensures { IfOk result (λ s. string_bytes s ≡ told_by (Status.Script line cause)) }
 {
-    match cause {
-        Cause::NotBuilt => format!(in alloc; "strokes: line {line}: not built yet\n"),
-    }
+    let cause = cause.text();
+    let text = format!(in alloc; "strokes: line {line}: {cause}\n")?;
+    Ok(text)
 }
 
 /// Writes a line as far as the sink takes it.

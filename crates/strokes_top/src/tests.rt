@@ -8,6 +8,8 @@ use std::thread::Threads;
 const SCRIPT: &[u8] =
     b"canvas 1 1\nlayer 1 0 0\nstroke 1 1\nfill 1 seq 0 0 1 1 ff000080 over 255\nend 1\nexport\n";
 
+const ALONE: &[u8] = b"canvas 1 1\n";
+
 const UNPAINTED: &[u8] = b"canvas 1 1\nlayer 1 0 0\nstroke 1 1\nend 1\nexport\n";
 
 #[derive(Drop)]
@@ -66,6 +68,9 @@ fn pictures(rt: HostRuntime) -> Result<(), Fail> {
         got.out.as_slice(),
         b"P6\n1 1\n255\n\xff\xff\xff".as_slice()
     );
+    let got = ran(&rt, rt.alloc(), None, source_of(rt.alloc(), ALONE, 0)?, 0)?;
+    assert_eq!(rt; got.code, 0);
+    assert_eq!(rt; got.out.as_slice(), b"".as_slice());
     Ok(())
 }
 
@@ -80,12 +85,6 @@ fn refusals(rt: HostRuntime) -> Result<(), Fail> {
     )?;
     assert_eq!(rt; got.code, 2);
     assert_eq!(rt; got.out.as_slice(), b"".as_slice());
-    let got = ran(&rt, rt.alloc(), None, source_of(rt.alloc(), b"", 0)?, 0)?;
-    assert_eq!(rt; got.code, 3);
-    assert_eq!(rt;
-        got.err.as_slice(),
-        b"strokes: line 1: not built yet\n".as_slice()
-    );
     let long = MemSource::new(
         vec![in rt.alloc(); b'#'; 1_048_577]?,
         4096,
@@ -94,6 +93,51 @@ fn refusals(rt: HostRuntime) -> Result<(), Fail> {
     let got = ran(&rt, rt.alloc(), None, long, 0)?;
     assert_eq!(rt; got.code, 7);
     assert_eq!(rt; got.out.as_slice(), b"".as_slice());
+    Ok(())
+}
+
+/// What is told of a script that isn't painted.
+fn told_of<R: Threads + Wait + Sync>(
+    rt: &R,
+    alloc: Global,
+    script: &[u8],
+) -> Result<Vec<u8>, Fail> {
+    let got = ran(rt, alloc, None, source_of(alloc, script, 0)?, 0)?;
+    if got.code != 3 || !got.out.is_empty() {
+        return Err(Fail::from("not refused"));
+    }
+    Ok(got.err)
+}
+
+#[test]
+fn bad_scripts(rt: HostRuntime) -> Result<(), Fail> {
+    let rows: [(&[u8], &[u8]); 6] = [
+        (b"", b"strokes: line 1: canvas missing\n"),
+        (
+            b"canvas 1 1\n\nlayer 1 0\n",
+            b"strokes: line 3: wrong number of fields\n",
+        ),
+        (
+            b"canvas 1 1\nlayer 1 0 0\nfill 1 seq 0 0 1 1 ff000080 over 256\n",
+            b"strokes: line 3: out of range\n",
+        ),
+        (
+            b"canvas 1 1\nlayer 1 0 0\nstroke 1 1\nexport\n",
+            b"strokes: line 3: stroke left open\n",
+        ),
+        (
+            b"canvas 1 1\nlayer 1 0 0\nundo\nexport\n",
+            b"strokes: line 3: not built yet\n",
+        ),
+        (
+            b"# two\ncanvas 1 1\nlayer 1 0 0 00000000\n\nlayer 2 0 0\n",
+            b"strokes: line 5: not built yet\n",
+        ),
+    ];
+    for (script, line) in rows {
+        let got = told_of(&rt, rt.alloc(), script)?;
+        assert_eq!(rt; got.as_slice(), line);
+    }
     Ok(())
 }
 

@@ -25,6 +25,7 @@ pub enum ReadError {
 /// Reads all that is left, where that is at most `LIMIT` bytes.
 pub fn read_all<S: Source>(alloc: Global, source: &mut S) -> Result<Vec<u8>, ReadError>
     ensures all { IfOk result (λ v. Consumes (S.left source.old) (S.left source.new) v.items) }
+    ensures short { IfOk result (λ v. length v.items ≤ LIMIT) }
     ensures to_the_end { OnOk result (IsAtEnd (S.left source.new)) }
     ensures too_long { IsErrOf result ReadError.TooLong → ConsumesMore LIMIT (S.left source.old) (S.left source.new) }
     ensures within_limit { result ≢ Err ReadError.TooLong → ConsumesAtMost LIMIT (S.left source.old) (S.left source.new) }

@@ -1,7 +1,7 @@
 use Rattle.std.proofs.Common.{◌≡◌, ◌<◌, ◌++◌, ap, sym, ◌∙◌, append_assoc, refl, arith, rules}
 use Rattle.strokes_top.specs.Output.{header, output}
 use Rattle.strokes_top.specs.Painting.{row_bytes, rows_bytes}
-use Rattle.strokes_top.proofs.CoatsMean.{output_is}
+use Rattle.strokes_top.proofs.FormsMean.{output_is}
 use Rattle.strokes_top.proofs.Rows.{adds_part, flat_rest, flat_split}
 use Rattle.strokes_top.proofs.Transfers.{appends_is, appends_to, prefix_first, prefix_behind, on_err_any}
 use Rattle.strokes_top.proofs.painting.write_picture.Goals as goal

@@ -1,5 +1,5 @@
--- What the commands of a script of fills mean: one picture, point by point.
-use Rattle.std.proofs.Common.{◌≡◌, ℕ, suc, zero, ◌+◌, ◌-◌, ◌<◌, ◌≤◌, Bool, true, false, ◌||◌, cond, pos, List, [], ◌∷◌, ◌++◌, map, None, is_some, length, refl, sym, ap, ◌∙◌, subst, append_assoc, arith}
+-- What commands of the form mean: one picture, point by point, or none.
+use Rattle.std.proofs.Common.{◌≡◌, ◌≢◌, Ok, ℕ, suc, zero, ◌+◌, ◌-◌, ◌<◌, ◌≤◌, Bool, true, false, ◌||◌, cond, pos, List, [], ◌∷◌, ◌++◌, map, None, is_some, length, refl, sym, ap, ◌∙◌, subst, append_assoc, arith}
 use Rattle.std.specs.Prelude.{ℤ, ◌+ℤ◌, fold}
 use Rattle.std.specs.List.{flat_map, concat, range_with_len}
 use Rattle.std.proofs.lemmas.List.{append-nil}
@@ -26,9 +26,12 @@ use Rattle.doc_model.specs.Least.{least_from, all_from}
 use Rattle.doc_model.specs.Strokes.{Jobs, Entry, Strokes, Changes, Exports, Open, Ended, all_fed, entries, conflict, conflicting, first_conflicting, runs_at}
 use Rattle.doc_model.specs.Meaning.{meaning}
 use Rattle.doc_model.proofs.JobLaws.{at-apply}
-use Rattle.script_text.specs.Drawing.{Drawing, Coat}
-use Rattle.script_text.specs.Form.{commands_of, added, fill_of, IsCoats}
+use Rattle.script_text.specs.Script.{Contents}
 use Rattle.strokes_top.specs.Output.{header, output}
+use Rattle.strokes_top.specs.declared.form.Stage.{Stage}
+use Rattle.strokes_top.specs.declared.form.Stage.TheVariants.{Empty, Layered, Open as Opened, Closed, Exported}
+use Rattle.strokes_top.specs.Form.{course}
+use Rattle.strokes_top.proofs.Forms.{Coat, fill_of, added, form, form_of}
 use Rattle.strokes_top.specs.Painting.{filled, pixel_of, point_bytes, rows_bytes}
 
 -- a coat as a job with its kind
@@ -49,7 +52,7 @@ fed_coats : (coats : List Coat) (jobs : Jobs) → all_fed (one_layer ∷ open_st
 fed_coats [] jobs = ap (λ js. one_layer ∷ ended_stroke js ∷ Exports ∷ []) (sym (append-nil jobs))
 fed_coats (coat ∷ coats) jobs = fed_coats coats (jobs ++ paired coat ∷ []) ∙ ap (λ js. one_layer ∷ ended_stroke js ∷ Exports ∷ []) (append_assoc jobs (paired coat ∷ []) (map paired coats))
 
-entries_are : (coats : List Coat) → entries (commands_of coats) ≡ one_layer ∷ ended_stroke (map paired coats) ∷ Exports ∷ []
+entries_are : (coats : List Coat) → entries (form coats Exported) ≡ one_layer ∷ ended_stroke (map paired coats) ∷ Exports ∷ []
 entries_are coats = fed_coats coats []
 
 none_from : (k n : ℕ) (test : ℕ → Bool) → ((i : ℕ) → k ≤ i → i < k + n → test i ≡ false) → least_from k n test ≡ None
@@ -84,7 +87,7 @@ coated coats = apply_all (map (λ (k : Kind × Job). k.1) (map paired coats)) (p
 abbrev one_node : List Coat → Doc
 one_node coats = paint 1 new_look (coated coats) none
 
-frames_are : (canvas : Canvas) (coats : List Coat) → (meaning canvas (entries (commands_of coats))).frames ≡ frame (one_node coats) canvas ∷ []
+frames_are : (canvas : Canvas) (coats : List Coat) → (meaning canvas (entries (form coats Exported))).frames ≡ frame (one_node coats) canvas ∷ []
 frames_are canvas coats = rw (entries_are coats, no_conflict coats) refl
 
 one_area : (b : Bool) (x y : Rgba) → cond (b || false) x y ≡ cond b x y
@@ -102,7 +105,7 @@ end_keeps : (coats : List Coat) (q : Rgba) (p : Point) → fold (filled p) q (ma
 end_keeps [] q p = refl
 end_keeps (coat ∷ coats) q p = end_keeps coats (filled p q (added coat)) p
 
-pixel_is : (coats : List Coat) (p : Point) → at (coated coats) p ≡ pixel_of (commands_of coats) p
+pixel_is : (coats : List Coat) (p : Point) → at (coated coats) p ≡ pixel_of (form coats Exported) p
 pixel_is coats p = at_coated coats (plain clear) p ∙ ap (λ q. fold (filled p) q (map added coats)) (at-plain clear p) ∙ sym (end_keeps coats clear p)
 
 row_flat : (f : Point → List ℕ) (a n : ℕ) (y : ℤ) → flat_map f (row (pos a) y n) ≡ flat_map (λ x. f (point (pos x) y)) (range_with_len a n)
@@ -126,14 +129,37 @@ concat_points f g w h same =
     concat_is (map f (rows (pos 0) (pos 0) w h)) ∙ flat_map-map (λ x. x) f (rows (pos 0) (pos 0) w h)
     ∙ ap (λ e. flat_map e (rows (pos 0) (pos 0) w h)) one ∙ rows_flat g w 0 h
 
-output_of_coats : (canvas : Canvas) (coats : List Coat) → output (record { canvas = canvas; commands = commands_of coats }) ≡ header canvas.w canvas.h ++ rows_bytes (record { canvas = canvas; commands = commands_of coats }) canvas.h
+output_of_coats : (canvas : Canvas) (coats : List Coat) → output (record { canvas = canvas; commands = form coats Exported }) ≡ header canvas.w canvas.h ++ rows_bytes (record { canvas = canvas; commands = form coats Exported }) canvas.h
 output_of_coats canvas coats =
-    let d : Drawing = record { canvas = canvas; commands = commands_of coats } in
+    let d : Contents = record { canvas = canvas; commands = form coats Exported } in
     let points : (p : Point) → on_paper (picture (one_node coats) p) canvas.paper ≡ point_bytes d p = λ p. ap (λ q. on_paper (compose Over q clear 255) canvas.paper) (pixel_is coats p) in
     rw (frames_are canvas coats) (append-nil (header canvas.w canvas.h ++ concat (frame (one_node coats) canvas)) ∙ ap (λ l. header canvas.w canvas.h ++ l) (concat_points (λ p. on_paper (picture (one_node coats) p) canvas.paper) (point_bytes d) canvas.w canvas.h points))
 
--- a script of coats writes its header and its rows
-pub output_is : (d : Drawing) → IsCoats d → output d ≡ header d.canvas.w d.canvas.h ++ rows_bytes d d.canvas.h
-output_is d form =
-    let same : record { canvas = d.canvas; commands = commands_of form.coats } ≡ d = λ i. record { canvas = d.canvas; commands = sym form.commands i } in
-    subst (λ (e : Drawing). output e ≡ header e.canvas.w e.canvas.h ++ rows_bytes e e.canvas.h) same (output_of_coats d.canvas form.coats)
+-- a script that exports writes its header and its rows
+pub output_is : (d : Contents) → course 0 Empty d.commands ≡ Ok Exported → output d ≡ header d.canvas.w d.canvas.h ++ rows_bytes d d.canvas.h
+output_is d h =
+    let f = form_of d.commands Exported h in
+    let same : record { canvas = d.canvas; commands = form f.0 Exported } ≡ d = λ i. record { canvas = d.canvas; commands = sym f.1 i } in
+    subst (λ (e : Contents). output e ≡ header e.canvas.w e.canvas.h ++ rows_bytes e e.canvas.h) same (output_of_coats d.canvas f.0)
+
+-- the entries before the end of the stroke, and behind it
+entries_open : (coats : List Coat) (jobs : Jobs) → all_fed (one_layer ∷ open_stroke jobs ∷ []) (map added coats ++ []) ≡ one_layer ∷ open_stroke (jobs ++ map paired coats) ∷ []
+entries_open [] jobs = ap (λ js. one_layer ∷ open_stroke js ∷ []) (sym (append-nil jobs))
+entries_open (coat ∷ coats) jobs = entries_open coats (jobs ++ paired coat ∷ []) ∙ ap (λ js. one_layer ∷ open_stroke js ∷ []) (append_assoc jobs (paired coat ∷ []) (map paired coats))
+
+entries_closed : (coats : List Coat) (jobs : Jobs) → all_fed (one_layer ∷ open_stroke jobs ∷ []) (map added coats ++ (command.End 1 ∷ [])) ≡ one_layer ∷ ended_stroke (jobs ++ map paired coats) ∷ []
+entries_closed [] jobs = ap (λ js. one_layer ∷ ended_stroke js ∷ []) (sym (append-nil jobs))
+entries_closed (coat ∷ coats) jobs = entries_closed coats (jobs ++ paired coat ∷ []) ∙ ap (λ js. one_layer ∷ ended_stroke js ∷ []) (append_assoc jobs (paired coat ∷ []) (map paired coats))
+
+-- nothing is written without an export
+nothing_of : (canvas : Canvas) (coats : List Coat) (t : Stage) → t ≢ Exported → output (record { canvas = canvas; commands = form coats t }) ≡ []
+nothing_of canvas coats Empty h = refl
+nothing_of canvas coats Layered h = refl
+nothing_of canvas coats Opened h = rw (entries_open coats [], no_conflict coats) refl
+nothing_of canvas coats Closed h = rw (entries_closed coats [], no_conflict coats) refl
+nothing_of canvas coats Exported h = absurd (h refl)
+
+pub output_nothing : (d : Contents) (t : Stage) → course 0 Empty d.commands ≡ Ok t → t ≢ Exported → output d ≡ []
+output_nothing d t h other =
+    let f = form_of d.commands t h in
+    ap (λ cs. output (record { canvas = d.canvas; commands = cs })) f.1 ∙ nothing_of d.canvas f.0 t other
