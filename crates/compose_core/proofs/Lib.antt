@@ -1,0 +1,3 @@
+pub mod ComposedRows
+pub mod LaidChildren
+pub mod Pictures

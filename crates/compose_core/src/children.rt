@@ -1,0 +1,82 @@
+//! The children of a group, laid one on another.
+
+ghost use Rattle.std.specs.Prelude.{◌≡◌, ◌+◌, ◌<◌, ◌≤◌, length, IfOk, true};
+ghost use Rattle.geom_core.specs.Areas.{IsWithin};
+ghost use Rattle.tile_core.specs.Pixels.{whole_tile};
+ghost use Rattle.compose_core.specs.Children.{IsComposed};
+ghost use Rattle.compose_core.specs.Rows.{LaysChild};
+
+use crate::part::{Part, part_of};
+use crate::rows::{compose_plain, compose_row};
+use doc_model::Look;
+use geom_core::{NoMemory, Rect};
+use pixel_core::Pixel;
+use std::alloc::Global;
+use tile_core::Tile;
+
+/// What a child of a group has on a tile.
+#[derive(Drop)]
+pub enum Given {
+    /// The pixels of that tile.
+    Held(Tile),
+    /// That pixel at every point.
+    Plain(Pixel),
+}
+
+/// The picture of a group on a rectangle of one tile: the visible children laid from the bottom,
+/// each with its look, on a clear backdrop of the group's own. This is an isolated group of W3C's
+/// Compositing and Blending Level 1, section 3. Outside the rectangle the tile is clear.
+///
+/// The looks and the tiles are those of the children in their order from the bottom, and columns
+/// and rows of the rectangle count from the tile's corner.
+pub fn compose_tile(
+    alloc: Global,
+    looks: &[Look],
+    tiles: &[Given],
+    rect: &Rect,
+) -> Result<Tile, NoMemory>
+    requires each { length looks.now ≡ length tiles.now }
+    requires inside { IsWithin rect.now whole_tile }
+    ensures { IfOk result (IsComposed rect.now looks.now tiles.now) }
+{
+    let part = part_of(rect);
+    let mut pixels = vec![in alloc; Pixel::CLEAR; 4096]?;
+    for i in 0..looks.len() {
+        lay_child(&mut pixels, part, looks[i], &tiles[i]);
+    }
+    Tile::from_pixels(alloc, pixels)
+}
+
+/// Lays a child on the part, unless it is invisible.
+fn lay_child(pixels: &mut [Pixel], part: Part, look: Look, given: &Given)
+    requires whole { length pixels.old ≡ 4096 }
+    requires across { part.left + part.w ≤ 64 }
+    requires down { part.top + part.h ≤ 64 }
+    ensures { LaysChild part.left part.top part.w part.h look given.now pixels.old pixels.new }
+{
+    if !look.visible {
+        return;
+    }
+    for row in 0..part.h {
+        lay_row(pixels, part, part.top + row, look, given);
+    }
+}
+
+/// Lays one row of a visible child on the part's columns of that row.
+fn lay_row(pixels: &mut [Pixel], part: Part, row: usize, look: Look, given: &Given)
+    requires whole { length pixels.old ≡ 4096 }
+    requires across { part.left + part.w ≤ 64 }
+    requires row { row < 64 }
+    requires visible { look.visible ≡ true }
+    ensures { LaysChild part.left row part.w 1 look given.now pixels.old pixels.new }
+{
+    let at = 64 * row + part.left;
+    let backdrop = &mut pixels[at..at + part.w];
+    match given {
+        Given::Held(tile) => {
+            let sources = &tile.pixels()[at..at + part.w];
+            compose_row(look.op, sources, backdrop, look.opacity);
+        }
+        Given::Plain(source) => compose_plain(look.op, *source, backdrop, look.opacity),
+    }
+}

@@ -1,0 +1,13 @@
+//! The picture of a group on one tile, from the pictures of its children.
+#![tactic(auto)]
+
+mod children;
+mod laws;
+mod part;
+mod rows;
+
+pub use children::{Given, compose_tile};
+pub use laws::group_of_pictures;
+
+#[cfg(test)]
+mod tests;
