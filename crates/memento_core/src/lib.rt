@@ -6,6 +6,3 @@ mod steps;
 
 pub use plane::Plane;
 pub use steps::Steps;
-
-#[cfg(test)]
-mod tests;

@@ -1,15 +1,14 @@
 -- The bounding rectangle of tiles, one after another.
-use Rattle.std.proofs.Common.{◌≡◌, ℕ, Bool, true, false, ◌&&◌, cond, List, [], ◌∷◌, Option, Some, None, is_some, refl, sym, ap, ◌∙◌, arith, subst}
+use Rattle.std.proofs.Common.{◌≡◌, ℕ, Bool, true, false, ◌&&◌, cond, List, [], ◌∷◌, Option, Some, None, is_some, refl, sym, ap, ◌∙◌, arith}
 use Rattle.std.specs.Prelude.{ℤ, pos, ◌+ℤ◌, ◌-ℤ◌, ◌*ℤ◌, int_le, nat_abs, IfNone, IfSome}
 use Rattle.std.specs.Int.{int_min, int_max}
 use borrow.Author.Differences.{ints}
-use Rattle.std.specs.List.{list_all}
 use Rattle.std.specs.Option.{unwrap_or}
 use Rattle.std.specs.FinMap as map
 use Rattle.std.specs.BTreeMap as tree
 use Rattle.std.specs.BTreeMap.{BTreeMap, is_at}
 use Rattle.std.specs.Map.{lookup}
-use Rattle.geom_core.specs.Areas.{Area, area, lies_in, bound, right, bottom}
+use Rattle.geom_core.specs.Areas.{Area, area, lies_in, bound}
 use Rattle.geom_core.specs.Grid.{Key, key_cmp, same_key, tile}
 use Rattle.geom_core.proofs.Tests.{and_left, and_right, both_true}
 use Rattle.geom_core.proofs.Tiles.{key_same}
@@ -17,7 +16,7 @@ use Rattle.geom_core.proofs.Lying.{lies_trans, bound_lies}
 use Rattle.memento_core.specs.Planes.{tile_under}
 use Rattle.tile_core.specs.Pixels.{Pixels}
 use Rattle.tile_core.proofs.MapViews.{get-view}
-use Rattle.paint_device.specs.Extents.{AllLieIn, IsExtent, lies_if, tile_lies}
+use Rattle.paint_device.specs.Extents.{IsExtent, lies_if, tile_lies}
 
 first_in : (a b : ℤ) (n m : ℕ) → (int_le (int_min a b) a && int_le (a +ℤ pos n) (int_min a b +ℤ pos (nat_abs (int_max (a +ℤ pos n) (b +ℤ pos m) -ℤ int_min a b)))) ≡ true
 first_in a b n m = grind (arith, ints)

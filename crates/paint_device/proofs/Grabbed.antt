@@ -10,7 +10,7 @@ use Rattle.std.proofs.Math.Seq.{take-length}
 use Rattle.pixel_core.specs.Rgba.{Rgba}
 use Rattle.geom_core.specs.Points.{Point}
 use Rattle.geom_core.specs.Areas.{Area, any_holds}
-use Rattle.geom_core.specs.Grid.{Key, key, key_of, key_cmp, same_key, keys_of, all_keys_of, key_cmp_total}
+use Rattle.geom_core.specs.Grid.{Key, key_of, key_cmp, same_key, keys_of, all_keys_of, key_cmp_total}
 use Rattle.geom_core.proofs.Keys.{key_of_any_held}
 use Rattle.tile_core.specs.Pixels.{Pixels, pixel_or}
 use Rattle.tile_core.specs.Shots.{Sight, sight, sight_at, with_seen}
@@ -18,10 +18,6 @@ use Rattle.memento_core.specs.Planes.{tile_under}
 use Rattle.paint_device.specs.Sheets.{Sheet, sheet_at}
 use Rattle.paint_device.specs.Grabs.{or_else, Grabs}
 use Rattle.geom_core.proofs.Tiles.{key_same}
-
--- nothing is taken yet
-pub grabs_none : (s : Sheet) (old : Sight) → Grabs s old old []
-grabs_none s old = record { default_pixel = refl; rects = refl; tiles = λ k. refl }
 
 twice : (a b : Bool) (t o : Option Pixels) → or_else (cond b t None) (or_else (cond a t None) o) ≡ or_else (cond (a || b) t None) o
 twice true true None o = refl

@@ -1,14 +1,14 @@
 -- The layer of a sheet has its pixels.
-use Rattle.std.proofs.Common.{◌≡◌, Bool, true, false, ◌&&◌, ◌||◌, cond, List, [], ◌∷◌, Option, Some, None, is_some, refl, sym, ap, ◌∙◌, ◌⊎◌, inl, inr}
+use Rattle.std.proofs.Common.{◌≡◌, Bool, true, false, ◌&&◌, List, [], ◌∷◌, None, refl, sym, ap, ◌∙◌, inl, inr}
 use Rattle.std.specs.Prelude.{map}
 use Rattle.std.specs.List.{list_any}
 use Rattle.std.specs.FinMap as fin
 use Rattle.geom_core.specs.Points.{Point}
-use Rattle.geom_core.specs.Areas.{Area, holds, any_holds}
+use Rattle.geom_core.specs.Areas.{holds, any_holds}
 use Rattle.geom_core.specs.Grid.{Key, key_of, same_key, tile}
 use Rattle.geom_core.proofs.Tests.{true_or_false, is_some-None, or_left, or_right, or_cases, taken, kept}
 use Rattle.geom_core.proofs.Tiles.{own_tile, key_same}
-use Rattle.doc_model.specs.Layers.{Layer, at, plain, painted, at-painted, at-plain, default-painted, default-plain}
+use Rattle.doc_model.specs.Layers.{at, at-painted, at-plain, default-painted, default-plain}
 use Rattle.std.specs.Option.{unwrap_or}
 use Rattle.tile_core.specs.Pixels.{pixel_or}
 use Rattle.paint_device.specs.Sheets.{Sheet, sheet_at}

@@ -1,24 +1,21 @@
 -- What a block does to a sheet.
-use Rattle.std.proofs.Common.{◌≡◌, ℕ, ◌+◌, ◌*◌, ◌%◌, ◌<◌, Bool, true, false, ◌&&◌, cond, subst, List, Option, Some, None, is_some, refl, sym, ap, ◌∙◌, arith, get_or, replicate, ◌⊎◌, inl, inr}
-use Rattle.std.specs.Prelude.{ℤ, pos, ◌+ℤ◌, ◌≤ℤ◌, ◌<ℤ◌, int_le, int_lt}
+use Rattle.std.proofs.Common.{◌≡◌, ℕ, ◌+◌, ◌*◌, ◌%◌, ◌<◌, Bool, true, false, cond, subst, Option, Some, None, is_some, refl, sym, ap, ◌∙◌, arith, inl, inr}
 use Rattle.std.specs.FinMap as map
-use Rattle.std.specs.FinMap.{FinMap}
 use Rattle.std.proofs.lemmas.List.{get_or-replicate}
 use Rattle.pixel_core.specs.Rgba.{Rgba, clear}
 use Rattle.geom_core.specs.Points.{Point}
-use Rattle.geom_core.specs.Areas.{Area, holds}
-use Rattle.geom_core.specs.Grid.{Key, key_cmp, key_of, same_key, tile, key_cmp_total, key_cmp-IsAntisymmetric}
+use Rattle.geom_core.specs.Areas.{holds}
+use Rattle.geom_core.specs.Grid.{Key, key_of, same_key, tile, key_cmp_total}
 use Rattle.geom_core.specs.Place.{across, down}
-use Rattle.geom_core.proofs.Tests.{true_or_false, and_left, and_right, both_true, taken, kept}
+use Rattle.geom_core.proofs.Tests.{true_or_false, taken, kept}
 use Rattle.geom_core.proofs.Tiles.{own_tile, key_of_holder, key_same, key_is}
 use Rattle.tile_core.specs.Pixels.{Pixels, pixel_at, pixel_or}
 use Rattle.tile_core.specs.Blocks.{Piece, IsPiece, piece_at, LaysBlock}
-use Rattle.geom_core.specs.Areas.{IsWithin}
 use Rattle.tile_core.proofs.Taken.{within_holds}
 use Rattle.std.specs.Option.{unwrap_or}
 use Rattle.memento_core.specs.Planes.{tile_under}
 use Rattle.paint_device.specs.Laws.{SeenAfterExchange, ReadyKeepsPixels}
-use Rattle.paint_device.specs.Sheets.{Sheet, sheet, sheet_at, tile_or, with_under, readied, WritesBlock}
+use Rattle.paint_device.specs.Sheets.{Sheet, sheet_at, tile_or, with_under, WritesBlock}
 
 -- a tile that may be there, read as the one that is there or as a plain one
 small_place : (c r : ℕ) → 64 * (r % 64) + c % 64 < 4096

@@ -174,7 +174,8 @@ impl Device {
         ensures rects { IfOk result (λ s. s.rects ≡ rects.now) }
         ensures pixels { IfOk result (λ s. (p : Point) → any_holds rects.now p ≡ true → sight_at s p ≡ sheet_at self.now p) }
     {
-        let mut shot = Shot::new(alloc, rects, self.ground())?;
+        let default_pixel = self.ground();
+        let mut shot = Shot::new(alloc, rects, default_pixel)?;
         for rect in rects {
             self.grab_into(rect, &mut shot)?;
         }

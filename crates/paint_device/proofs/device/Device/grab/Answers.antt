@@ -6,4 +6,4 @@ pub loop-rect-preserved : goal.loop-rect-preserved
 loop-rect-preserved c = grabs_rect c.args.self.now c.in_ok-shot.shot c.loop-rect.shot c.grab_into.new.shot c.args.rects.now c.loop-rect.rect-index c.rect-item.result (omega arith) c.rect-item.is c.loop-rect.invariant c.in_ok-grab_into.ensures
 
 pub returns-clause-pixels : goal.returns-clause-pixels
-returns-clause-pixels c = grabbed_all c.args.self.now c.args.rects.now c.ground.result c.in_ok-shot.shot c.loop-rect.shot c.loop-rect.rect-index c.ground.ensures c.in_ok-shot.ensures c.loop-rect-test.false c.loop-rect.auto.rect-index-end c.loop-rect.invariant
+returns-clause-pixels c = grabbed_all c.args.self.now c.args.rects.now c.ground-default_pixel.result c.in_ok-shot.shot c.loop-rect.shot c.loop-rect.rect-index c.ground-default_pixel.ensures c.in_ok-shot.ensures c.loop-rect-test.false c.loop-rect.auto.rect-index-end c.loop-rect.invariant

@@ -1,8 +1,8 @@
-use Rattle.std.proofs.Common.{◌≡◌, Some, [], ◌∷◌}
+use Rattle.std.proofs.Common.{◌≡◌, [], ◌∷◌}
 use Rattle.std.proofs.lemmas.Result.{IfOk-weaker}
 use Rattle.tile_core.specs.Shots.{with_seen}
 use Rattle.paint_device.specs.Grabs.{Grabs}
-use Rattle.paint_device.proofs.Grabbed.{grabs_put, grabs_skip, grabs_put_as}
+use Rattle.paint_device.proofs.Grabbed.{grabs_skip, grabs_put_as}
 use Rattle.paint_device.proofs.device.Device.grab_tile.Goals as goal
 
 pub returns-in-Some : goal.returns-in-Some

@@ -1,4 +1,4 @@
-use Rattle.std.proofs.Common.{◌≡◌, sym, ap, ◌∙◌, None}
+use Rattle.std.proofs.Common.{ap, ◌∙◌, None}
 use Rattle.std.specs.FinMap as map
 use Rattle.std.specs.Option.{unwrap_or}
 use Rattle.paint_device.specs.Sheets.{Sheet}
