@@ -1,0 +1,6 @@
+pub mod Kept
+pub mod Writes
+pub mod Shown
+pub mod Grabbed
+pub mod Extents
+pub mod Copies

@@ -1,0 +1,5 @@
+pub mod Sheets
+pub mod Seen
+pub mod Grabs
+pub mod Extents
+pub mod Laws

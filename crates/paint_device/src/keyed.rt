@@ -1,0 +1,113 @@
+//! Maps from keys to a tile or None.
+
+ghost use Rattle.std.specs.Prelude.{◌≡◌, ◌&&◌, true, Some, None, is_some, IsSome, IfSome, IfNone, IfOk, OnOk, OnErr};
+ghost use Rattle.std.specs.Option.{option_copied, unwrap_or};
+ghost use Rattle.std.specs.FinMap as map;
+ghost use Rattle.std.specs.BTreeMap as tree;
+ghost use Rattle.geom_core.specs.Areas.{Area};
+ghost use Rattle.geom_core.specs.Grid.{Key, key_cmp, IsWorldKey};
+ghost use Rattle.memento_core.specs.Planes.{tile_under};
+ghost use Rattle.tile_core.specs.Maps.{PutsUnder};
+ghost use Rattle.paint_device.specs.Extents.{IsExtent, lies_if, tile_lies};
+
+use geom_core::{NoMemory, Rect, TileKey};
+use std::alloc::Global;
+use std::collections::BTreeMap;
+use std::mem;
+use tile_core::Tile;
+
+/// That tile or None goes under the key.
+pub fn put_under(
+    tiles: &mut BTreeMap<TileKey, Option<Tile>>,
+    key: TileKey,
+    tile: Option<Tile>,
+) -> Result<(), NoMemory>
+    ensures ok { OnOk result (PutsUnder tiles.old tiles.new key tile) }
+    ensures err { OnErr result (tiles.new.entries ≡ tiles.old.entries) }
+{
+    tiles.insert(key, tile)?;
+    Ok(())
+}
+
+/// The same under a key that is there. What stood there comes back.
+pub fn swap_under(
+    tiles: &mut BTreeMap<TileKey, Option<Tile>>,
+    key: TileKey,
+    tile: Option<Tile>,
+) -> Option<Tile>
+    requires { IsSome (tree.get key_cmp tiles.old key) }
+    ensures old { Some result ≡ tree.get key_cmp tiles.old key }
+    ensures new { PutsUnder tiles.old tiles.new key tile }
+{
+    match tiles.get_mut(&key) {
+        Some(place) => mem::replace(place, tile),
+        None => tile,
+    }
+}
+
+/// The tile under the key.
+pub fn tile_in(tiles: &BTreeMap<TileKey, Option<Tile>>, key: TileKey) -> Option<&Tile>
+    ensures { option_copied result ≡ unwrap_or (tree.get key_cmp tiles.now key) None }
+{
+    match tiles.get(&key) {
+        Some(tile) => tile.as_ref(),
+        None => None,
+    }
+}
+
+/// A map of the same keys, each with the same tile or None. The tiles are shared, not copied.
+pub fn shared(
+    alloc: Global,
+    tiles: &BTreeMap<TileKey, Option<Tile>>,
+) -> Result<BTreeMap<TileKey, Option<Tile>>, NoMemory>
+    ensures { IfOk result (λ m. (q : Key) → tree.get key_cmp m q ≡ tree.get key_cmp tiles.now q) }
+{
+    let mut copy = BTreeMap::new(alloc);
+    for (key, tile) in tiles {
+        put_under(&mut copy, *key, share_tile(tile)?)?;
+    }
+    Ok(copy)
+}
+
+fn share_tile(tile: &Option<Tile>) -> Result<Option<Tile>, NoMemory>
+    ensures { IfOk result (λ t. t ≡ tile.now) }
+{
+    match tile {
+        Some(tile) => Ok(Some(tile.share()?)),
+        None => Ok(None),
+    }
+}
+
+/// The least rectangle round all tiles. None exactly where there are none.
+pub fn extent_of(tiles: &BTreeMap<TileKey, Option<Tile>>) -> Option<Rect>
+    requires { (k : Key) → is_some (tree.get key_cmp tiles.now k) ≡ true → IsWorldKey k }
+    ensures some { IfSome result (IsExtent (map.from_entries tiles.now.entries)) }
+    ensures none { IfNone result ((k : Key) → tile_under (map.from_entries tiles.now.entries) k ≡ None) }
+{
+    let mut extent = None;
+    for (key, tile) in tiles {
+        extent = grown(extent, *key, tile);
+    }
+    extent
+}
+
+/// The rectangle with the key's tile, if one stands there.
+fn grown(extent: Option<Rect>, key: TileKey, tile: &Option<Tile>) -> Option<Rect>
+    requires { IsWorldKey key }
+    ensures { (d : Area) → lies_if result d ≡ (lies_if extent d && tile_lies tile.now key d) }
+{
+    match tile {
+        Some(_) => Some(with_tile(extent, key.rect())),
+        None => extent,
+    }
+}
+
+/// The least rectangle round both.
+fn with_tile(extent: Option<Rect>, rect: Rect) -> Rect
+    ensures { (d : Area) → lies_if (Some result) d ≡ (lies_if extent d && lies_if (Some rect) d) }
+{
+    match extent {
+        Some(extent) => extent.bound(&rect),
+        None => rect,
+    }
+}

@@ -1,0 +1,104 @@
+//! Worked values, and that each call can succeed.
+
+ghost use Rattle.std.specs.Prelude.{◌≡◌, ◌<◌};
+
+use super::*;
+use geom_core::{Rect, TileKey};
+use memento_core::{Plane, Steps};
+use pixel_core::Pixel;
+use std::marker::Brand;
+use std::sync::ledger::{Blank, Ledger};
+use std::test::Fail;
+use tile_core::{Block, Tile};
+
+/// The tile whose corner is (0, 0).
+const ORIGIN: TileKey = TileKey { row: 0, col: 0 };
+
+fn crosses<T: Send + Sync>(_x: &T) {}
+
+#[test]
+fn a_block_on_a_device(rt: HostRuntime) -> Result<(), Fail> {
+    let alloc = rt.alloc();
+    let red = Pixel::new(255, 0, 0, 255);
+    let mut device = Device::new(alloc, Pixel::CLEAR);
+    device.ready(ORIGIN)?;
+    assert_eq!(rt; device.at(0, 0), Pixel::CLEAR);
+    assert!(rt; device.extent().is_none());
+    let one = Rect::new(0, 0, 1, 1).expect(&rt, "a rectangle of the world");
+    let mut block = Block::new(alloc, ORIGIN, one)?;
+    block.set(0, 0, red);
+    device.write_region(alloc, &block)?;
+    assert_eq!(rt; device.at(0, 0), red);
+    assert_eq!(rt; device.at(1, 0), Pixel::CLEAR);
+    assert_eq!(rt; device.at(-1, 0), Pixel::CLEAR);
+    assert!(rt; device.extent() == Some(ORIGIN.rect()));
+    let two = Rect::new(0, 0, 2, 1).expect(&rt, "a rectangle of the world");
+    let shot = device.grab(alloc, &[two])?;
+    assert_eq!(rt; shot.at(0, 0), red);
+    assert_eq!(rt; shot.at(1, 0), Pixel::CLEAR);
+    Ok(())
+}
+
+/// The tile goes to the tile's key, if it is there, and the pixel at (0, 0) is told.
+fn put_back<L: Ledger>(
+    device: &mut Device,
+    tile: Option<Tile>,
+    steps: &mut Steps<L>,
+) -> (Option<Tile>, Pixel) {
+    if !device.has(ORIGIN) {
+        return (tile, device.ground());
+    }
+    let old = device.exchange(ORIGIN, tile, steps);
+    (old, device.at(0, 0))
+}
+
+/// The tile is taken out and goes back in, which are two steps.
+fn back_and_forth<L: Ledger>(device: &mut Device, blank: Blank) -> (Pixel, Pixel)
+    requires name { blank.name ≡ L.name }
+    requires parts { blank.parts ≡ L.parts }
+    requires some { 0 < blank.parts }
+{
+    let mut steps = Steps::<L>::new(blank);
+    let (tile, without) = put_back(device, None, &mut steps);
+    let (_none, with) = put_back(device, tile, &mut steps);
+    (without, with)
+}
+
+#[test]
+fn a_tile_back_and_forth(rt: HostRuntime) -> Result<(), Fail> {
+    let alloc = rt.alloc();
+    let red = Pixel::new(255, 0, 0, 255);
+    let mut device = Device::new(alloc, Pixel::CLEAR);
+    device.ready(ORIGIN)?;
+    let one = Rect::new(0, 0, 1, 1).expect(&rt, "a rectangle of the world");
+    let mut block = Block::new(alloc, ORIGIN, one)?;
+    block.set(0, 0, red);
+    device.write_region(alloc, &block)?;
+    let (without, with) = back_and_forth::<Brand>(&mut device, Blank::new(1));
+    assert_eq!(rt; without, Pixel::CLEAR);
+    assert_eq!(rt; with, red);
+    Ok(())
+}
+
+#[test]
+fn a_copy_and_untouched_points(rt: HostRuntime) -> Result<(), Fail> {
+    let alloc = rt.alloc();
+    let ground = Pixel::new(1, 2, 3, 77);
+    let red = Pixel::new(255, 0, 0, 255);
+    let mut device = Device::new(alloc, ground);
+    assert_eq!(rt; device.at(-16384, 16383), ground);
+    device.ready(ORIGIN)?;
+    let copy = device.share(alloc)?;
+    assert!(rt; device.has(ORIGIN));
+    if device.has(ORIGIN) {
+        device.set_tile(ORIGIN, Tile::plain(alloc, red)?);
+    }
+    assert_eq!(rt; device.at(63, 63), red);
+    assert_eq!(rt; device.at(64, 63), ground);
+    assert_eq!(rt; copy.at(63, 63), ground);
+    assert!(rt; copy.has(ORIGIN));
+    assert!(rt; copy.tile(ORIGIN).is_none());
+    assert_eq!(rt; device.share(alloc)?.at(0, 0), red);
+    crosses(&device);
+    Ok(())
+}
