@@ -10,7 +10,8 @@ use Rattle.doc_model.specs.Lawful.{is_stroke, is_open_stroke, has_room, is_expor
 use Rattle.script_lines.specs.declared.cause.Cause.{Cause}
 use Rattle.script_lines.specs.declared.cause.Cause.TheVariants.{UsedAgain, UnknownStroke, ClosedStroke, TooManyJobs, TooManyExports}
 use Rattle.script_text.specs.Following.{misfit, not_open, or_else}
-use Rattle.script_text.specs.Script.{in_range, is_sound, is_script, contents, in_limits, all_closed}
+use Rattle.script_text.specs.Script.{is_script, contents, all_closed}
+use Rattle.script_forms.specs.Ranges.{in_range, is_sound, in_limits}
 
 free : (a : Bool) → (if a then Some UsedAgain else None) ≡ None → not a ≡ true
 free true h = absurd (cc (h))

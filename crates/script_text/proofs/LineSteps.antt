@@ -4,9 +4,9 @@ use Rattle.std.specs.Str.{bytes_eq}
 use Rattle.std.proofs.lemmas.List.{append-nil}
 use Rattle.doc_model.specs.declared.canvas.Canvas.{Canvas}
 use Rattle.script_text.specs.declared.reading.Reading.{Reading}
-use Rattle.script_text.specs.Words.{canvas_text, word_of}
-use Rattle.script_text.specs.Jobs.{Fields}
-use Rattle.script_text.specs.Forms.{canvas}
+use Rattle.script_forms.specs.Words.{canvas_text, word_of}
+use Rattle.script_forms.specs.Jobs.{Fields}
+use Rattle.script_forms.specs.Forms.{canvas}
 use Rattle.script_text.specs.Reading.{given, first_canvas, command_by}
 use Rattle.script_text.specs.Read.{Takes, TakesCommand}
 

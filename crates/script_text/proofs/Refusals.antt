@@ -17,7 +17,8 @@ use Rattle.script_text.specs.declared.reading.Start.{Start}
 use Rattle.script_text.specs.declared.reading.Reading.{Reading}
 use Rattle.script_text.specs.declared.script.ScriptFault.{ScriptFault}
 use Rattle.script_text.specs.Following.{misfit, or_else}
-use Rattle.script_text.specs.Script.{in_range, is_sound, is_script, contents, in_limits, all_closed}
+use Rattle.script_text.specs.Script.{is_script, contents, all_closed}
+use Rattle.script_forms.specs.Ranges.{in_range, is_sound, in_limits}
 use Rattle.script_text.specs.Reading.{left_open, left_fault, start_by}
 use Rattle.script_text.specs.Read.{IsGathered, TakesCommand, started_by}
 

@@ -20,7 +20,7 @@ use Rattle.script_text.specs.declared.script.ReadRefusal.{ReadRefusal}
 use Rattle.script_text.specs.declared.script.ReadRefusal.TheVariants.{Fault, NoMemory}
 use Rattle.script_text.specs.declared.reading.Reading.{Reading}
 use Rattle.script_text.specs.declared.reading.Start.{Start}
-use Rattle.script_text.specs.Jobs.{Fields}
+use Rattle.script_forms.specs.Jobs.{Fields}
 use Rattle.script_text.specs.Script.{Contents}
 use Rattle.script_text.specs.Reading.{NumberedLine, numbered, command_lines, canvas_in, command_in, first_canvas, canvas_of, commands_of, starts_of, start_by, cause_by, cause, end_by, end_fault, fault_after, fault, contents_by, script}
 use Rattle.script_text.specs.Read.{Takes, IsRefused, Answers, Fits, StartsAre, started_by}

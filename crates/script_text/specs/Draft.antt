@@ -5,7 +5,7 @@ use Rattle.std.specs.Ordering.{nat_cmp}
 use Rattle.std.specs.BTreeMap.{get}
 use Rattle.doc_model.specs.Strokes.{entries}
 use Rattle.doc_model.specs.Lawful.{is_export, lawful}
-use Rattle.script_text.specs.Script.{in_range}
+use Rattle.script_forms.specs.Ranges.{in_range}
 use Rattle.script_text.specs.Table.{Tells}
 use Rattle.script_text.specs.declared.draft.Draft.TheInside.{Inside}
 

@@ -1,6 +1,3 @@
-pub mod Words
-pub mod Jobs
-pub mod Forms
 pub mod Following
 pub mod Script
 pub mod Reading

@@ -11,8 +11,9 @@ use Rattle.script_text.specs.declared.script.ReadRefusal.{ReadRefusal}
 use Rattle.script_text.specs.declared.script.ReadRefusal.TheVariants.{Fault, NoMemory}
 use Rattle.script_text.specs.declared.reading.Reading.{Reading}
 use Rattle.script_text.specs.declared.reading.Start.{Start}
-use Rattle.script_text.specs.Script.{Contents, in_limits}
-use Rattle.script_text.specs.Jobs.{Fields}
+use Rattle.script_text.specs.Script.{Contents}
+use Rattle.script_forms.specs.Ranges.{in_limits}
+use Rattle.script_forms.specs.Jobs.{Fields}
 use Rattle.script_text.specs.Reading.{canvas_in, command_in, first_canvas, start_by}
 
 abbrev pub refusal : ℕ → Cause → ReadRefusal

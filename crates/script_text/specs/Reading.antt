@@ -10,13 +10,13 @@ use Rattle.doc_model.specs.Lawful.{is_open_stroke}
 use Rattle.script_lines.specs.declared.cause.Cause.{Cause}
 use Rattle.script_lines.specs.declared.cause.Cause.TheVariants.{UnknownWord, CanvasMissing, CanvasAgain, StrokeLeft}
 use Rattle.script_lines.specs.Lines.{lines, is_command}
-use Rattle.script_text.specs.declared.words.Word.{Word}
+use Rattle.script_forms.specs.declared.words.Word.{Word}
 use Rattle.script_text.specs.declared.script.ScriptFault.{ScriptFault}
 use Rattle.script_text.specs.declared.reading.Start.{Start}
 use Rattle.script_text.specs.Script.{Contents, contents}
-use Rattle.script_text.specs.Words.{word_of, canvas_text}
-use Rattle.script_text.specs.Jobs.{Fields}
-use Rattle.script_text.specs.Forms.{canvas, command_of}
+use Rattle.script_forms.specs.Words.{word_of, canvas_text}
+use Rattle.script_forms.specs.Jobs.{Fields}
+use Rattle.script_forms.specs.Forms.{canvas, command_of}
 use Rattle.script_text.specs.Following.{misfit}
 
 -- a line and its number

@@ -7,7 +7,7 @@ ghost use Rattle.std.specs.Ordering.{nat_cmp};
 ghost use Rattle.std.specs.BTreeMap.{get};
 ghost use Rattle.doc_model.specs.Strokes.{entries};
 ghost use Rattle.doc_model.specs.Lawful.{is_open_stroke, lawful};
-ghost use Rattle.script_text.specs.Script.{in_range, is_sound};
+ghost use Rattle.script_forms.specs.Ranges.{in_range, is_sound};
 ghost use Rattle.doc_model.specs.declared.command.Command.TheVariants.{Export};
 ghost use Rattle.script_text.specs.Following.{misfit as said_misfit};
 ghost use Rattle.script_text.specs.Table.{Tells, stroke_of as said_stroke, after as fed_after, start_cause as said_start, close_cause as said_close, job_cause as said_job, is_few, next_fed, exports_after as count_after};

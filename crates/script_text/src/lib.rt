@@ -2,15 +2,12 @@
 #![tactic(auto)]
 
 mod draft;
-mod forms;
-mod jobs;
 mod making;
 mod printing;
 mod reading;
 mod script;
 #[cfg(test)]
 mod tests;
-mod words;
 
 pub use printing::print;
 pub use reading::read;

@@ -4,16 +4,15 @@ ghost use Rattle.std.specs.Prelude.{◌≡◌, ◌<◌, length, None, Some, ◌+
 ghost use Rattle.std.specs.Option.{option_to_list};
 ghost use Rattle.script_lines.specs.Lines.{pointed};
 ghost use Rattle.doc_model.specs.Strokes.{entries};
-ghost use Rattle.script_text.specs.Script.{in_range, is_sound};
-ghost use Rattle.script_text.specs.Forms.{canvas as said_canvas};
+ghost use Rattle.script_forms.specs.Ranges.{in_range, is_sound};
+ghost use Rattle.script_forms.specs.Forms.{canvas as said_canvas};
 ghost use Rattle.script_text.specs.Following.{misfit};
 ghost use Rattle.script_text.specs.Reading.{canvas_cause, word_cause, command_cause, cause_by, canvas_in, command_in, command_by, given, first_canvas, start_by, left_open, end_by, contents_by, fault, script};
 ghost use Rattle.script_text.specs.Read.{refusal, IsRefused, IsGathered, Fits, StartsAre, Answers, Takes, TakesCommand};
 
 use crate::draft::{Draft, add_last};
-use crate::forms::{canvas, command_of};
 use crate::script::{ReadRefusal, Script, ScriptFault};
-use crate::words::{Word, is, word_of};
+use script_forms::{Word, canvas, command_of, is, word_of};
 use doc_model::{Canvas, Command};
 use script_lines::{Cause, fields_of, is_command, lines_of};
 use std::alloc::Global;

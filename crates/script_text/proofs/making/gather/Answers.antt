@@ -3,7 +3,7 @@ use Rattle.doc_model.specs.Strokes.{entries}
 use Rattle.script_text.specs.declared.reading.Reading.{Reading}
 use Rattle.script_text.specs.declared.script.ReadRefusal.TheVariants.{Fault}
 use Rattle.script_text.specs.Following.{misfit}
-use Rattle.script_text.specs.Script.{is_sound}
+use Rattle.script_forms.specs.Ranges.{is_sound}
 use Rattle.script_text.specs.Read.{IsRefused, TakesCommand}
 use Rattle.script_text.proofs.Refusals.{bad_place, unsound, misfits, gathered_more}
 use Rattle.script_text.proofs.making.gather.Goals as goal

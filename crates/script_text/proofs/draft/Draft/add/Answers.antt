@@ -6,7 +6,7 @@ use Rattle.doc_model.specs.Strokes.{entries, fed}
 use Rattle.doc_model.specs.Lawful.{is_export, lawful}
 use Rattle.script_text.specs.Following.{misfit}
 use Rattle.script_text.specs.Table.{Tells, next_fed}
-use Rattle.script_text.specs.Script.{in_range}
+use Rattle.script_forms.specs.Ranges.{in_range}
 use Rattle.script_text.proofs.Legal.{lawful_more, ranges_more}
 use Rattle.script_text.proofs.Tables.{entries-append}
 use Rattle.script_text.proofs.Steps.{step, exports_step, exports_few}

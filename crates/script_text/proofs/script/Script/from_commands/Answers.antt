@@ -2,7 +2,7 @@ use Rattle.std.proofs.Common.{rules, ◌≡◌, sym, ap, subst, ◌∙◌, false
 use Rattle.std.specs.List.{list_all}
 use Rattle.doc_model.specs.Lawful.{lawful}
 use Rattle.script_text.specs.declared.script.MakeRefusal.TheVariants.{NotScript}
-use Rattle.script_text.specs.Script.{in_range, in_limits}
+use Rattle.script_forms.specs.Ranges.{in_range, in_limits}
 use Rattle.script_text.specs.Reading.{end_by}
 use Rattle.script_text.specs.Read.{IsGathered}
 use Rattle.script_text.proofs.Refusals.{no_limits, no_commands, left_bad}

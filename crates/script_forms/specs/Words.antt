@@ -7,10 +7,10 @@ use Rattle.doc_model.specs.declared.job.Kind.{Kind}
 use Rattle.doc_model.specs.declared.job.Kind.TheVariants.{Con, Seq, Bar, Uni}
 use Rattle.script_lines.specs.declared.cause.Cause.{Cause}
 use Rattle.script_lines.specs.declared.cause.Cause.TheVariants.{UnknownWord}
-use Rattle.script_text.specs.declared.words.Work.{Work}
-use Rattle.script_text.specs.declared.words.Work.TheVariants.{Fill, Dab, Move, Blur}
-use Rattle.script_text.specs.declared.words.Word.{Word}
-use Rattle.script_text.specs.declared.words.Word.TheVariants.{Layer, Group, Remove, Place, Look, Stroke, Paint, End, Cancel, Undo, Redo, Purge, Export}
+use Rattle.script_forms.specs.declared.words.Work.{Work}
+use Rattle.script_forms.specs.declared.words.Work.TheVariants.{Fill, Dab, Move, Blur}
+use Rattle.script_forms.specs.declared.words.Word.{Word}
+use Rattle.script_forms.specs.declared.words.Word.TheVariants.{Layer, Group, Remove, Place, Look, Stroke, Paint, End, Cancel, Undo, Redo, Purge, Export}
 
 -- how each word is written
 abbrev pub work_text : Work → List ℕ

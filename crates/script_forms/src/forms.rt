@@ -2,8 +2,8 @@
 
 ghost use Rattle.std.specs.Prelude.{◌≡◌, [], ◌∷◌, nat_le, ◌&&◌, true, IfOk};
 ghost use Rattle.script_lines.specs.Lines.{pointed};
-ghost use Rattle.script_text.specs.Script.{in_limits, is_spot, is_number, change_in_range, in_range, is_sound};
-ghost use Rattle.script_text.specs.Forms.{sides as told_sides, canvas as told_canvas, spot as told_spot, layer as told_layer, group as told_group, remove as told_remove, place as told_place, look as told_look, stroke as told_stroke, one_number as told_number, alone as told_alone, command_of as told_command};
+ghost use Rattle.script_forms.specs.Ranges.{in_limits, is_spot, is_number, change_in_range, in_range, is_sound};
+ghost use Rattle.script_forms.specs.Forms.{sides as told_sides, canvas as told_canvas, spot as told_spot, layer as told_layer, group as told_group, remove as told_remove, place as told_place, look as told_look, stroke as told_stroke, one_number as told_number, alone as told_alone, command_of as told_command};
 
 use crate::jobs::paint;
 use crate::words::{Word, exclusive_of, op_of, seen_of};
@@ -44,7 +44,7 @@ fn coloured_canvas(width: &[u8], height: &[u8], colour: &[u8]) -> Result<Canvas,
 
 /// The canvas, on white paper unless its colour is told.
 #[tactic(auto, unfolding(crate::specs::Forms::canvas))]
-pub(crate) fn canvas(fields: &[&[u8]]) -> Result<Canvas, Cause>
+pub fn canvas(fields: &[&[u8]]) -> Result<Canvas, Cause>
     ensures value { result ≡ told_canvas (pointed fields.now) }
     ensures limits { IfOk result (λ c. in_limits c ≡ true) }
 {
@@ -255,7 +255,7 @@ fn alone(command: Command, fields: &[&[u8]]) -> Result<Command, Cause>
 
 /// The command of a line, behind its word.
 #[tactic(auto, unfolding(crate::specs::Forms::command_of))]
-pub(crate) fn command_of(word: Word, fields: &[&[u8]]) -> Result<Command, Cause>
+pub fn command_of(word: Word, fields: &[&[u8]]) -> Result<Command, Cause>
     ensures value { result ≡ told_command word (pointed fields.now) }
     ensures ranges { IfOk result (λ c. in_range c ≡ true) }
     ensures sound { IfOk result (λ c. is_sound c ≡ true) }

@@ -11,12 +11,12 @@ use Rattle.script_lines.specs.declared.cause.Cause.TheVariants.{FieldCount, OutO
 use Rattle.script_lines.specs.Causes.{◌>>=◌}
 use Rattle.script_lines.specs.Numbers.{natural, number_in}
 use Rattle.script_lines.specs.Colours.{rgba}
-use Rattle.script_text.specs.declared.words.Work.{Work}
-use Rattle.script_text.specs.declared.words.Work.TheVariants.{Fill, Dab, Move, Blur}
-use Rattle.script_text.specs.declared.jobs.Outline.{Outline}
-use Rattle.script_text.specs.declared.jobs.Ink.{Ink}
-use Rattle.script_text.specs.declared.jobs.Tip.{Tip}
-use Rattle.script_text.specs.Words.{kind_of, op_of, edge_of}
+use Rattle.script_forms.specs.declared.words.Work.{Work}
+use Rattle.script_forms.specs.declared.words.Work.TheVariants.{Fill, Dab, Move, Blur}
+use Rattle.script_forms.specs.declared.jobs.Outline.{Outline}
+use Rattle.script_forms.specs.declared.jobs.Ink.{Ink}
+use Rattle.script_forms.specs.declared.jobs.Tip.{Tip}
+use Rattle.script_forms.specs.Words.{kind_of, op_of, edge_of}
 
 -- the fields of a line behind its command word
 abbrev pub Fields : Type 0

@@ -1,6 +1,6 @@
 use Rattle.std.proofs.Common.{arith}
 use Rattle.std.proofs.lemmas.Int.{to_z-of_z}
-use Rattle.script_text.proofs.jobs.outline_rect.Goals as goal
+use Rattle.script_forms.proofs.jobs.outline_rect.Goals as goal
 
 pub returns : goal.returns
 returns c = grind (arith, to_z-of_z, c.rect.ensures)

@@ -2,7 +2,7 @@
 
 ghost use Rattle.std.specs.Prelude.{◌≡◌};
 ghost use Rattle.std.specs.Str.{bytes_eq};
-ghost use Rattle.script_text.specs.Words.{word_of as said_word, work_of as said_work, kind_of as said_kind, op_of as said_op, edge_of as said_edge, seen_of as said_seen, exclusive_of as said_exclusive};
+ghost use Rattle.script_forms.specs.Words.{word_of as said_word, work_of as said_work, kind_of as said_kind, op_of as said_op, edge_of as said_edge, seen_of as said_seen, exclusive_of as said_exclusive};
 
 use doc_model::Kind;
 use pixel_core::Op;
@@ -10,7 +10,7 @@ use script_lines::Cause;
 
 /// What a job does.
 #[derive(Clone, Copy, Debug, PartialEq, Eq)]
-pub(crate) enum Work {
+pub enum Work {
     Fill,
     Dab,
     Move,
@@ -19,7 +19,7 @@ pub(crate) enum Work {
 
 /// The first word of a command other than the canvas.
 #[derive(Clone, Copy, Debug, PartialEq, Eq)]
-pub(crate) enum Word {
+pub enum Word {
     Layer,
     Group,
     Remove,
@@ -36,14 +36,14 @@ pub(crate) enum Word {
 }
 
 /// Whether the field is that word.
-pub(crate) fn is(field: &[u8], word: &[u8]) -> bool
+pub fn is(field: &[u8], word: &[u8]) -> bool
     ensures { result ≡ bytes_eq field.now word.now }
 {
     field == word
 }
 
 #[tactic(auto, unfolding(crate::specs::Words::word_of))]
-pub(crate) fn word_of(field: &[u8]) -> Option<Word>
+pub fn word_of(field: &[u8]) -> Option<Word>
     ensures { result ≡ said_word field.now }
 {
     if is(field, b"layer") {
@@ -93,7 +93,7 @@ fn work_of(field: &[u8]) -> Option<Work>
 }
 
 #[tactic(auto, unfolding(crate::specs::Words::kind_of))]
-pub(crate) fn kind_of(field: &[u8]) -> Result<Kind, Cause>
+pub fn kind_of(field: &[u8]) -> Result<Kind, Cause>
     ensures { result ≡ said_kind field.now }
 {
     if is(field, b"con") {
@@ -110,7 +110,7 @@ pub(crate) fn kind_of(field: &[u8]) -> Result<Kind, Cause>
 }
 
 #[tactic(auto, unfolding(crate::specs::Words::op_of))]
-pub(crate) fn op_of(field: &[u8]) -> Result<Op, Cause>
+pub fn op_of(field: &[u8]) -> Result<Op, Cause>
     ensures { result ≡ said_op field.now }
 {
     if is(field, b"over") {
@@ -130,7 +130,7 @@ pub(crate) fn op_of(field: &[u8]) -> Result<Op, Cause>
 
 /// Whether the edge is soft.
 #[tactic(auto, unfolding(crate::specs::Words::edge_of))]
-pub(crate) fn edge_of(field: &[u8]) -> Result<bool, Cause>
+pub fn edge_of(field: &[u8]) -> Result<bool, Cause>
     ensures { result ≡ said_edge field.now }
 {
     if is(field, b"hard") {
@@ -144,7 +144,7 @@ pub(crate) fn edge_of(field: &[u8]) -> Result<bool, Cause>
 
 /// Whether the node is seen.
 #[tactic(auto, unfolding(crate::specs::Words::seen_of))]
-pub(crate) fn seen_of(field: &[u8]) -> Result<bool, Cause>
+pub fn seen_of(field: &[u8]) -> Result<bool, Cause>
     ensures { result ≡ said_seen field.now }
 {
     if is(field, b"on") {
@@ -158,7 +158,7 @@ pub(crate) fn seen_of(field: &[u8]) -> Result<bool, Cause>
 
 /// Reads the mark of an exclusive stroke.
 #[tactic(auto, unfolding(crate::specs::Words::exclusive_of))]
-pub(crate) fn exclusive_of(field: &[u8]) -> Result<bool, Cause>
+pub fn exclusive_of(field: &[u8]) -> Result<bool, Cause>
     ensures { result ≡ said_exclusive field.now }
 {
     if is(field, b"exclusive") {

@@ -2,9 +2,9 @@ use Rattle.std.proofs.Common.{◌≡◌, rules, ap, ◌∙◌, true, false, Err,
 use Rattle.geom_core.specs.Areas.{lies_in, world}
 use Rattle.doc_model.specs.Jobs.{grown}
 use Rattle.doc_model.specs.declared.job.Job.TheVariants.{Blur}
-use Rattle.script_text.specs.Jobs.{area_of}
-use Rattle.script_text.proofs.World.{checked_sound, box_and, held, not_held, one, left_not, answer, refused, inner}
-use Rattle.script_text.proofs.jobs.blur_of.Goals as goal
+use Rattle.script_forms.specs.Jobs.{area_of}
+use Rattle.script_forms.proofs.World.{checked_sound, box_and, held, not_held, one, left_not, answer, refused, inner}
+use Rattle.script_forms.proofs.jobs.blur_of.Goals as goal
 
 pub returns-clause-value : goal.returns-clause-value
 returns-clause-value c =

@@ -3,9 +3,9 @@ use borrow.Author.Differences.{ints}
 use Rattle.std.proofs.lemmas.Int.{to_z-of_z}
 use Rattle.doc_model.specs.Jobs.{square}
 use Rattle.doc_model.specs.declared.job.Job.TheVariants.{Dab}
-use Rattle.script_text.specs.Jobs.{in_world}
-use Rattle.script_text.proofs.World.{checked_sound, small, held, not_held, one, left_not, answer, refused}
-use Rattle.script_text.proofs.jobs.dab_of.Goals as goal
+use Rattle.script_forms.specs.Jobs.{in_world}
+use Rattle.script_forms.proofs.World.{checked_sound, small, held, not_held, one, left_not, answer, refused}
+use Rattle.script_forms.proofs.jobs.dab_of.Goals as goal
 
 pub returns-in-Ok-clause-value : goal.returns-in-Ok-clause-value
 returns-in-Ok-clause-value c =

@@ -9,7 +9,7 @@ use Rattle.doc_model.specs.Lawful.{checks, within_limits}
 use Rattle.std.proofs.lemmas.Bool.Decides.{nat_tests}
 use Rattle.script_lines.specs.declared.cause.Cause.{Cause}
 use Rattle.script_lines.specs.declared.cause.Cause.TheVariants.{OutOfWorld}
-use Rattle.script_text.specs.Jobs.{in_world, checked}
+use Rattle.script_forms.specs.Jobs.{in_world, checked}
 
 pub both : (a b : Bool) → a ≡ true → b ≡ true → (a && (b && true)) ≡ true
 both a b h k = rw (h, k) refl

@@ -11,10 +11,10 @@ use Rattle.script_lines.specs.declared.cause.Cause.TheVariants.{FieldCount}
 use Rattle.script_lines.specs.Causes.{◌>>=◌}
 use Rattle.script_lines.specs.Numbers.{natural}
 use Rattle.script_lines.specs.Colours.{rgb, rgba}
-use Rattle.script_text.specs.declared.words.Word.{Word}
-use Rattle.script_text.specs.declared.words.Word.TheVariants.{Layer, Group, Remove, Place, Look, Stroke, Paint, End, Cancel, Undo, Redo, Purge, Export}
-use Rattle.script_text.specs.Words.{op_of, seen_of, exclusive_of}
-use Rattle.script_text.specs.Jobs.{Fields, paint}
+use Rattle.script_forms.specs.declared.words.Word.{Word}
+use Rattle.script_forms.specs.declared.words.Word.TheVariants.{Layer, Group, Remove, Place, Look, Stroke, Paint, End, Cancel, Undo, Redo, Purge, Export}
+use Rattle.script_forms.specs.Words.{op_of, seen_of, exclusive_of}
+use Rattle.script_forms.specs.Jobs.{Fields, paint}
 
 abbrev pub white : Rgba
 white = pixel 255 255 255 255

@@ -7,8 +7,8 @@ ghost use Rattle.doc_model.specs.Jobs.{square, grown};
 ghost use Rattle.script_lines.specs.Lines.{pointed};
 ghost use Rattle.script_lines.specs.Colours.{is_pixel, is_byte};
 ghost use Rattle.doc_model.specs.Lawful.{checks, within_limits};
-ghost use Rattle.script_text.specs.Script.{job_in_range, in_range, is_sound};
-ghost use Rattle.script_text.specs.Jobs.{outline as told_outline, IsOutline, ink as told_ink, tip as told_tip, IsTip, fill as told_fill, dab as told_dab, move_by as told_move, blur as told_blur, job_of as told_job, job_fields as fields_of_job, paint as told_paint, in_world, area_of, checked};
+ghost use Rattle.script_forms.specs.Ranges.{job_in_range, in_range, is_sound};
+ghost use Rattle.script_forms.specs.Jobs.{outline as told_outline, IsOutline, ink as told_ink, tip as told_tip, IsTip, fill as told_fill, dab as told_dab, move_by as told_move, blur as told_blur, job_of as told_job, job_fields as fields_of_job, paint as told_paint, in_world, area_of, checked};
 
 use crate::words::{Work, edge_of, kind_of, op_of};
 use doc_model::{Command, Job};
@@ -18,7 +18,7 @@ use script_lines::{Cause, natural, number_in, rgba};
 
 /// A rectangle that may leave the world.
 #[derive(Clone, Copy)]
-pub(crate) struct Outline {
+pub struct Outline {
     x: i32,
     y: i32,
     w: u32,
@@ -27,7 +27,7 @@ pub(crate) struct Outline {
 
 /// A colour, and how it is laid on.
 #[derive(Clone, Copy)]
-pub(crate) struct Ink {
+pub struct Ink {
     colour: Pixel,
     op: Op,
     strength: u8,
@@ -35,7 +35,7 @@ pub(crate) struct Ink {
 
 /// A dab's centre, radius and edge.
 #[derive(Clone, Copy)]
-pub(crate) struct Tip {
+pub struct Tip {
     x: i32,
     y: i32,
     r: u8,
@@ -377,7 +377,7 @@ fn job_of(work: Work, fields: &[&[u8]]) -> Result<Job, Cause>
 
 /// A job of a stroke.
 #[tactic(auto, unfolding(crate::specs::Jobs::paint))]
-pub(crate) fn paint(work: Work, fields: &[&[u8]]) -> Result<Command, Cause>
+pub fn paint(work: Work, fields: &[&[u8]]) -> Result<Command, Cause>
     ensures value { result ≡ told_paint work (pointed fields.now) }
     ensures ranges { IfOk result (λ c. in_range c ≡ true) }
     ensures sound { IfOk result (λ c. is_sound c ≡ true) }

@@ -2,9 +2,9 @@ use Rattle.std.proofs.Common.{◌≡◌, rules, ◌∙◌, true, Err, arith, sub
 use borrow.Author.Differences.{ints}
 use Rattle.geom_core.specs.Areas.{lies_in, world, moved}
 use Rattle.doc_model.specs.declared.job.Job.TheVariants.{Move}
-use Rattle.script_text.specs.Jobs.{area_of}
-use Rattle.script_text.proofs.World.{checked_sound, box, held, not_held, both, left_not, right_not, answer, refused}
-use Rattle.script_text.proofs.jobs.move_of.Goals as goal
+use Rattle.script_forms.specs.Jobs.{area_of}
+use Rattle.script_forms.proofs.World.{checked_sound, box, held, not_held, both, left_not, right_not, answer, refused}
+use Rattle.script_forms.proofs.jobs.move_of.Goals as goal
 
 pub returns-clause-value : goal.returns-clause-value
 returns-clause-value c =

@@ -1,8 +1,8 @@
 use Rattle.std.proofs.Common.{ap}
 use Rattle.doc_model.specs.declared.job.Job.TheVariants.{Fill}
-use Rattle.script_text.specs.Jobs.{area_of}
-use Rattle.script_text.proofs.World.{checked_sound, box, held, one, answer}
-use Rattle.script_text.proofs.jobs.fill_of.Goals as goal
+use Rattle.script_forms.specs.Jobs.{area_of}
+use Rattle.script_forms.proofs.World.{checked_sound, box, held, one, answer}
+use Rattle.script_forms.proofs.jobs.fill_of.Goals as goal
 
 pub returns-in-Ok-clause-value : goal.returns-in-Ok-clause-value
 returns-in-Ok-clause-value c =

@@ -2,8 +2,8 @@ use Rattle.std.proofs.Common.{◌≡◌, arith, ◌+◌, ◌*◌, to_z, of_z, w3
 use Rattle.std.specs.Prelude.{ℤ, pos, ◌-ℤ◌}
 use borrow.Author.Differences.{ints}
 use Rattle.geom_core.specs.Areas.{area}
-use Rattle.script_text.proofs.World.{told_as}
-use Rattle.script_text.proofs.jobs.grown_rect.Goals as goal
+use Rattle.script_forms.proofs.World.{told_as}
+use Rattle.script_forms.proofs.jobs.grown_rect.Goals as goal
 
 pub returns : goal.returns
 returns c =

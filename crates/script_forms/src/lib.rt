@@ -1,0 +1,9 @@
+//! What each line of a script says by itself: its word, and the fields behind it.
+#![tactic(auto)]
+
+mod forms;
+mod jobs;
+mod words;
+
+pub use forms::{canvas, command_of};
+pub use words::{Word, Work, is, word_of};
