@@ -12,8 +12,8 @@ ghost use Rattle.script_text.specs.Read.{refusal, IsRefused, IsGathered, Fits, S
 
 use crate::draft::{Draft, add_last};
 use crate::script::{ReadRefusal, Script, ScriptFault};
-use script_forms::{Word, canvas, command_of, is, word_of};
 use doc_model::{Canvas, Command};
+use script_forms::{Word, canvas, command_of, is, word_of};
 use script_lines::{Cause, fields_of, is_command, lines_of};
 use std::alloc::Global;
 
