@@ -2,6 +2,7 @@
 #![tactic(auto)]
 
 mod stopwatch;
+mod strokes;
 mod tiles;
 mod trees;
 
@@ -11,6 +12,7 @@ use std::{env, io};
 /// What can be measured.
 #[derive(Clone, Copy)]
 enum Subject {
+    Strokes,
     Tiles,
     Trees,
 }
@@ -18,6 +20,7 @@ enum Subject {
 /// The subject of that name.
 fn subject_of(name: &str) -> Option<Subject> {
     match name {
+        "strokes" => Some(Subject::Strokes),
         "tiles" => Some(Subject::Tiles),
         "trees" => Some(Subject::Trees),
         _ => None,
@@ -36,8 +39,9 @@ fn asked(rt: &impl Runtime) -> io::Result<Option<Subject>> {
 
 fn main(rt: HostRuntime) -> io::Result<()> {
     match asked(&rt)? {
+        Some(Subject::Strokes) => strokes::measure(&rt, rt.alloc()),
         Some(Subject::Tiles) => tiles::measure(&rt, rt.alloc()),
         Some(Subject::Trees) => trees::measure(&rt, rt.alloc()),
-        None => println!(rt; "benches: pass a word to measure: tiles, trees"),
+        None => println!(rt; "benches: pass a word to measure: strokes, tiles, trees"),
     }
 }
