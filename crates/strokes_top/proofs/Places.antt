@@ -1,7 +1,7 @@
 -- Going over the lines of a script in search of a command.
 use Rattle.std.proofs.Common.{◌≡◌, ℕ, suc, ◌+◌, ◌-◌, ◌<◌, ◌≤◌, true, false, List, length, get_or, drop, sym, ap, ◌∙◌, arith}
 use Rattle.script_lines.specs.Lines.{is_command}
-use Rattle.script_text.specs.Jobs.{Fields}
+use Rattle.script_forms.specs.Jobs.{Fields}
 use Rattle.script_text.proofs.Scanning.{cmds, taken_rest, passed_rest}
 use Rattle.strokes_top.specs.Refusal.{number_at}
 

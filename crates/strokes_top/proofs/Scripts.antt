@@ -13,7 +13,8 @@ use Rattle.strokes_top.specs.Form.{course}
 use Rattle.strokes_top.specs.Output.{output}
 use Rattle.strokes_top.proofs.Forms.{left, right}
 use Rattle.strokes_top.proofs.FormsMean.{output_nothing}
-use Rattle.script_text.specs.Script.{Contents, in_limits, in_range, all_closed, is_script}
+use Rattle.script_text.specs.Script.{Contents, all_closed, is_script}
+use Rattle.script_forms.specs.Ranges.{in_limits, in_range}
 
 opaque_paper : (c : Canvas) → in_limits c ≡ true → c.paper.a ≡ 255
 opaque_paper c h = grind (arith, right (is_pixel c.paper) (c.paper.a == 255) (right ((nat_le 1 c.w && nat_le c.w 2048) && (nat_le 1 c.h && nat_le c.h 2048)) (is_pixel c.paper && (c.paper.a == 255)) h))
