@@ -77,7 +77,7 @@ pub record IsReading (r : Reading) (before : List NumberedLine) : Type 0 where
   pub starts : r.starts.items ≡ starts_of before
   pub fits : Fits r.canvas
 
-canvas_of-append : (before : List NumberedLine) (l : NumberedLine) → canvas_of (before ++ l ∷ []) ≡ first_canvas (canvas_of before) (canvas_in l.fields)
+pub canvas_of-append : (before : List NumberedLine) (l : NumberedLine) → canvas_of (before ++ l ∷ []) ≡ first_canvas (canvas_of before) (canvas_in l.fields)
 canvas_of-append [] l = go (canvas_in l.fields)
   where
     go : (o : Option Canvas) → first_canvas o None ≡ first_canvas None o

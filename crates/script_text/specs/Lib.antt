@@ -5,3 +5,4 @@ pub mod Read
 pub mod Table
 pub mod Draft
 pub mod Text
+pub mod Laws

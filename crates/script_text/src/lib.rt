@@ -2,6 +2,7 @@
 #![tactic(auto)]
 
 mod draft;
+mod laws;
 mod making;
 mod printing;
 mod reading;
@@ -9,6 +10,7 @@ mod script;
 #[cfg(test)]
 mod tests;
 
+pub use laws::printed_reads_back;
 pub use printing::print;
 pub use reading::read;
 pub use script::{MakeRefusal, ReadRefusal, Script, ScriptFault};
