@@ -1,5 +1,5 @@
 -- One dab and one block more.
-use Rattle.std.proofs.Common.{◌≡◌, ℕ, suc, zero, ◌+◌, ◌++◌, ◌∷◌, [], refl, arith, append_assoc, sym, ap, ◌∙◌, append-nil, List}
+use Rattle.std.proofs.Common.{◌≡◌, ℕ, suc, ◌+◌, ◌++◌, ◌∷◌, [], refl, arith, append_assoc, sym, ap, ◌∙◌, append-nil, List}
 use Rattle.doc_model.specs.declared.command.Command.{Command}
 use Rattle.demo_gen.specs.Demo.{later, dab, dabs, after_dabs, block, blocks, after_block, after_blocks}
 

@@ -1,5 +1,5 @@
 -- The script of a number, whose commands follow the draws of a generator.
-use Rattle.std.specs.Prelude.{ℕ, suc, zero, ◌+◌, ◌*◌, ◌/◌, ◌%◌, ◌==◌, ℤ, pos, ◌-ℤ◌, Bool, true, if◌then◌else◌, List, [], ◌∷◌, ◌++◌}
+use Rattle.std.specs.Prelude.{ℕ, suc, zero, ◌+◌, ◌*◌, ◌/◌, ◌%◌, ◌==◌, pos, ◌-ℤ◌, Bool, true, if◌then◌else◌, List, [], ◌∷◌, ◌++◌}
 use Rattle.geom_core.specs.Areas.{area}
 use Rattle.pixel_core.specs.Rgba.{Rgba, rgba, clear, if_canonical}
 use Rattle.pixel_core.specs.declared.blending.Op.{Op}

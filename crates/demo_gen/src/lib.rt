@@ -4,5 +4,7 @@
 mod draws;
 mod script;
 mod stroke;
+#[cfg(test)]
+mod tests;
 
 pub use script::script_of;

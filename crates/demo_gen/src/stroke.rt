@@ -197,7 +197,11 @@ fn add_look(commands: &mut Vec<Command>, state: &mut u64, no: u32, id: u16) -> R
 }
 
 /// Adds the stroke and what comes with it.
-pub(crate) fn add_block(commands: &mut Vec<Command>, state: &mut u64, no: u32) -> Result<(), NoMemory>
+pub(crate) fn add_block(
+    commands: &mut Vec<Command>,
+    state: &mut u64,
+    no: u32,
+) -> Result<(), NoMemory>
     ensures commands { OnOk result (commands.new.items ≡ commands.old.items ++ block no state.old) }
     ensures state { OnOk result (state.new ≡ after_block no state.old) }
 {
