@@ -1,0 +1,10 @@
+//! A script for any number: six layers and forty strokes that follow the draws of a generator.
+#![tactic(auto)]
+
+mod draws;
+mod script;
+mod stroke;
+#[cfg(test)]
+mod tests;
+
+pub use script::script_of;
