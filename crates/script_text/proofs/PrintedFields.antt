@@ -1,8 +1,8 @@
 -- Numbers and colours read back as they were printed.
-use Rattle.std.proofs.Common.{◌≡◌, ℕ, ◌+◌, ◌*◌, ◌/◌, ◌%◌, ◌<◌, ◌≤◌, ◌^◌, suc, zero, Bool, true, false, ◌&&◌, nat_le, nat_lt, List, [], ◌∷◌, length, Result, Ok, Err, refl, sym, ap, ◌∙◌, arith, rules}
+use Rattle.std.proofs.Common.{◌≡◌, ℕ, ◌/◌, ◌%◌, ◌<◌, ◌≤◌, ◌^◌, suc, zero, Bool, true, false, ◌&&◌, nat_le, nat_lt, List, [], ◌∷◌, length, Ok, refl, sym, ap, ◌∙◌, arith, rules}
 use Rattle.std.specs.Prelude.{ℤ, pos, negsuc, neg_ℤ, int_le, ◌==◌, if◌then◌else◌}
 use Rattle.std.specs.List.{list_all}
-use Rattle.std.specs.Char.{is_ascii_digit, digit_value, digit_char}
+use Rattle.std.specs.Char.{is_ascii_digit, digit_char}
 use Rattle.std.specs.Str.Parse.{digits_value}
 use Rattle.std.specs.Fmt.{decimal, signed_decimal}
 use Rattle.std.proofs.lemmas.Bool.Decides.{nat_tests}
@@ -10,11 +10,10 @@ use Rattle.std.proofs.lemmas.Str.{digit_value-digit_char}
 use Rattle.std.proofs.lemmas.Str.Parse.{IsNumeralModel, numerals_by_value}
 use Rattle.std.proofs.lemmas.Fmt.{decimal_is_IsNumeral, digits_decimal, length-decimal-le, decimal_nonempty}
 use Rattle.std.proofs.lemmas.Grind.{common_steps}
-use Rattle.pixel_core.specs.Rgba.{Rgba, clear, if_canonical, rgba as pixel}
-use Rattle.script_lines.specs.declared.cause.Cause.{Cause}
+use Rattle.pixel_core.specs.Rgba.{Rgba, if_canonical, rgba as pixel}
 use Rattle.script_lines.specs.Numbers.{is_magnitude, magnitude, number, number_in, natural}
 use Rattle.script_lines.specs.Colours.{is_byte, is_pixel, hex_byte, hex_digit, rgb, rgba}
-use Rattle.script_text.specs.Text.{hex_text, rgb_text, rgba_text}
+use Rattle.script_text.specs.Text.{rgb_text, rgba_text}
 
 pub first : (a b : Bool) → (a && b) ≡ true → a ≡ true
 first true b k = refl
@@ -35,9 +34,9 @@ magnitude_of n h = go (length (decimal n)) (decimal_nonempty n (omega arith)) (l
   where
     go : (k : ℕ) → 0 < k → k ≤ 10 → ((nat_le 1 k && nat_le k 10) && list_all is_ascii_digit (decimal n)) ≡ true
     go k a b =
-      let l : nat_le 1 k ≡ true = grind (arith, nat_tests) in
-      let m : nat_le k 10 ≡ true = grind (arith, nat_tests) in
-      rw (l, m, digits_of n (omega arith)) refl
+        let l : nat_le 1 k ≡ true = grind (arith, nat_tests) in
+        let m : nat_le k 10 ≡ true = grind (arith, nat_tests) in
+        rw (l, m, digits_of n (omega arith)) refl
 
 value_of : (n : ℕ) → n < 10 ^ 10 → digits_value 10 (decimal n) ≡ n
 value_of n h = (decimal_is_IsNumeral n (omega arith)).1

@@ -1,5 +1,5 @@
 -- A printed job reads back.
-use Rattle.std.proofs.Common.{◌≡◌, ℕ, ◌+◌, ◌*◌, ◌<◌, ◌≤◌, ◌^◌, suc, Bool, true, false, ◌&&◌, nat_le, List, [], ◌∷◌, ◌++◌, length, Result, Ok, Err, refl, sym, ap, ◌∙◌, arith}
+use Rattle.std.proofs.Common.{◌≡◌, ℕ, ◌+◌, ◌*◌, ◌≤◌, Bool, true, ◌&&◌, nat_le, List, [], ◌∷◌, ◌++◌, length, Ok, refl, arith}
 use Rattle.std.specs.Prelude.{ℤ, pos, negsuc, ◌+ℤ◌, ◌-ℤ◌, int_le, ◌==◌}
 use Rattle.std.specs.List.{list_all}
 use Rattle.std.specs.Fmt.{decimal, signed_decimal}
@@ -21,8 +21,6 @@ use Rattle.script_forms.specs.declared.words.Work.TheVariants.{Fill, Dab, Move, 
 use Rattle.script_forms.specs.declared.words.Word.{Word}
 use Rattle.script_forms.specs.declared.words.Word.TheVariants.{Paint}
 use Rattle.script_forms.specs.declared.jobs.Outline.{Outline}
-use Rattle.script_forms.specs.declared.jobs.Ink.{Ink}
-use Rattle.script_forms.specs.declared.jobs.Tip.{Tip}
 use Rattle.script_forms.specs.Jobs.{outline, ink, tip, checked, fill, dab, move_by, blur, job_of, job_fields, paint}
 use Rattle.script_forms.specs.Words.{word_text, kind_text, op_text, edge_text}
 use Rattle.script_forms.specs.Forms.{command_of}
@@ -135,9 +133,6 @@ paint_back work n kind others j h l k = rw (l, upto_back 4294967295 n (omega ari
 
 job_plain : (n : ℕ) (kind : Kind) (others : List (List ℕ)) → is_number n ≡ true → list_all is_field others ≡ true → list_all is_field (decimal n ∷ kind_text kind ∷ others) ≡ true
 job_plain n kind others h k = both _ _ (natural_field 4294967295 n (omega arith) h) (both _ _ (kind_field kind) k)
-
-
-
 
 -- a job of a stroke
 pub told_job : (n : ℕ) (kind : Kind) (j : Job) → is_number n ≡ true → job_in_range j ≡ true → (checks j && within_limits j) ≡ true → Told (Add n kind j)

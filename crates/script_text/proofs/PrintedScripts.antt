@@ -1,22 +1,20 @@
 -- A printed script reads back.
-use Rattle.std.proofs.Common.{◌≡◌, ℕ, suc, Bool, true, false, ◌&&◌, Option, Some, None, List, [], ◌∷◌, ◌++◌, refl, sym, ap, ◌∙◌, subst}
+use Rattle.std.proofs.Common.{◌≡◌, ℕ, suc, Bool, true, false, ◌&&◌, Option, Some, None, List, [], ◌∷◌, ◌++◌, refl, sym, ap, ◌∙◌}
 use Rattle.std.specs.List.{list_all, flat_map}
 use Rattle.std.proofs.lemmas.List.Elements.{filter_map-append}
 use Rattle.doc_model.specs.declared.canvas.Canvas.{Canvas}
 use Rattle.doc_model.specs.declared.command.Command.{Command}
 use Rattle.doc_model.specs.Strokes.{Entry, fed, all_fed, entries}
 use Rattle.doc_model.specs.Lawful.{may_follow, lawful_after, lawful, is_closed_entry}
-use Rattle.script_lines.specs.declared.cause.Cause.{Cause}
 use Rattle.script_lines.specs.Lines.{lines, is_command}
 use Rattle.script_forms.specs.Jobs.{Fields}
 use Rattle.script_forms.specs.Words.{word_text, canvas_text}
 use Rattle.script_forms.specs.Ranges.{in_range, in_limits, is_sound}
-use Rattle.script_text.specs.declared.script.ScriptFault.{ScriptFault}
 use Rattle.script_text.specs.declared.reading.Start.{Start}
 use Rattle.script_text.specs.Following.{misfit}
-use Rattle.script_text.specs.Script.{Contents, contents, is_script, all_closed}
+use Rattle.script_text.specs.Script.{Contents, is_script, all_closed}
 use Rattle.script_text.specs.Reading.{NumberedLine, command_lines, canvas_in, command_in, canvas_of, commands_of, starts_of, cause_by, cause, first_canvas, end_by, left_open, left_fault, fault_after, fault, contents_by, unless, script}
-use Rattle.script_text.specs.Text.{line, canvas_fields, canvas_line, command_text, text}
+use Rattle.script_text.specs.Text.{canvas_fields, command_text, text}
 use Rattle.script_text.specs.Laws.{PrintedReadsBack}
 use Rattle.script_text.proofs.PrintedFields.{first, second}
 use Rattle.script_text.proofs.PrintedLines.{line_first}
@@ -101,8 +99,8 @@ no_fault_after before canvas commands n (c ∷ cs) is r l h =
     let others = cmds (suc n) (lines (flat_map command_text cs)) in
     let good : cause before (row t) ≡ None = (λ i. cause_by (is.canvas i) (is.commands i) (row t)) ∙ (cause_told c t canvas commands ∙ fits (entries commands) c may) in
     let rest = no_fault_after (before ++ scan.line n (row t) ∷ []) canvas (commands ++ c ∷ []) (suc n) cs (before_more before canvas commands n c t is) (second (in_range c) (list_all in_range cs) r)
-      (ap (λ es. lawful_after es cs) (entries-append commands c) ∙ second (may_follow (entries commands) c) (lawful_after (fed (entries commands) c) cs) l)
-      (ap (λ es. list_all is_closed_entry (all_fed es cs)) (entries-append commands c) ∙ h) in
+    (ap (λ es. lawful_after es cs) (entries-append commands c) ∙ second (may_follow (entries commands) c) (lawful_after (fed (entries commands) c) cs) l)
+    (ap (λ es. list_all is_closed_entry (all_fed es cs)) (entries-append commands c) ∙ h) in
     ap (fault_after before) (cmds_told n c t (flat_map command_text cs)) ∙ (sym (goes_on before others n (row t) (fault_after before (scan.line n (row t) ∷ others)) good refl) ∙ rest)
 
 commands_told : (es : List Entry) (n : ℕ) (cs : List Command) → list_all in_range cs ≡ true → lawful_after es cs ≡ true → commands_of (cmds n (lines (flat_map command_text cs))) ≡ cs

@@ -1,5 +1,5 @@
 -- Printed words, numbers and colours are fields.
-use Rattle.std.proofs.Common.{◌≡◌, ℕ, ◌+◌, ◌*◌, ◌/◌, ◌%◌, ◌<◌, ◌≤◌, ◌^◌, suc, zero, Bool, true, false, not, ◌&&◌, ◌||◌, nat_le, nat_lt, Option, Some, None, List, [], ◌∷◌, length, Result, Ok, Err, refl, sym, ap, ◌∙◌, arith, cond}
+use Rattle.std.proofs.Common.{◌≡◌, ℕ, ◌+◌, ◌/◌, ◌%◌, ◌<◌, ◌≤◌, ◌^◌, suc, Bool, true, false, not, ◌&&◌, nat_le, nat_lt, Some, List, [], ◌∷◌, length, Ok, refl, arith, cond}
 use Rattle.std.specs.Prelude.{ℤ, pos, negsuc, int_le, ◌==◌}
 use Rattle.std.specs.List.{list_all}
 use Rattle.std.specs.Str.{bytes_eq}
@@ -13,15 +13,13 @@ use Rattle.pixel_core.specs.declared.blending.Op.{Op}
 use Rattle.pixel_core.specs.declared.blending.Op.TheVariants.{Over, Erase, Multiply, Screen, Addition}
 use Rattle.doc_model.specs.declared.job.Kind.{Kind}
 use Rattle.doc_model.specs.declared.job.Kind.TheVariants.{Con, Seq, Bar, Uni}
-use Rattle.script_lines.specs.Lines.{is_some_field, begins_command}
+use Rattle.script_lines.specs.Lines.{begins_command}
 use Rattle.script_lines.specs.Numbers.{natural}
-use Rattle.script_lines.specs.Colours.{is_byte, is_pixel}
-use Rattle.script_forms.specs.declared.words.Work.{Work}
 use Rattle.script_forms.specs.declared.words.Work.TheVariants.{Fill, Dab, Move, Blur}
 use Rattle.script_forms.specs.declared.words.Word.{Word}
 use Rattle.script_forms.specs.declared.words.Word.TheVariants.{Layer, Group, Remove, Place, Look, Stroke, Paint, End, Cancel, Undo, Redo, Purge, Export}
-use Rattle.script_forms.specs.Words.{word_text, work_text, kind_text, op_text, edge_text, seen_text, canvas_text, exclusive_text, word_of, work_of, kind_of, op_of, edge_of, seen_of, exclusive_of}
-use Rattle.script_text.specs.Text.{hex_text, rgb_text, rgba_text}
+use Rattle.script_forms.specs.Words.{word_text, kind_text, op_text, edge_text, seen_text, canvas_text, exclusive_text, word_of, work_of, kind_of, op_of, edge_of, seen_of, exclusive_of}
+use Rattle.script_text.specs.Text.{rgb_text, rgba_text}
 use Rattle.script_text.proofs.PrintedFields.{first, second, digits_of, natural_back}
 use Rattle.script_text.proofs.PrintedLines.{is_plain, is_field, both}
 
