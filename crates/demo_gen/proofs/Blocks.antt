@@ -11,7 +11,7 @@ pub from_dabs : (s : ℕ) → s ≡ after_dabs 0 s
 unfolding after_dabs
 from_dabs s = refl
 
-more_dabs : (k i s : ℕ) → dabs k (suc i) s ≡ dabs k i s ++ dab k i (after_dabs i s) ∷ []
+pub more_dabs : (k i s : ℕ) → dabs k (suc i) s ≡ dabs k i s ++ dab k i (after_dabs i s) ∷ []
 unfolding dabs
 more_dabs k i s = refl
 
@@ -44,11 +44,11 @@ pub from_blocks : (s : ℕ) → s ≡ after_blocks 0 s
 unfolding after_blocks
 from_blocks s = refl
 
-more_blocks : (n s : ℕ) → blocks (suc n) s ≡ blocks n s ++ block (suc n) (after_blocks n s)
+pub more_blocks : (n s : ℕ) → blocks (suc n) s ≡ blocks n s ++ block (suc n) (after_blocks n s)
 unfolding blocks
 more_blocks n s = refl
 
-later_blocks : (n s : ℕ) → after_blocks (suc n) s ≡ after_block (suc n) (after_blocks n s)
+pub later_blocks : (n s : ℕ) → after_blocks (suc n) s ≡ after_block (suc n) (after_blocks n s)
 unfolding after_blocks
 later_blocks n s = refl
 

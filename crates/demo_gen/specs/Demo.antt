@@ -5,6 +5,7 @@ use Rattle.pixel_core.specs.Rgba.{Rgba, rgba, clear, if_canonical}
 use Rattle.pixel_core.specs.declared.blending.Op.{Op}
 use Rattle.pixel_core.specs.declared.blending.Op.TheVariants.{Over, Erase, Multiply, Screen, Addition}
 use Rattle.doc_model.specs.declared.canvas.Canvas.{Canvas}
+use Rattle.doc_model.specs.declared.job.Job.{Job}
 use Rattle.doc_model.specs.declared.job.Job.TheVariants.{Dab, Move}
 use Rattle.doc_model.specs.declared.job.Kind.TheVariants.{Con, Seq}
 use Rattle.doc_model.specs.declared.tree.Change.TheVariants as change
@@ -37,8 +38,11 @@ abbrev pub dab_op : ℕ → Op
 dab_op n = if n == 0 then Erase else Over
 
 -- the dab at a place of the six by four cells of 130 by 150 points
+abbrev pub dab_job : ℕ → ℕ → Job
+dab_job i s = Dab (pos (65 + 130 * (i % 6))) (pos (75 + 150 * (i / 6))) (draw s 1 60) true (ink (later 1 s)) (dab_op (draw s 6 8)) 255
+
 abbrev pub dab : ℕ → ℕ → ℕ → Command
-dab k i s = command.Add k Con (Dab (pos (65 + 130 * (i % 6))) (pos (75 + 150 * (i / 6))) (draw s 1 60) true (ink (later 1 s)) (dab_op (draw s 6 8)) 255)
+dab k i s = command.Add k Con (dab_job i s)
 
 -- the state after so many dabs
 unfoldable pub after_dabs : ℕ → ℕ → ℕ
@@ -50,8 +54,11 @@ unfoldable pub dabs : ℕ → ℕ → ℕ → List Command
 dabs k zero s = []
 dabs k (suc i) s = dabs k i s ++ dab k i (after_dabs i s) ∷ []
 
+abbrev pub move_job : ℕ → Job
+move_job s = Move (area (pos (draw s 1 600)) (pos (draw s 2 400)) 200 200) (pos (draw s 3 201) -ℤ pos 100) (pos (draw s 4 201) -ℤ pos 100)
+
 abbrev pub move : ℕ → ℕ → Command
-move k s = command.Add k Seq (Move (area (pos (draw s 1 600)) (pos (draw s 2 400)) 200 200) (pos (draw s 3 201) -ℤ pos 100) (pos (draw s 4 201) -ℤ pos 100))
+move k s = command.Add k Seq (move_job s)
 
 abbrev pub closing : ℕ → Command
 closing k = if (k % 7) == 3 then command.Cancel k else command.End k

@@ -1,6 +1,7 @@
 //! The whole script.
 
-ghost use Rattle.std.specs.Prelude.{◌≡◌, ◌++◌, OnOk, IfOk};
+ghost use Rattle.std.specs.Prelude.{◌≡◌, ◌++◌, IfOk, true};
+ghost use Rattle.script_text.specs.Script.{is_script};
 ghost use Rattle.pixel_core.specs.Rgba.{clear};
 ghost use Rattle.doc_model.specs.declared.tree.Change.TheVariants.{Layer, Group};
 ghost use Rattle.doc_model.specs.declared.command.Command.TheVariants.{Change as Changes};
@@ -10,7 +11,7 @@ use crate::stroke::add_block;
 use doc_model::{Canvas, Change, Command};
 use geom_core::NoMemory;
 use pixel_core::Pixel;
-use script_text::Script;
+use script_text::{MakeRefusal, Script};
 use std::alloc::Global;
 
 /// How many strokes there are.
@@ -77,9 +78,10 @@ fn commands_of(alloc: Global, number: u32) -> Result<Vec<Command>, NoMemory>
 ///
 /// # Errors
 /// `NoMemory` where no memory is left.
-#[tactic(auto, unfolding(crate::specs::Demo::demo))]
+#[tactic(auto, using(crate::proofs::Whole::demo_is_script), unfolding(crate::specs::Demo::demo))]
 pub fn script_of(alloc: Global, number: u32) -> Result<Script, NoMemory>
-    ensures { IfOk result (λ s. s ≡ demo number) }
+    ensures made { IfOk result (λ s. s ≡ demo number) }
+    ensures script { is_script (demo number) ≡ true }
 {
     let canvas = Canvas {
         w: 800,
@@ -87,6 +89,9 @@ pub fn script_of(alloc: Global, number: u32) -> Result<Script, NoMemory>
         paper: Pixel::new(255, 255, 255, 255),
     };
     let commands = commands_of(alloc, number)?;
-    // These commands are a script for every number, so that want of memory is the only refusal.
-    Script::from_commands(alloc, canvas, commands).map_err(|_| NoMemory)
+    match Script::from_commands(alloc, canvas, commands) {
+        Ok(script) => Ok(script),
+        Err(MakeRefusal::NoMemory) => Err(NoMemory),
+        Err(MakeRefusal::NotScript) => unreachable!(),
+    }
 }
