@@ -24,8 +24,8 @@ pub enum Given {
 }
 
 /// The picture of a group on a rectangle of one tile: the visible children laid from the bottom,
-/// each with its look, on a clear backdrop of the group's own. This is an isolated group of W3C's
-/// Compositing and Blending Level 1, section 3. Outside the rectangle the tile is clear.
+/// each with its look, on a clear backdrop of the group's own: an isolated group in the words of
+/// W3C's Compositing and Blending Level 1. Outside the rectangle the tile is clear.
 ///
 /// The looks and the tiles are those of the children in their order from the bottom, and columns
 /// and rows of the rectangle count from the tile's corner.
