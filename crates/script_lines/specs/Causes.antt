@@ -1,7 +1,7 @@
 -- The texts of causes, and steps of which the first that fails gives the cause.
 use Rattle.std.specs.Prelude.{ℕ, List, codes, Result, Ok, Err}
 use Rattle.script_lines.specs.declared.cause.Cause.{Cause}
-use Rattle.script_lines.specs.declared.cause.Cause.TheVariants.{UnknownWord, FieldCount, Number, Range, OutOfWorld, UnknownStroke, ClosedStroke, UsedAgain, CanvasMissing, CanvasAgain, TooManyJobs, TooManyExports, StrokeLeft, NotBuilt}
+use Rattle.script_lines.specs.declared.cause.Cause.TheVariants.{UnknownWord, FieldCount, Number, Range, OutOfWorld, UnknownStroke, ClosedStroke, UsedAgain, CanvasMissing, CanvasAgain, TooManyJobs, TooManyExports, StrokeLeft}
 
 -- what is told of a cause
 abbrev pub text : Cause → List ℕ
@@ -18,7 +18,6 @@ text CanvasAgain = codes "canvas repeated"
 text TooManyJobs = codes "too many jobs"
 text TooManyExports = codes "too many exports"
 text StrokeLeft = codes "stroke left open"
-text NotBuilt = codes "not built yet"
 
 -- a step after another: the first that fails gives the cause
 infixl 10 ◌>>=◌

@@ -32,8 +32,6 @@ pub enum Cause {
     TooManyExports,
     /// The stroke is never closed.
     StrokeLeft,
-    /// The script is well formed, but the program can't paint it yet.
-    NotBuilt,
 }
 
 impl Cause {
@@ -55,7 +53,6 @@ impl Cause {
             Cause::TooManyJobs => "too many jobs",
             Cause::TooManyExports => "too many exports",
             Cause::StrokeLeft => "stroke left open",
-            Cause::NotBuilt => "not built yet",
         }
     }
 }

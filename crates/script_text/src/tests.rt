@@ -7,12 +7,12 @@ use std::alloc::Global;
 /// The first fault of a script of up to 1,000 bytes.
 fn fault(alloc: Global, bytes: &[u8]) -> Option<(u32, Cause)> {
     if bytes.len() > 1000 {
-        return Some((0, Cause::NotBuilt));
+        return Some((0, Cause::StrokeLeft));
     }
     match read(alloc, bytes) {
         Ok(_) => None,
         Err(ReadRefusal::Fault(fault)) => Some((fault.line, fault.cause)),
-        Err(ReadRefusal::NoMemory) => Some((0, Cause::NotBuilt)),
+        Err(ReadRefusal::NoMemory) => Some((0, Cause::StrokeLeft)),
     }
 }
 
