@@ -12,13 +12,6 @@ fn is_blank(b: u8) -> bool
     b == b' ' || b == b'\t' || b == b'\r'
 }
 
-// The pieces of a line between blanks.
-fn pieces_of<'a>(alloc: Global, line: &'a [u8]) -> Result<Vec<&'a [u8]>, AllocError>
-    ensures { IfOk result (λ v. pointed v.items ≡ slice_split blank line.now) }
-{
-    line.split(|b| is_blank(*b)).collect(alloc)
-}
-
 /// The lines between line feeds.
 pub fn lines_of<'a>(alloc: Global, bytes: &'a [u8]) -> Result<Vec<&'a [u8]>, AllocError>
     ensures { IfOk result (λ v. pointed v.items ≡ slice_split (λ b. b == 10) bytes.now) }
@@ -30,14 +23,9 @@ pub fn lines_of<'a>(alloc: Global, bytes: &'a [u8]) -> Result<Vec<&'a [u8]>, All
 pub fn fields_of<'a>(alloc: Global, line: &'a [u8]) -> Result<Vec<&'a [u8]>, AllocError>
     ensures { IfOk result (λ v. pointed v.items ≡ fields line.now) }
 {
-    let pieces = pieces_of(alloc, line)?;
-    let mut found = Vec::new(alloc);
-    for piece in &pieces {
-        if !piece.is_empty() {
-            found.push(*piece)?;
-        }
-    }
-    Ok(found)
+    line.split(|b| is_blank(*b))
+        .filter(|piece| !piece.is_empty())
+        .collect(alloc)
 }
 
 /// Whether the fields of a line are those of a command.
