@@ -47,10 +47,10 @@ abbrev pub part : ℕ → List Node → List Node
 part q [] = []
 part q (n ∷ ns) = cond (eqb n.id q) (n ∷ deeper n.depth ns) (part q ns)
 
--- the id of the last node before q that stands two levels above the depth d, or best
+-- the id of the last node before q that stands above the depth d, or best
 abbrev pub last_above : ℕ → ℕ → ℕ → List Node → Option ℕ
 last_above q d best [] = None
-last_above q d best (n ∷ ns) = cond (eqb n.id q) (Some best) (last_above q d (cond (eqb (n.depth + 2) d) n.id best) ns)
+last_above q d best (n ∷ ns) = cond (eqb n.id q) (Some best) (last_above q d (cond (ltb n.depth d) n.id best) ns)
 
 -- one more
 one_more : (m : ℕ) → suc m ≡ 1 + m
@@ -127,7 +127,7 @@ kid_at_is d k (n ∷ ns) = go (ltb n.depth d) refl (eqb n.depth d) refl (kid_at_
     go false h false e i j = i ∙ ap (λ x. side_at k (cond x rest none)) (sym (is_less d n.depth h e))
 
 -- what is left begins with the node at hand
-next_node : (nodes : List Node) (i : ℕ) (d : Node) → i < length nodes → drop i nodes ≡ get_or nodes i d ∷ drop (i + 1) nodes
+pub next_node : (nodes : List Node) (i : ℕ) (d : Node) → i < length nodes → drop i nodes ≡ get_or nodes i d ∷ drop (i + 1) nodes
 next_node nodes i d h = rw (add-one, drop-cons nodes i d) refl
 
 -- a slice to the end

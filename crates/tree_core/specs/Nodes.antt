@@ -56,6 +56,11 @@ abbrev pub nodes_before : ℕ → ℕ → List Node → ℕ
 nodes_before d k [] = 0
 nodes_before d k (n ∷ ns) = if nat_lt n.depth d then 0 else (if n.depth == d then (if k == 0 then 0 else suc (nodes_before d (k - 1) ns)) else suc (nodes_before d k ns))
 
+-- the id of the last node above the depth d, or best where there is none
+abbrev pub last_low : ℕ → ℕ → List Node → ℕ
+last_low d best [] = best
+last_low d best (n ∷ ns) = last_low d (if nat_lt n.depth d then n.id else best) ns
+
 -- the greatest depth, or 0 where there is no node
 abbrev pub greatest_depth : List Node → ℕ
 greatest_depth [] = 0

@@ -1,12 +1,12 @@
 //! Passes over the nodes of a tree, each before those in it, that make another list of them.
 
-ghost use Rattle.std.specs.Prelude.{◌≡◌, ℕ, ◌≤◌, ◌+◌, ◌-◌, length, ◌++◌, map, take, drop, nat_lt};
-ghost use Rattle.std.specs.List.{take_while};
+ghost use Rattle.std.specs.Prelude.{◌≡◌, ℕ, ◌≤◌, ◌+◌, ◌-◌, length, ◌++◌, ◌==◌, map, take, drop, nat_lt, is_some};
+ghost use Rattle.std.specs.List.{find, take_while};
 ghost use Rattle.doc_model.specs.Flat.{flat};
 ghost use Rattle.doc_model.specs.Forest.{depth, only, without};
 ghost use Rattle.tree_core.specs.Nodes.{rows_of, tree_of, node_with_look, moved_node, IsKept};
 
-use crate::node::{Node, below, moved_node, node_with_look};
+use crate::node::{Node, below, moved_node};
 use arrayvec::ArrayVec;
 use doc_model::Look;
 
@@ -32,16 +32,19 @@ pub fn without(nodes: &[Node], id: u16) -> ArrayVec<Node, 256>
     left
 }
 
-/// The nodes, that one with another look.
-pub fn with_look(nodes: &[Node], id: u16, look: Look) -> ArrayVec<Node, 256>
-    requires { length nodes.now ≤ 256 }
-    ensures { result.items ≡ map (node_with_look id look) nodes.now }
+/// Gives the node with that id another look, and tells whether there is one.
+pub fn set_look(nodes: &mut [Node], id: u16, look: Look) -> bool
+    ensures set { nodes.new ≡ map (node_with_look id look) nodes.old }
+    ensures there { result ≡ is_some (find (λ n. n.id == id) nodes.old) }
 {
-    let mut left: ArrayVec<Node, 256> = ArrayVec::new();
-    for n in nodes {
-        left.push(node_with_look(*n, id, look));
+    let mut there = false;
+    for i in 0..nodes.len() {
+        if nodes[i].id == id {
+            nodes[i].look = look;
+            there = true;
+        }
     }
-    left
+    there
 }
 
 /// The node with that id and those below it, or nothing where no node has it.

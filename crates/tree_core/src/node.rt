@@ -2,7 +2,7 @@
 
 ghost use Rattle.std.specs.Prelude.{◌≡◌, ℕ, ◌≤◌, ◌<◌, ◌+◌};
 ghost use Rattle.doc_model.specs.Changes.{new_look};
-ghost use Rattle.tree_core.specs.Nodes.{is_below, node_with_look, moved_node};
+ghost use Rattle.tree_core.specs.Nodes.{is_below, moved_node};
 
 use doc_model::Look;
 use pixel_core::Op;
@@ -35,17 +35,6 @@ pub fn new_node(depth: u8, id: u16, paints: bool) -> Node
             visible: true,
         },
         paints,
-    }
-}
-
-/// The node, with another look where it has that id.
-pub fn node_with_look(node: Node, id: u16, look: Look) -> Node
-    ensures { result ≡ node_with_look id look node }
-{
-    if node.id == id {
-        Node { look, ..node }
-    } else {
-        node
     }
 }
 

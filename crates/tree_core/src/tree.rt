@@ -9,8 +9,10 @@ ghost use Rattle.tree_core.specs.Nodes.{content_of};
 ghost use Rattle.doc_model.specs.Laws.{IsDocument};
 ghost use Rattle.doc_model.specs.Readers.{look_in, child_in};
 
-use crate::edits::{part, push_all, spliced, with_look, without};
-use crate::lookup::{above, child_at, children_at, deepest, find, group_in, nodes_after, place_at};
+use crate::edits::{part, push_all, set_look, spliced, without};
+use crate::lookup::{
+    above, child_at, children_at, deepest, find, group_in, inside, nodes_after, place_at,
+};
 use crate::node::{Node, new_node};
 use arrayvec::ArrayVec;
 use doc_model::{Change, Look, TreeFault};
@@ -103,7 +105,7 @@ impl Tree {
         ensures value { result ≡ parent id 0 self.now }
         ensures none { IsNone result ↔ (has id self.now ≡ false) }
     {
-        above(self.nodes.as_slice(), id, self.depth(id))
+        above(self.nodes.as_slice(), id)
     }
 
     /// How many children the root or a group has; 0 for any other id.
@@ -111,10 +113,9 @@ impl Tree {
         ensures value { result ≡ child_count id self.now }
         ensures few { result ≤ 256 }
     {
-        if self.is_group(id) {
-            self.children(id) as u16
-        } else {
-            self.no_children(id)
+        match inside(self.nodes.as_slice(), id) {
+            Some((rest, depth)) => children_at(rest, depth) as u16,
+            None => 0,
         }
     }
 
@@ -122,10 +123,9 @@ impl Tree {
     pub fn child(&self, id: u16, place: u16) -> Option<u16>
         ensures { result ≡ child_in id place self.now }
     {
-        if self.is_group(id) {
-            self.group_child(id, place)
-        } else {
-            self.lone_child(id, place)
+        match inside(self.nodes.as_slice(), id) {
+            Some((rest, depth)) => child_at(rest, depth, place),
+            None => None,
         }
     }
 
@@ -191,35 +191,6 @@ impl Tree {
         ensures few { result ≤ 256 }
     {
         children_at(nodes_after(self.nodes.as_slice(), id), self.depth(id))
-    }
-
-    /// What is no group has no children.
-    fn no_children(&self, id: u16) -> u16
-        requires { takes id self.now ≡ false }
-        ensures value { result ≡ child_count id self.now }
-        ensures few { result ≤ 256 }
-    {
-        0
-    }
-
-    /// The child of the root or a group at that place.
-    fn group_child(&self, id: u16, place: u16) -> Option<u16>
-        requires { takes id self.now ≡ true }
-        ensures { result ≡ child_in id place self.now }
-    {
-        child_at(
-            nodes_after(self.nodes.as_slice(), id),
-            self.depth(id),
-            place,
-        )
-    }
-
-    /// What is no group has no child anywhere.
-    fn lone_child(&self, id: u16, place: u16) -> Option<u16>
-        requires { takes id self.now ≡ false }
-        ensures { result ≡ child_in id place self.now }
-    {
-        None
     }
 
     /// Why a new node can't come.
@@ -293,11 +264,11 @@ impl Tree {
         ensures err { IfErr result (λ fault. changed (λ _. tt) (change.Look id look) self.old ≡ Err fault) }
         ensures same { OnErr result (self.new ≡ self.old) }
     {
-        if self.lacks(id) {
-            return Err(TreeFault::NoNode(id));
+        if set_look(self.nodes.as_mut_slice(), id, look) {
+            Ok(())
+        } else {
+            Err(TreeFault::NoNode(id))
         }
-        self.nodes = with_look(self.nodes.as_slice(), id, look);
-        Ok(())
     }
 
     /// Whether `inner` is the node `id` or stands below it.
