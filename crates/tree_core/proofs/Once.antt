@@ -111,6 +111,14 @@ none_before q nodes i d k h e =
     let most : times_in q nodes ≤ 1 = once_in q nodes k in
     omega arith
 
+-- nor one after it
+pub none_after : (q : ℕ) (nodes : List Node) (i : ℕ) (d : Node) → IsKept nodes → i < length nodes → (get_or nodes i d).id ≡ q → times_in q (drop (i + 1) nodes) ≡ 0
+none_after q nodes i d k h e =
+    let all : times_in q nodes ≡ times_in q (take i nodes) + (cond (eqb (get_or nodes i d).id q) 1 0 + times_in q (drop (i + 1) nodes)) = ap (times_in q) (split_at nodes i d h) ∙ times_append q (take i nodes) (get_or nodes i d ∷ drop (i + 1) nodes) in
+    let one : cond {A = ℕ} (eqb (get_or nodes i d).id q) 1 0 ≡ 1 = counted q (get_or nodes i d) e in
+    let most : times_in q nodes ≤ 1 = once_in q nodes k in
+    omega arith
+
 -- so it is the first
 pub first_split : (q : ℕ) (front : List Node) (n : Node) (back : List Node) → times_in q front ≡ 0 → n.id ≡ q → first_with q (front ++ (n ∷ back)) ≡ Some n
 first_split q [] n back h e = taken (eqb n.id q) _ _ (grind (arith, nat_tests))

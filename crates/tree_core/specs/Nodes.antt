@@ -34,11 +34,6 @@ pub record IsKept (nodes : List Node) : Type 0 where
   pub once : IsTree (tree_of nodes)
   pub low : height (tree_of nodes) ≤ 16
 
--- whether the depth d lies below skip, the depth of a node that is left out
-abbrev pub is_below : Option ℕ → ℕ → Bool
-is_below None d = false
-is_below (Some k) d = nat_lt k d
-
 -- the node, with that look where it is q
 abbrev pub node_with_look : ℕ → Look → Node → Node
 node_with_look q look n = if n.id == q then record n { look = look } else n
@@ -65,3 +60,8 @@ last_low d best (n ∷ ns) = last_low d (if nat_lt n.depth d then n.id else best
 abbrev pub greatest_depth : List Node → ℕ
 greatest_depth [] = 0
 greatest_depth (n ∷ ns) = max n.depth (greatest_depth ns)
+
+-- how many levels a node has with those below it, which come after it
+abbrev pub levels : List Node → ℕ
+levels [] = 0
+levels (n ∷ ns) = (max n.depth (greatest_depth ns) + 1) - n.depth

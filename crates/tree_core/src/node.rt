@@ -2,7 +2,7 @@
 
 ghost use Rattle.std.specs.Prelude.{◌≡◌, ℕ, ◌≤◌, ◌<◌, ◌+◌};
 ghost use Rattle.doc_model.specs.Changes.{new_look};
-ghost use Rattle.tree_core.specs.Nodes.{is_below, moved_node};
+ghost use Rattle.tree_core.specs.Nodes.{moved_node};
 
 use doc_model::Look;
 use pixel_core::Op;
@@ -46,14 +46,4 @@ pub fn moved_node(node: Node, from: u8, to: u8) -> Node
         .saturating_sub(from as usize)
         .min(255) as u8;
     Node { depth, ..node }
-}
-
-/// Whether a node at that depth stands below one at the depth `skip`.
-pub fn below(skip: Option<u8>, depth: u8) -> bool
-    ensures { result ≡ is_below skip depth }
-{
-    match skip {
-        Some(d) => d < depth,
-        None => false,
-    }
 }

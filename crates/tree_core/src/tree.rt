@@ -9,9 +9,10 @@ ghost use Rattle.tree_core.specs.Nodes.{content_of};
 ghost use Rattle.doc_model.specs.Laws.{IsDocument};
 ghost use Rattle.doc_model.specs.Readers.{look_in, child_in};
 
-use crate::edits::{part, push_all, set_look, spliced, without};
+use crate::edits::{push_all, set_look, spliced, without};
 use crate::lookup::{
-    above, child_at, children_at, deepest, find, group_in, inside, nodes_after, place_at,
+    above, child_at, children_at, find, group_in, inside, levels, nodes_after, others_at, part,
+    place_at,
 };
 use crate::node::{Node, new_node};
 use arrayvec::ArrayVec;
@@ -271,54 +272,29 @@ impl Tree {
         }
     }
 
-    /// Whether `inner` is the node `id` or stands below it.
-    fn stands_in(&self, inner: u16, id: u16) -> bool
-        ensures { result ≡ has inner (only id self.now) }
-    {
-        let moved = part(self.nodes.as_slice(), id);
-        find(moved.as_slice(), inner).is_some()
-    }
-
-    /// How many levels the node has with those below it.
-    fn height(&self, id: u16) -> usize
-        requires { has id self.now ≡ true }
-        ensures value { result ≡ height (only id self.now) }
-        ensures low { result ≤ 257 }
-    {
-        let moved = part(self.nodes.as_slice(), id);
-        (deepest(moved.as_slice()) as usize + 2).saturating_sub(self.depth(id) as usize)
-    }
-
-    /// The tree without the node and all below it; every other group stays one.
-    fn cut_out(&self, id: u16) -> Tree
-        ensures value { result ≡ without id self.now }
-        ensures groups { (q : ℕ) → has q (only id self.now) ≡ false → takes q result ≡ takes q self.now }
-    {
-        Tree {
-            nodes: without(self.nodes.as_slice(), id),
-        }
-    }
-
     /// Why a node can't be moved.
     fn no_place(&self, id: u16, parent: u16, place: u8) -> Option<TreeFault>
         ensures { result ≡ no_place id parent place self.now }
     {
-        if self.lacks(id) {
+        let nodes = self.nodes.as_slice();
+        let moved = part(nodes, id);
+        if moved.is_empty() {
             return Some(TreeFault::NoNode(id));
         }
-        if !self.has(parent) {
-            return Some(TreeFault::NoNode(parent));
-        }
-        if !self.is_group(parent) {
-            return Some(TreeFault::NotGroup(parent));
-        }
-        if self.stands_in(parent, id) {
+        let Some((rest, depth)) = inside(nodes, parent) else {
+            return Some(if self.holds(parent) {
+                TreeFault::NotGroup(parent)
+            } else {
+                TreeFault::NoNode(parent)
+            });
+        };
+        if find(moved, parent).is_some() {
             return Some(TreeFault::IntoItself(id));
         }
-        if self.depth(parent) as usize + self.height(id) > MOST_DEPTH as usize {
+        if depth as usize + levels(moved) > MOST_DEPTH as usize {
             return Some(TreeFault::TooDeep(MOST_DEPTH));
         }
-        if self.cut_out(id).children(parent) < place as usize {
+        if others_at(rest, depth, id) < place as usize {
             return Some(TreeFault::BadPlace(place));
         }
         None
@@ -350,7 +326,7 @@ impl Tree {
         let left = without(self.nodes.as_slice(), id);
         let rest = nodes_after(left.as_slice(), parent);
         let at = left.len() - rest.len() + place_at(rest, to, place);
-        self.nodes = spliced(left.as_slice(), at, moved.as_slice(), from, to);
+        self.nodes = spliced(left.as_slice(), at, moved, from, to);
     }
 }
 
