@@ -10,7 +10,7 @@ use Rattle.doc_model.specs.Readers.{side_at, child_in}
 use Rattle.tree_core.proofs.Between.{Between, between}
 
 -- what is read after a group, at its children's depth, are its children
-read_held : (q : ℕ) (nodes : List Node) (b : Between q nodes) (t : Tree) → tree_of nodes ≡ t → (d : ℕ) (rest : List Node) → d ≡ depth q t → rest ≡ nodes_after q nodes → read d (rows_of rest) ≡ b.held
+pub read_held : (q : ℕ) (nodes : List Node) (b : Between q nodes) (t : Tree) → tree_of nodes ≡ t → (d : ℕ) (rest : List Node) → d ≡ depth q t → rest ≡ nodes_after q nodes → read d (rows_of rest) ≡ b.held
 read_held q nodes b t is d rest e h =
     ap (λ x. read x (rows_of rest)) (e ∙ ap (depth q) (sym is)) ∙ ap (λ xs. read (depth q (tree_of nodes)) (rows_of xs)) h ∙ ap (read (depth q (tree_of nodes))) b.rest ∙ read-flat (depth q (tree_of nodes)) b.held b.more b.ends
 

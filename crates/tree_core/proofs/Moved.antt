@@ -60,7 +60,7 @@ deepest_flat k (group id look nodes rest) =
     ])
 
 -- a node stands in its own part
-has_only : (q : ℕ) (f : Tree) → has q f ≡ true → has q (only q f) ≡ true
+pub has_only : (q : ℕ) (f : Tree) → has q f ≡ true → has q (only q f) ≡ true
 has_only q none h = h
 has_only q (paint id look x rest) h = go (λ e. has_only q rest e) (eqb q id) refl h
   where

@@ -1,5 +1,5 @@
 -- The group round a node.
-use Rattle.std.proofs.Common.{◌≡◌, ℕ, suc, zero, ◌+◌, ◌≤◌, Bool, true, false, ◌||◌, cond, Option, IsNone, ◌↔◌, is_some, Some, None, List, [], ◌∷◌, ◌++◌, map, refl, sym, ap, ◌∙◌, arith, eqb, append_assoc, append-nil}
+use Rattle.std.proofs.Common.{◌≡◌, ℕ, suc, zero, ◌+◌, ◌≤◌, Bool, true, false, ◌||◌, cond, Option, IsNone, ◌↔◌, is_some, Some, None, List, [], ◌∷◌, ◌++◌, map, refl, sym, ap, ◌∙◌, arith, eqb, ltb, append_assoc, append-nil}
 use Rattle.std.proofs.lemmas.Bool.Decides.{nat_tests}
 use Rattle.geom_core.proofs.Tests.{kept, none_left, none_right}
 use Rattle.doc_model.specs.Forest.{none, paint, group, has, depth, parent}
@@ -11,29 +11,29 @@ use Rattle.tree_core.proofs.Kept.{Rows}
 use Rattle.tree_core.proofs.Passes.{last_above}
 use Rattle.tree_core.proofs.Depths.{depth_some}
 
--- the id of the last row before q that stands two levels above the depth d, or best
+-- the id of the last row before q that stands above the depth d, or best
 abbrev row_last : ℕ → ℕ → ℕ → Rows → Option ℕ
 row_last q d best [] = None
-row_last q d best (r ∷ rs) = cond (eqb q r.id) (Some best) (row_last q d (cond (eqb (r.depth + 2) d) r.id best) rs)
+row_last q d best (r ∷ rs) = cond (eqb q r.id) (Some best) (row_last q d (cond (ltb r.depth d) r.id best) rs)
 
--- a row so high isn't the one
-not_two : (e d : ℕ) → d ≤ suc e → eqb (e + 2) d ≡ false
-not_two e d h = grind (arith, nat_tests)
+-- a row in this depth or below isn't the one
+not_high : (e d : ℕ) → d ≤ e → ltb e d ≡ false
+not_high e d h = grind (arith, nat_tests)
 
 -- past nodes among which q isn't: something may be remembered, but nothing where q stands in this row or above
-skip : (q d best e : ℕ) (f : Tree) (rows : Rows) → has q f ≡ false → (best' : ℕ) × (row_last q d best (flat e f ++ rows) ≡ row_last q d best' rows) × (d ≤ suc e → best' ≡ best)
+skip : (q d best e : ℕ) (f : Tree) (rows : Rows) → has q f ≡ false → (best' : ℕ) × (row_last q d best (flat e f ++ rows) ≡ row_last q d best' rows) × (d ≤ e → best' ≡ best)
 skip q d best e none rows h = (best, refl, λ l. refl)
 skip q d best e (paint id look x rest) rows h =
-    let i : (best' : ℕ) × (row_last q d (cond (eqb (e + 2) d) id best) (flat e rest ++ rows) ≡ row_last q d best' rows) × (d ≤ suc e → best' ≡ cond (eqb (e + 2) d) id best) = skip q d (cond (eqb (e + 2) d) id best) e rest rows (none_right (eqb q id) _ h) in
-    (i.0, kept (eqb q id) _ _ (none_left (eqb q id) _ h) ∙ i.1, λ l. i.2 l ∙ kept (eqb (e + 2) d) id best (not_two e d l))
+    let i : (best' : ℕ) × (row_last q d (cond (ltb e d) id best) (flat e rest ++ rows) ≡ row_last q d best' rows) × (d ≤ e → best' ≡ cond (ltb e d) id best) = skip q d (cond (ltb e d) id best) e rest rows (none_right (eqb q id) _ h) in
+    (i.0, kept (eqb q id) _ _ (none_left (eqb q id) _ h) ∙ i.1, λ l. i.2 l ∙ kept (ltb e d) id best (not_high e d l))
 skip q d best e (group id look nodes rest) rows h =
-    let b : ℕ = cond (eqb (e + 2) d) id best in
-    let m : (best' : ℕ) × (row_last q d (cond (eqb (e + 2) d) id best) (flat (suc e) nodes ++ (flat e rest ++ rows)) ≡ row_last q d best' (flat e rest ++ rows)) × (d ≤ suc (suc e) → best' ≡ cond (eqb (e + 2) d) id best) =
-    skip q d (cond (eqb (e + 2) d) id best) (suc e) nodes (flat e rest ++ rows) (none_left (has q nodes) _ (none_right (eqb q id) _ h)) in
-    let i : (best' : ℕ) × (row_last q d m.0 (flat e rest ++ rows) ≡ row_last q d best' rows) × (d ≤ suc e → best' ≡ m.0) = skip q d m.0 e rest rows (none_right (has q nodes) _ (none_right (eqb q id) _ h)) in (
+    let b : ℕ = cond (ltb e d) id best in
+    let m : (best' : ℕ) × (row_last q d (cond (ltb e d) id best) (flat (suc e) nodes ++ (flat e rest ++ rows)) ≡ row_last q d best' (flat e rest ++ rows)) × (d ≤ suc e → best' ≡ cond (ltb e d) id best) =
+    skip q d (cond (ltb e d) id best) (suc e) nodes (flat e rest ++ rows) (none_left (has q nodes) _ (none_right (eqb q id) _ h)) in
+    let i : (best' : ℕ) × (row_last q d m.0 (flat e rest ++ rows) ≡ row_last q d best' rows) × (d ≤ e → best' ≡ m.0) = skip q d m.0 e rest rows (none_right (has q nodes) _ (none_right (eqb q id) _ h)) in (
       i.0,
-      kept (eqb q id) _ _ (none_left (eqb q id) _ h) ∙ ap (row_last q d (cond (eqb (e + 2) d) id best)) (append_assoc (flat (suc e) nodes) (flat e rest) rows) ∙ m.1 ∙ i.1,
-      λ l. i.2 l ∙ m.2 (omega arith) ∙ kept (eqb (e + 2) d) id best (not_two e d l),
+      kept (eqb q id) _ _ (none_left (eqb q id) _ h) ∙ ap (row_last q d (cond (ltb e d) id best)) (append_assoc (flat (suc e) nodes) (flat e rest) rows) ∙ m.1 ∙ i.1,
+      λ l. i.2 l ∙ m.2 (omega arith) ∙ kept (ltb e d) id best (not_high e d l),
     )
 
 -- the parent of a node below the first row doesn't hang on what is round all
@@ -51,34 +51,34 @@ parent_deep q a b (group id look nodes rest) h = go (λ l. parent_deep q a b res
     go r false true h = refl
     go r false false h = r h
 
--- a row just so high is
-two_same : (e d : ℕ) → d ≡ e + 2 → eqb (e + 2) d ≡ true
-two_same e d h = grind (arith, nat_tests)
+-- the row of the group is
+high : (e d : ℕ) → d ≡ e + 1 → ltb e d ≡ true
+high e d h = grind (arith, nat_tests)
 
 -- with what was remembered, or where it doesn't count
-remembered : (q a b d e : ℕ) (f : Tree) → has q f ≡ true → d ≡ e + depth q f → (d ≤ suc e → a ≡ b) → parent q a f ≡ parent q b f
+remembered : (q a b d e : ℕ) (f : Tree) → has q f ≡ true → suc d ≡ e + depth q f → (d ≤ e → a ≡ b) → parent q a f ≡ parent q b f
 remembered q a b d e f h at same = go k.0 refl
   where
     k : (k : ℕ) × (suc k ≡ depth q f)
     k = depth_some q f h
 
     go : (n : ℕ) → k.0 ≡ n → parent q a f ≡ parent q b f
-    go zero z = let one : depth q f ≡ 1 = sym k.1 ∙ ap suc z in let l : d ≤ suc e = omega arith in ap (λ n. parent q n f) (same l)
+    go zero z = let one : depth q f ≡ 1 = sym k.1 ∙ ap suc z in let l : d ≤ e = omega arith in ap (λ n. parent q n f) (same l)
     go (suc n) z = let two : depth q f ≡ suc (suc n) = sym k.1 ∙ ap suc z in parent_deep q a b f (omega arith)
 
 -- it is the group round q
-last_flat : (q d best e : ℕ) (f : Tree) (rows : Rows) → has q f ≡ true → d ≡ e + depth q f → row_last q d best (flat e f ++ rows) ≡ parent q best f
+last_flat : (q d best e : ℕ) (f : Tree) (rows : Rows) → has q f ≡ true → suc d ≡ e + depth q f → row_last q d best (flat e f ++ rows) ≡ parent q best f
 last_flat q d best e none rows h at = absurd (let t : false ≡ true = h in cc)
 last_flat q d best e (paint id look x rest) rows h at = go (λ b g a. last_flat q d b e rest rows g a) (eqb q id) h at
   where
-    go : ((b : ℕ) → has q rest ≡ true → d ≡ e + depth q rest → row_last q d b (flat e rest ++ rows) ≡ parent q b rest) → (t : Bool) → (t || has q rest) ≡ true → d ≡ e + cond t 1 (depth q rest)
-        → cond t (Some best) (row_last q d (cond (eqb (e + 2) d) id best) (flat e rest ++ rows)) ≡ cond t (Some best) (parent q best rest)
+    go : ((b : ℕ) → has q rest ≡ true → suc d ≡ e + depth q rest → row_last q d b (flat e rest ++ rows) ≡ parent q b rest) → (t : Bool) → (t || has q rest) ≡ true → suc d ≡ e + cond t 1 (depth q rest)
+        → cond t (Some best) (row_last q d (cond (ltb e d) id best) (flat e rest ++ rows)) ≡ cond t (Some best) (parent q best rest)
     go r true h at = refl
-    go r false h at = r (cond (eqb (e + 2) d) id best) h at ∙ remembered q (cond (eqb (e + 2) d) id best) best d e rest h at (λ l. kept (eqb (e + 2) d) id best (not_two e d l))
+    go r false h at = r (cond (ltb e d) id best) h at ∙ remembered q (cond (ltb e d) id best) best d e rest h at (λ l. kept (ltb e d) id best (not_high e d l))
 last_flat q d best e (group id look nodes rest) rows h at = go (λ b g a. last_flat q d b (suc e) nodes (flat e rest ++ rows) g a) (λ b g a. last_flat q d b e rest rows g a) (eqb q id) (has q nodes) refl h at
   where
     mid : ℕ
-    mid = cond (eqb (e + 2) d) id best
+    mid = cond (ltb e d) id best
 
     all : Rows
     all = (flat (suc e) nodes ++ flat e rest) ++ rows
@@ -86,39 +86,39 @@ last_flat q d best e (group id look nodes rest) rows h at = go (λ b g a. last_f
     assoc : all ≡ flat (suc e) nodes ++ (flat e rest ++ rows)
     assoc = append_assoc (flat (suc e) nodes) (flat e rest) rows
 
-    go : ((b : ℕ) → has q nodes ≡ true → d ≡ suc e + depth q nodes → row_last q d b (flat (suc e) nodes ++ (flat e rest ++ rows)) ≡ parent q b nodes) → ((b : ℕ) → has q rest ≡ true → d ≡ e + depth q rest → row_last q d b (flat e rest ++ rows) ≡ parent q b rest)
-        → (t u : Bool) → has q nodes ≡ u → (t || (u || has q rest)) ≡ true → d ≡ e + cond t 1 (cond u (suc (depth q nodes)) (depth q rest))
+    go : ((b : ℕ) → has q nodes ≡ true → suc d ≡ suc e + depth q nodes → row_last q d b (flat (suc e) nodes ++ (flat e rest ++ rows)) ≡ parent q b nodes) → ((b : ℕ) → has q rest ≡ true → suc d ≡ e + depth q rest → row_last q d b (flat e rest ++ rows) ≡ parent q b rest)
+        → (t u : Bool) → has q nodes ≡ u → (t || (u || has q rest)) ≡ true → suc d ≡ e + cond t 1 (cond u (suc (depth q nodes)) (depth q rest))
         → cond t (Some best) (row_last q d mid all) ≡ cond t (Some best) (cond u (parent q id nodes) (parent q best rest))
     go m r true u i h at = refl
-    go m r false true i h at = ap (row_last q d mid) assoc ∙ m mid i (omega arith) ∙ remembered q mid id d (suc e) nodes i (omega arith) (λ l. here (eqb (e + 2) d) (two_same e d (low l)))
+    go m r false true i h at = ap (row_last q d mid) assoc ∙ m mid i (omega arith) ∙ remembered q mid id d (suc e) nodes i (omega arith) (λ l. here (ltb e d) (high e d (low l)))
       where
-        low : d ≤ suc (suc e) → d ≡ e + 2
+        low : d ≤ suc e → d ≡ e + 1
         low l = let k : (k : ℕ) × (suc k ≡ depth q nodes) = depth_some q nodes i in let n : suc k.0 ≡ depth q nodes = k.1 in omega arith
 
         here : (b : Bool) → b ≡ true → cond b id best ≡ id
         here b e = rw e refl
     go m r false false i h at =
-        let s : (best' : ℕ) × (row_last q d mid (flat (suc e) nodes ++ (flat e rest ++ rows)) ≡ row_last q d best' (flat e rest ++ rows)) × (d ≤ suc (suc e) → best' ≡ mid) = skip q d mid (suc e) nodes (flat e rest ++ rows) i in
-        ap (row_last q d mid) assoc ∙ s.1 ∙ r s.0 h at ∙ remembered q s.0 best d e rest h at (λ l. s.2 (omega arith) ∙ kept (eqb (e + 2) d) id best (not_two e d l))
+        let s : (best' : ℕ) × (row_last q d mid (flat (suc e) nodes ++ (flat e rest ++ rows)) ≡ row_last q d best' (flat e rest ++ rows)) × (d ≤ suc e → best' ≡ mid) = skip q d mid (suc e) nodes (flat e rest ++ rows) i in
+        ap (row_last q d mid) assoc ∙ s.1 ∙ r s.0 h at ∙ remembered q s.0 best d e rest h at (λ l. s.2 (omega arith) ∙ kept (ltb e d) id best (not_high e d l))
 
 -- what is not there has no parent
-parent_absent : (q a : ℕ) (f : Tree) → has q f ≡ false → parent q a f ≡ None
-parent_absent q a none h = refl
-parent_absent q a (paint id look x rest) h = kept (eqb q id) _ _ (none_left (eqb q id) _ h) ∙ parent_absent q a rest (none_right (eqb q id) _ h)
-parent_absent q a (group id look nodes rest) h = kept (eqb q id) _ _ (none_left (eqb q id) _ h) ∙ kept (has q nodes) _ _ (none_left (has q nodes) _ (none_right (eqb q id) _ h)) ∙ parent_absent q a rest (none_right (has q nodes) _ (none_right (eqb q id) _ h))
+pub parent_lost : (q a : ℕ) (f : Tree) → has q f ≡ false → parent q a f ≡ None
+parent_lost q a none h = refl
+parent_lost q a (paint id look x rest) h = kept (eqb q id) _ _ (none_left (eqb q id) _ h) ∙ parent_lost q a rest (none_right (eqb q id) _ h)
+parent_lost q a (group id look nodes rest) h = kept (eqb q id) _ _ (none_left (eqb q id) _ h) ∙ kept (has q nodes) _ _ (none_left (has q nodes) _ (none_right (eqb q id) _ h)) ∙ parent_lost q a rest (none_right (has q nodes) _ (none_right (eqb q id) _ h))
 
 -- the same of nodes
 last_rows : (q d best : ℕ) (nodes : List Node) → last_above q d best nodes ≡ row_last q d best (map row_of nodes)
 last_rows q d best [] = refl
-last_rows q d best (n ∷ ns) = ap (cond (eqb n.id q) (Some best)) (last_rows q d (cond (eqb (n.depth + 2) d) n.id best) ns) ∙ ap (λ b. cond b (Some best) (row_last q d (cond (eqb (n.depth + 2) d) n.id best) (map row_of ns))) (turned n.id q)
+last_rows q d best (n ∷ ns) = ap (cond (eqb n.id q) (Some best)) (last_rows q d (cond (ltb n.depth d) n.id best) ns) ∙ ap (λ b. cond b (Some best) (row_last q d (cond (ltb n.depth d) n.id best) (map row_of ns))) (turned n.id q)
 
 -- the last node above is the parent
-pub parent_is : (q d : ℕ) (nodes : List Node) (t : Tree) → IsKept nodes → tree_of nodes ≡ t → d ≡ depth q t → last_above q d 0 nodes ≡ parent q 0 t
+pub parent_is : (q d : ℕ) (nodes : List Node) (t : Tree) → IsKept nodes → tree_of nodes ≡ t → suc d ≡ depth q t → last_above q d 0 nodes ≡ parent q 0 t
 parent_is q d nodes t k is e = last_rows q d 0 nodes ∙ ap (row_last q d 0) (k.whole ∙ sym (append-nil (flat 0 (tree_of nodes)))) ∙ go (has q (tree_of nodes)) refl ∙ ap (parent q 0) is
   where
     go : (b : Bool) → has q (tree_of nodes) ≡ b → row_last q d 0 (flat 0 (tree_of nodes) ++ []) ≡ parent q 0 (tree_of nodes)
-    go true h = let at : d ≡ depth q (tree_of nodes) = e ∙ ap (depth q) (sym is) in last_flat q d 0 0 (tree_of nodes) [] h (omega arith)
-    go false h = (skip q d 0 0 (tree_of nodes) [] h).1 ∙ sym (parent_absent q 0 (tree_of nodes) h)
+    go true h = let at : suc d ≡ depth q (tree_of nodes) = e ∙ ap (depth q) (sym is) in last_flat q d 0 0 (tree_of nodes) [] h (omega arith)
+    go false h = (skip q d 0 0 (tree_of nodes) [] h).1 ∙ sym (parent_lost q 0 (tree_of nodes) h)
 
 -- a node that is there has a parent
 parented : (q a : ℕ) (f : Tree) → is_some (parent q a f) ≡ has q f

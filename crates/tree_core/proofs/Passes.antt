@@ -1,21 +1,26 @@
 -- What the passes over the nodes go through, and what it comes to.
-use Rattle.std.proofs.Common.{◌≡◌, ◌≢◌, ℕ, suc, ◌+◌, ◌-◌, Bool, true, false, not, ◌<◌, cond, length, get_or, add-one, drop-cons, Option, Some, None, List, [], ◌∷◌, ◌++◌, take, drop, refl, sym, ap, ◌∙◌, arith, eqb, ltb}
+use Rattle.std.proofs.Common.{◌≡◌, ◌≢◌, ℕ, suc, ◌+◌, ◌-◌, Bool, true, false, not, ◌&&◌, ◌<◌, cond, length, get_or, add-one, drop-cons, Option, Some, None, List, [], ◌∷◌, take, drop, refl, sym, ap, ◌∙◌, arith, eqb, ltb}
 use Rattle.std.specs.List.{find, position_or_len, take_while}
 use Rattle.std.proofs.lemmas.List.Sums.{take_while-cons}
 use Rattle.std.proofs.lemmas.Grind.{common_steps}
 use Rattle.std.proofs.lemmas.Bool.Decides.{nat_tests}
 use Rattle.geom_core.proofs.Tests.{kept, taken}
 use Rattle.doc_model.specs.declared.tree.Look.{Look}
-use Rattle.doc_model.specs.Forest.{none, width}
+use Rattle.doc_model.specs.Forest.{none, paint, group, width, without}
 use Rattle.doc_model.specs.Flat.{read, node}
 use Rattle.tree_core.specs.declared.node.Node.{Node}
-use Rattle.tree_core.specs.Nodes.{Tree, rows_of, content_of, is_below, nodes_after}
+use Rattle.tree_core.specs.Nodes.{Tree, rows_of, content_of, nodes_after}
 use Rattle.doc_model.specs.Readers.{side_at}
-use Rattle.tree_core.proofs.Choices.{same_choice}
+use Rattle.tree_core.proofs.Choices.{same_choice, turned}
 
 -- the first node with the id q
 abbrev pub first_with : ℕ → List Node → Option Node
 first_with q nodes = find (λ n. eqb n.id q) nodes
+
+-- whether the depth d lies below skip, the depth of a node that is left out
+abbrev is_below : Option ℕ → ℕ → Bool
+is_below None d = false
+is_below (Some k) d = ltb k d
 
 -- without the node q and those below it; skip is the depth of a node that was left out just before
 abbrev pub cut : ℕ → Option ℕ → List Node → List Node
@@ -37,6 +42,11 @@ abbrev pub kid_at : ℕ → ℕ → List Node → Option ℕ
 kid_at d k [] = None
 kid_at d k (n ∷ ns) = cond (ltb n.depth d) None (cond (eqb n.depth d) (cond (eqb k 0) (Some n.id) (kid_at d (k - 1) ns)) (kid_at d k ns))
 
+-- how many of them have another id than q
+abbrev pub others : ℕ → ℕ → List Node → ℕ
+others d q [] = 0
+others d q (n ∷ ns) = cond (ltb n.depth d) 0 (cond (eqb n.depth d && not (eqb n.id q)) (suc (others d q ns)) (others d q ns))
+
 -- the nodes at the front that are deeper
 abbrev pub deeper : ℕ → List Node → List Node
 deeper d [] = []
@@ -47,10 +57,10 @@ abbrev pub part : ℕ → List Node → List Node
 part q [] = []
 part q (n ∷ ns) = cond (eqb n.id q) (n ∷ deeper n.depth ns) (part q ns)
 
--- the id of the last node before q that stands two levels above the depth d, or best
+-- the id of the last node before q that stands above the depth d, or best
 abbrev pub last_above : ℕ → ℕ → ℕ → List Node → Option ℕ
 last_above q d best [] = None
-last_above q d best (n ∷ ns) = cond (eqb n.id q) (Some best) (last_above q d (cond (eqb (n.depth + 2) d) n.id best) ns)
+last_above q d best (n ∷ ns) = cond (eqb n.id q) (Some best) (last_above q d (cond (ltb n.depth d) n.id best) ns)
 
 -- one more
 one_more : (m : ℕ) → suc m ≡ 1 + m
@@ -104,6 +114,40 @@ kids_is d (n ∷ ns) = go (ltb n.depth d) refl (eqb n.depth d) refl (kids_is d n
     go false h true e i = ap suc i ∙ sym (width-node (content_of n.paints) n.id n.look inner rest)
     go false h false e i = i ∙ ap (λ x. width (cond x rest none)) (sym (is_less d n.depth h e))
 
+-- a node that is read counts once, unless it is q
+width-without : (q : ℕ) (c : Option (Unit {0})) (id : ℕ) (look : Look) (nodes rest : Tree) → width (without q (node c id look nodes rest)) ≡ cond (eqb q id) (width (without q rest)) (suc (width (without q rest)))
+width-without q None id look nodes rest = go (eqb q id)
+  where
+    go : (b : Bool) → width (cond b (without q rest) (group id look (without q nodes) (without q rest))) ≡ cond b (width (without q rest)) (suc (width (without q rest)))
+    go true = refl
+    go false = refl
+width-without q (Some x) id look nodes rest = go (eqb q id)
+  where
+    go : (b : Bool) → width (cond b (without q rest) (paint id look x (without q rest))) ≡ cond b (width (without q rest)) (suc (width (without q rest)))
+    go true = refl
+    go false = refl
+
+-- how many nodes but q are read at a depth
+pub others_is : (d q : ℕ) (nodes : List Node) → others d q nodes ≡ width (without q (read d (rows_of nodes)))
+others_is d q [] = refl
+others_is d q (n ∷ ns) = go (ltb n.depth d) refl (eqb n.depth d) refl (others_is d q ns)
+  where
+    rest : Tree
+    rest = read d (rows_of ns)
+
+    inner : Tree
+    inner = read (suc d) (rows_of ns)
+
+    turn : (b : Bool) (m : ℕ) → cond (not b) (suc m) m ≡ cond b m (suc m)
+    turn true m = refl
+    turn false m = refl
+
+    go : (b : Bool) → ltb n.depth d ≡ b → (t : Bool) → eqb n.depth d ≡ t → others d q ns ≡ width (without q rest)
+        → cond b 0 (cond (t && not (eqb n.id q)) (suc (others d q ns)) (others d q ns)) ≡ width (without q (cond t (node (content_of n.paints) n.id n.look inner rest) (cond (ltb d n.depth) rest none)))
+    go true h t e i = sym (ap (λ x. width (without q (cond x (node (content_of n.paints) n.id n.look inner rest) (cond (ltb d n.depth) rest none)))) (sym e ∙ (not_less d n.depth h).1) ∙ ap (λ x. width (without q (cond x rest none))) ((not_less d n.depth h).0))
+    go false h true e i = ap (λ m. cond (not (eqb n.id q)) (suc m) m) i ∙ turn (eqb n.id q) (width (without q rest)) ∙ ap (λ b. cond b (width (without q rest)) (suc (width (without q rest)))) (turned n.id q) ∙ sym (width-without q (content_of n.paints) n.id n.look inner rest)
+    go false h false e i = i ∙ ap (λ x. width (without q (cond x rest none))) (sym (is_less d n.depth h e))
+
 -- a node that is read stands at one place
 side_at-node : (k : ℕ) (c : Option (Unit {0})) (id : ℕ) (look : Look) (nodes rest : Tree) → side_at k (node c id look nodes rest) ≡ cond (eqb k 0) (Some id) (side_at (k - 1) rest)
 side_at-node k None id look nodes rest = refl
@@ -127,22 +171,12 @@ kid_at_is d k (n ∷ ns) = go (ltb n.depth d) refl (eqb n.depth d) refl (kid_at_
     go false h false e i j = i ∙ ap (λ x. side_at k (cond x rest none)) (sym (is_less d n.depth h e))
 
 -- what is left begins with the node at hand
-next_node : (nodes : List Node) (i : ℕ) (d : Node) → i < length nodes → drop i nodes ≡ get_or nodes i d ∷ drop (i + 1) nodes
+pub next_node : (nodes : List Node) (i : ℕ) (d : Node) → i < length nodes → drop i nodes ≡ get_or nodes i d ∷ drop (i + 1) nodes
 next_node nodes i d h = rw (add-one, drop-cons nodes i d) refl
 
 -- a slice to the end
-whole_rest : (nodes : List Node) (i : ℕ) → take (length nodes - i) (drop i nodes) ≡ drop i nodes
+pub whole_rest : (nodes : List Node) (i : ℕ) → take (length nodes - i) (drop i nodes) ≡ drop i nodes
 whole_rest nodes i = grind (arith, common_steps)
-
--- the node q is found, and those below it are added
-pub part_found : (q : ℕ) (nodes : List Node) (i : ℕ) (d : Node) (none_yet first all : List Node) → part q nodes ≡ part q (drop i nodes) → i < length nodes → (get_or nodes i d).id ≡ q → none_yet ≡ [] → first ≡ none_yet ++ get_or nodes i d ∷ []
-    → all ≡ first ++ take_while (λ m. ltb (get_or nodes i d).depth m.depth) (take (length nodes - (i + 1)) (drop (i + 1) nodes)) → all ≡ part q nodes
-part_found q nodes i d none_yet first all so h e n f a =
-    a ∙ ap (λ xs. xs ++ take_while (λ m. ltb (get_or nodes i d).depth m.depth) (take (length nodes - (i + 1)) (drop (i + 1) nodes))) (f ∙ ap (λ xs. xs ++ get_or nodes i d ∷ []) n)
-    ∙ ap (λ xs. get_or nodes i d ∷ take_while (λ m. ltb (get_or nodes i d).depth m.depth) xs) (whole_rest nodes (i + 1)) ∙ sym here
-  where
-    here : part q nodes ≡ get_or nodes i d ∷ take_while (λ m. ltb (get_or nodes i d).depth m.depth) (drop (i + 1) nodes)
-    here = so ∙ ap (part q) (next_node nodes i d h) ∙ taken (eqb (get_or nodes i d).id q) _ _ (grind (arith, nat_tests)) ∙ ap (λ xs. get_or nodes i d ∷ xs) (deeper_is (get_or nodes i d).depth (drop (i + 1) nodes))
 
 -- the child at a place is found
 pub kid_found : (l k : ℕ) (nodes : List Node) (i left : ℕ) (d : Node) → kid_at l k nodes ≡ kid_at l left (drop i nodes) → i < length nodes → (get_or nodes i d).depth ≡ l → left ≡ 0 → Some (get_or nodes i d).id ≡ kid_at l k nodes

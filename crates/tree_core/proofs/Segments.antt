@@ -45,7 +45,7 @@ deeper_ends d [] h = refl
 deeper_ends d (r ∷ rs) h = kept (ltb d r.depth) _ _ (not_less d r.depth h)
 
 -- nothing of a node that isn't there
-only_absent : (q : ℕ) (f : Tree) → has q f ≡ false → only q f ≡ none
+pub only_absent : (q : ℕ) (f : Tree) → has q f ≡ false → only q f ≡ none
 only_absent q none h = refl
 only_absent q (paint id look x rest) h = kept (eqb q id) _ _ (none_left (eqb q id) _ h) ∙ only_absent q rest (none_right (eqb q id) _ h)
 only_absent q (group id look nodes rest) h = kept (eqb q id) _ _ (none_left (eqb q id) _ h) ∙ ap (λ a. join a (only q rest)) (only_absent q nodes (none_left (has q nodes) _ (none_right (eqb q id) _ h))) ∙ only_absent q rest (none_right (has q nodes) _ (none_right (eqb q id) _ h))

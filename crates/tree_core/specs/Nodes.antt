@@ -34,11 +34,6 @@ pub record IsKept (nodes : List Node) : Type 0 where
   pub once : IsTree (tree_of nodes)
   pub low : height (tree_of nodes) ≤ 16
 
--- whether the depth d lies below skip, the depth of a node that is left out
-abbrev pub is_below : Option ℕ → ℕ → Bool
-is_below None d = false
-is_below (Some k) d = nat_lt k d
-
 -- the node, with that look where it is q
 abbrev pub node_with_look : ℕ → Look → Node → Node
 node_with_look q look n = if n.id == q then record n { look = look } else n
@@ -56,7 +51,17 @@ abbrev pub nodes_before : ℕ → ℕ → List Node → ℕ
 nodes_before d k [] = 0
 nodes_before d k (n ∷ ns) = if nat_lt n.depth d then 0 else (if n.depth == d then (if k == 0 then 0 else suc (nodes_before d (k - 1) ns)) else suc (nodes_before d k ns))
 
+-- the id of the last node above the depth d, or best where there is none
+abbrev pub last_low : ℕ → ℕ → List Node → ℕ
+last_low d best [] = best
+last_low d best (n ∷ ns) = last_low d (if nat_lt n.depth d then n.id else best) ns
+
 -- the greatest depth, or 0 where there is no node
 abbrev pub greatest_depth : List Node → ℕ
 greatest_depth [] = 0
 greatest_depth (n ∷ ns) = max n.depth (greatest_depth ns)
+
+-- how many levels a node has with those below it, which come after it
+abbrev pub levels : List Node → ℕ
+levels [] = 0
+levels (n ∷ ns) = (max n.depth (greatest_depth ns) + 1) - n.depth

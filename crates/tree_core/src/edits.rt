@@ -1,12 +1,13 @@
 //! Passes over the nodes of a tree, each before those in it, that make another list of them.
 
-ghost use Rattle.std.specs.Prelude.{◌≡◌, ℕ, ◌≤◌, ◌+◌, ◌-◌, length, ◌++◌, map, take, drop, nat_lt};
-ghost use Rattle.std.specs.List.{take_while};
+ghost use Rattle.std.specs.Prelude.{◌≡◌, ℕ, ◌≤◌, ◌+◌, ◌-◌, length, ◌++◌, ◌==◌, map, take, drop, nat_lt, is_some};
+ghost use Rattle.std.specs.List.{find, take_while};
 ghost use Rattle.doc_model.specs.Flat.{flat};
 ghost use Rattle.doc_model.specs.Forest.{depth, only, without};
 ghost use Rattle.tree_core.specs.Nodes.{rows_of, tree_of, node_with_look, moved_node, IsKept};
 
-use crate::node::{Node, below, moved_node, node_with_look};
+use crate::lookup::span;
+use crate::node::{Node, moved_node};
 use arrayvec::ArrayVec;
 use doc_model::Look;
 
@@ -17,61 +18,26 @@ pub fn without(nodes: &[Node], id: u16) -> ArrayVec<Node, 256>
     ensures kept { IsKept result.items }
     ensures tree { tree_of result.items ≡ without id (tree_of nodes.now) }
 {
+    let (start, end) = span(nodes, id);
     let mut left: ArrayVec<Node, 256> = ArrayVec::new();
-    let mut skip: Option<u8> = None;
-    for n in nodes {
-        if !below(skip, n.depth) {
-            if n.id == id {
-                skip = Some(n.depth);
-            } else {
-                skip = None;
-                left.push(*n);
-            }
-        }
-    }
+    push_all(&mut left, &nodes[..start]);
+    push_all(&mut left, &nodes[end..]);
     left
 }
 
-/// The nodes, that one with another look.
-pub fn with_look(nodes: &[Node], id: u16, look: Look) -> ArrayVec<Node, 256>
-    requires { length nodes.now ≤ 256 }
-    ensures { result.items ≡ map (node_with_look id look) nodes.now }
+/// Gives the node with that id another look, and tells whether there is one.
+pub fn set_look(nodes: &mut [Node], id: u16, look: Look) -> bool
+    ensures set { nodes.new ≡ map (node_with_look id look) nodes.old }
+    ensures there { result ≡ is_some (find (λ n. n.id == id) nodes.old) }
 {
-    let mut left: ArrayVec<Node, 256> = ArrayVec::new();
-    for n in nodes {
-        left.push(node_with_look(*n, id, look));
-    }
-    left
-}
-
-/// The node with that id and those below it, or nothing where no node has it.
-pub fn part(nodes: &[Node], id: u16) -> ArrayVec<Node, 256>
-    requires few { length nodes.now ≤ 256 }
-    requires kept { IsKept nodes.now }
-    ensures { rows_of result.items ≡ flat (depth id (tree_of nodes.now) - 1) (only id (tree_of nodes.now)) }
-{
-    let mut moved: ArrayVec<Node, 256> = ArrayVec::new();
+    let mut there = false;
     for i in 0..nodes.len() {
         if nodes[i].id == id {
-            moved.push(nodes[i]);
-            push_deeper(&mut moved, &nodes[i + 1..], nodes[i].depth);
-            return moved;
+            nodes[i].look = look;
+            there = true;
         }
     }
-    moved
-}
-
-/// Adds the nodes up to the first that isn't deeper.
-fn push_deeper(moved: &mut ArrayVec<Node, 256>, nodes: &[Node], depth: u8)
-    requires { length moved.old.items + length nodes.now ≤ 256 }
-    ensures { moved.new.items ≡ moved.old.items ++ take_while (λ n. nat_lt depth n.depth) nodes.now }
-{
-    for n in nodes {
-        if n.depth <= depth {
-            return;
-        }
-        moved.push(*n);
-    }
+    there
 }
 
 /// The nodes, with the moved ones set in at a place, below another depth.
@@ -92,9 +58,7 @@ pub fn push_all(all: &mut ArrayVec<Node, 256>, nodes: &[Node])
     requires { length all.old.items + length nodes.now ≤ 256 }
     ensures { all.new.items ≡ all.old.items ++ nodes.now }
 {
-    for n in nodes {
-        all.push(*n);
-    }
+    let _ = all.try_extend_from_slice(nodes);
 }
 
 /// Adds the nodes of a part, at their new depths.

@@ -2,7 +2,7 @@
 
 ghost use Rattle.std.specs.Prelude.{◌≡◌, ℕ, ◌≤◌, ◌<◌, ◌+◌};
 ghost use Rattle.doc_model.specs.Changes.{new_look};
-ghost use Rattle.tree_core.specs.Nodes.{is_below, node_with_look, moved_node};
+ghost use Rattle.tree_core.specs.Nodes.{moved_node};
 
 use doc_model::Look;
 use pixel_core::Op;
@@ -38,17 +38,6 @@ pub fn new_node(depth: u8, id: u16, paints: bool) -> Node
     }
 }
 
-/// The node, with another look where it has that id.
-pub fn node_with_look(node: Node, id: u16, look: Look) -> Node
-    ensures { result ≡ node_with_look id look node }
-{
-    if node.id == id {
-        Node { look, ..node }
-    } else {
-        node
-    }
-}
-
 /// A node of a part at its new depth: the children of the part's first node stood at `from`, and that node now stands at `to`.
 pub fn moved_node(node: Node, from: u8, to: u8) -> Node
     ensures { result ≡ moved_node from to node }
@@ -57,14 +46,4 @@ pub fn moved_node(node: Node, from: u8, to: u8) -> Node
         .saturating_sub(from as usize)
         .min(255) as u8;
     Node { depth, ..node }
-}
-
-/// Whether a node at that depth stands below one at the depth `skip`.
-pub fn below(skip: Option<u8>, depth: u8) -> bool
-    ensures { result ≡ is_below skip depth }
-{
-    match skip {
-        Some(d) => d < depth,
-        None => false,
-    }
 }

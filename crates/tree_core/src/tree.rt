@@ -9,8 +9,11 @@ ghost use Rattle.tree_core.specs.Nodes.{content_of};
 ghost use Rattle.doc_model.specs.Laws.{IsDocument};
 ghost use Rattle.doc_model.specs.Readers.{look_in, child_in};
 
-use crate::edits::{part, push_all, spliced, with_look, without};
-use crate::lookup::{above, child_at, children_at, deepest, find, group_in, nodes_after, place_at};
+use crate::edits::{push_all, set_look, spliced, without};
+use crate::lookup::{
+    above, child_at, children_at, find, group_in, inside, levels, nodes_after, others_at, part,
+    place_at,
+};
 use crate::node::{Node, new_node};
 use arrayvec::ArrayVec;
 use doc_model::{Change, Look, TreeFault};
@@ -103,7 +106,7 @@ impl Tree {
         ensures value { result ≡ parent id 0 self.now }
         ensures none { IsNone result ↔ (has id self.now ≡ false) }
     {
-        above(self.nodes.as_slice(), id, self.depth(id))
+        above(self.nodes.as_slice(), id)
     }
 
     /// How many children the root or a group has; 0 for any other id.
@@ -111,10 +114,9 @@ impl Tree {
         ensures value { result ≡ child_count id self.now }
         ensures few { result ≤ 256 }
     {
-        if self.is_group(id) {
-            self.children(id) as u16
-        } else {
-            self.no_children(id)
+        match inside(self.nodes.as_slice(), id) {
+            Some((rest, depth)) => children_at(rest, depth) as u16,
+            None => 0,
         }
     }
 
@@ -122,10 +124,9 @@ impl Tree {
     pub fn child(&self, id: u16, place: u16) -> Option<u16>
         ensures { result ≡ child_in id place self.now }
     {
-        if self.is_group(id) {
-            self.group_child(id, place)
-        } else {
-            self.lone_child(id, place)
+        match inside(self.nodes.as_slice(), id) {
+            Some((rest, depth)) => child_at(rest, depth, place),
+            None => None,
         }
     }
 
@@ -191,35 +192,6 @@ impl Tree {
         ensures few { result ≤ 256 }
     {
         children_at(nodes_after(self.nodes.as_slice(), id), self.depth(id))
-    }
-
-    /// What is no group has no children.
-    fn no_children(&self, id: u16) -> u16
-        requires { takes id self.now ≡ false }
-        ensures value { result ≡ child_count id self.now }
-        ensures few { result ≤ 256 }
-    {
-        0
-    }
-
-    /// The child of the root or a group at that place.
-    fn group_child(&self, id: u16, place: u16) -> Option<u16>
-        requires { takes id self.now ≡ true }
-        ensures { result ≡ child_in id place self.now }
-    {
-        child_at(
-            nodes_after(self.nodes.as_slice(), id),
-            self.depth(id),
-            place,
-        )
-    }
-
-    /// What is no group has no child anywhere.
-    fn lone_child(&self, id: u16, place: u16) -> Option<u16>
-        requires { takes id self.now ≡ false }
-        ensures { result ≡ child_in id place self.now }
-    {
-        None
     }
 
     /// Why a new node can't come.
@@ -293,38 +265,10 @@ impl Tree {
         ensures err { IfErr result (λ fault. changed (λ _. tt) (change.Look id look) self.old ≡ Err fault) }
         ensures same { OnErr result (self.new ≡ self.old) }
     {
-        if self.lacks(id) {
-            return Err(TreeFault::NoNode(id));
-        }
-        self.nodes = with_look(self.nodes.as_slice(), id, look);
-        Ok(())
-    }
-
-    /// Whether `inner` is the node `id` or stands below it.
-    fn stands_in(&self, inner: u16, id: u16) -> bool
-        ensures { result ≡ has inner (only id self.now) }
-    {
-        let moved = part(self.nodes.as_slice(), id);
-        find(moved.as_slice(), inner).is_some()
-    }
-
-    /// How many levels the node has with those below it.
-    fn height(&self, id: u16) -> usize
-        requires { has id self.now ≡ true }
-        ensures value { result ≡ height (only id self.now) }
-        ensures low { result ≤ 257 }
-    {
-        let moved = part(self.nodes.as_slice(), id);
-        (deepest(moved.as_slice()) as usize + 2).saturating_sub(self.depth(id) as usize)
-    }
-
-    /// The tree without the node and all below it; every other group stays one.
-    fn cut_out(&self, id: u16) -> Tree
-        ensures value { result ≡ without id self.now }
-        ensures groups { (q : ℕ) → has q (only id self.now) ≡ false → takes q result ≡ takes q self.now }
-    {
-        Tree {
-            nodes: without(self.nodes.as_slice(), id),
+        if set_look(self.nodes.as_mut_slice(), id, look) {
+            Ok(())
+        } else {
+            Err(TreeFault::NoNode(id))
         }
     }
 
@@ -332,22 +276,25 @@ impl Tree {
     fn no_place(&self, id: u16, parent: u16, place: u8) -> Option<TreeFault>
         ensures { result ≡ no_place id parent place self.now }
     {
-        if self.lacks(id) {
+        let nodes = self.nodes.as_slice();
+        let moved = part(nodes, id);
+        if moved.is_empty() {
             return Some(TreeFault::NoNode(id));
         }
-        if !self.has(parent) {
-            return Some(TreeFault::NoNode(parent));
-        }
-        if !self.is_group(parent) {
-            return Some(TreeFault::NotGroup(parent));
-        }
-        if self.stands_in(parent, id) {
+        let Some((rest, depth)) = inside(nodes, parent) else {
+            return Some(if self.holds(parent) {
+                TreeFault::NotGroup(parent)
+            } else {
+                TreeFault::NoNode(parent)
+            });
+        };
+        if find(moved, parent).is_some() {
             return Some(TreeFault::IntoItself(id));
         }
-        if self.depth(parent) as usize + self.height(id) > MOST_DEPTH as usize {
+        if depth as usize + levels(moved) > MOST_DEPTH as usize {
             return Some(TreeFault::TooDeep(MOST_DEPTH));
         }
-        if self.cut_out(id).children(parent) < place as usize {
+        if others_at(rest, depth, id) < place as usize {
             return Some(TreeFault::BadPlace(place));
         }
         None
@@ -379,7 +326,7 @@ impl Tree {
         let left = without(self.nodes.as_slice(), id);
         let rest = nodes_after(left.as_slice(), parent);
         let at = left.len() - rest.len() + place_at(rest, to, place);
-        self.nodes = spliced(left.as_slice(), at, moved.as_slice(), from, to);
+        self.nodes = spliced(left.as_slice(), at, moved, from, to);
     }
 }
 

@@ -1,6 +1,6 @@
-use Rattle.std.proofs.Common.{◌≡◌, drop}
-use Rattle.tree_core.proofs.Passes.{last_above}
+use Rattle.std.proofs.Common.{◌≡◌, ◌-◌, drop, length}
+use Rattle.tree_core.proofs.Once.{times_in}
 use Rattle.tree_core.proofs.lookup.above.Given as goal
 
-abbrev pub invariant-loop-n : goal.invariant-loop-n
-invariant-loop-n l = last_above l.id l.level 0 l.nodes ≡ last_above l.id l.level l.best (drop l.n-index l.nodes)
+abbrev pub invariant-loop-back : goal.invariant-loop-back
+invariant-loop-back l = times_in l.id (drop (length l.nodes - l.back) l.nodes) ≡ 0
