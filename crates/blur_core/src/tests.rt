@@ -7,8 +7,12 @@ use std::alloc::Global;
 use std::test::Fail;
 use tile_core::{Shot, Tile};
 
-/// The tile whose corner is (0, 0).
+/// The tile whose corner is (0, 0), and the one to the left of it.
 const ORIGIN: TileKey = TileKey { row: 0, col: 0 };
+
+const LEFT: TileKey = TileKey { row: 0, col: -1 };
+
+fn crosses<T: Send + Sync>(_x: &T) {}
 
 /// A shot that is opaque red at (1, 0) and clear elsewhere.
 fn red_dot(alloc: Global, part: Rect) -> Result<Shot, NoMemory> {
@@ -19,22 +23,42 @@ fn red_dot(alloc: Global, part: Rect) -> Result<Shot, NoMemory> {
     Ok(shot)
 }
 
+/// 255 / 9 is 28.3, 255 / 25 is 10.2, and 255 / 1089 is 0.2.
 #[test]
 fn a_red_dot(rt: HostRuntime) -> Result<(), Fail> {
     let alloc = rt.alloc();
-    let part = Rect::new(0, 0, 4, 2).expect(&rt, "a rectangle of the world");
-    let shot = red_dot(alloc, part)?;
-    let faint = Pixel::new(255, 0, 0, 28);
-    let block = blur_block(alloc, &shot, ORIGIN, &part, 1)?;
-    for (x, y, want) in [
-        (0, 0, faint),
-        (1, 0, faint),
-        (2, 0, faint),
-        (3, 0, Pixel::CLEAR),
-        (0, 1, faint),
-        (3, 1, Pixel::CLEAR),
+    let ninth = Pixel::new(255, 0, 0, 28);
+    let part_of_25 = Pixel::new(255, 0, 0, 10);
+    for (r, x, y, want) in [
+        (1, 0, 0, ninth),
+        (1, 1, 0, ninth),
+        (1, 2, 0, ninth),
+        (1, 3, 0, Pixel::CLEAR),
+        (1, 0, 1, ninth),
+        (1, 1, 2, Pixel::CLEAR),
+        (2, 3, 2, part_of_25),
+        (2, 4, 0, Pixel::CLEAR),
+        (16, 1, 0, Pixel::CLEAR),
     ] {
+        let part = Rect::new(0, 0, 5, 3).expect(&rt, "a rectangle of the world");
+        let block = blur_block(alloc, &red_dot(alloc, part)?, ORIGIN, &part, r)?;
+        crosses(&block);
         assert_eq!(rt; block.at(x, y), want);
     }
+    Ok(())
+}
+
+/// Red at (1, 0) is seen from the tile on its left, and colours are weighed by their alphas: of a
+/// blue ground with alpha 85 and a third of opaque red, blue has 6 x 85 parts and red 3 x 255.
+#[test]
+fn at_the_edge_of_a_tile(rt: HostRuntime) -> Result<(), Fail> {
+    let alloc = rt.alloc();
+    let part = Rect::new(-2, 5, 2, 2).expect(&rt, "a rectangle of the world");
+    let blue = Pixel::new(0, 0, 255, 85);
+    let mut shot = Shot::new(alloc, &[part], blue)?;
+    shot.put(ORIGIN, &Tile::plain(alloc, Pixel::new(255, 0, 0, 255))?)?;
+    let block = blur_block(alloc, &shot, LEFT, &part, 1)?;
+    assert_eq!(rt; block.at(-2, 5), blue);
+    assert_eq!(rt; block.at(-1, 6), Pixel::new(153, 0, 102, 142));
     Ok(())
 }
