@@ -48,8 +48,8 @@ fn a_red_dot(rt: HostRuntime) -> Result<(), Fail> {
     Ok(())
 }
 
-/// Red at (1, 0) is seen from the tile on its left, and colours are weighed by their alphas: of a
-/// blue ground with alpha 85 and a third of opaque red, blue has 6 x 85 parts and red 3 x 255.
+/// An opaque red tile beside a blue ground of alpha 85. Where a square has six blue pixels and three
+/// red ones, the alphas add up to 6 x 85 + 3 x 255 = 1275, of which blue has 510 and red 765.
 #[test]
 fn at_the_edge_of_a_tile(rt: HostRuntime) -> Result<(), Fail> {
     let alloc = rt.alloc();
