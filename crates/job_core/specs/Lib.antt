@@ -1,1 +1,3 @@
 pub mod Paints
+pub mod Due
+pub mod Inks

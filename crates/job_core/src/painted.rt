@@ -8,14 +8,13 @@ ghost use Rattle.doc_model.specs.Jobs.{reads, writes};
 ghost use Rattle.doc_model.specs.Lawful.{checks, within_limits};
 ghost use Rattle.job_core.specs.Paints.{IsPainted};
 
+use crate::fills::filled;
+use crate::ink::Ink;
 use doc_model::Job;
 use geom_core::{NoMemory, TileKey};
 use std::alloc::Global;
 use std::marker::Model;
 use tile_core::{Block, Shot};
-
-#[derive(Clone, Copy)]
-enum Never {}
 
 /// The blocks that a job leaves in one tile. They cover the points of the job's writes in the tile,
 /// and no others, and hold what the job makes of the shot.
@@ -26,7 +25,6 @@ pub struct Painted<'a> {
     key: TileKey,
     first: Block,
     second: Option<Block>,
-    never: Never,
 }
 
 impl<'a> Model for Painted<'a> {
@@ -62,14 +60,17 @@ impl<'a> Painted<'a> {
         ensures value { result ≡ self.now.key }
         ensures known { IsPainted self.now }
     {
-        match self.never {}
+        self.key
     }
 
     /// How many blocks there are: one or two.
     pub fn block_count(&self) -> usize
         ensures { result ≡ length self.now.blocks }
     {
-        match self.never {}
+        match self.second {
+            None => 1,
+            Some(_) => 2,
+        }
     }
 
     /// The block with that index, which counts from 0.
@@ -77,7 +78,10 @@ impl<'a> Painted<'a> {
         requires { i < length self.now.blocks }
         ensures { Some result.now ≡ slice_get self.now.blocks i }
     {
-        match self.never {}
+        match &self.second {
+            Some(second) if i == 1 => second,
+            _ => &self.first,
+        }
     }
 }
 
@@ -96,5 +100,27 @@ pub fn paint_tile<'a>(
     ensures shot { IfOk result (λ w. w.shot ≡ shot.now) }
     ensures key { IfOk result (λ w. w.key ≡ key) }
 {
-    Err(NoMemory)
+    match job {
+        Job::Fill {
+            rect,
+            colour,
+            op,
+            strength,
+        } => {
+            let ink = Ink {
+                colour: *colour,
+                op: *op,
+                strength: *strength,
+            };
+            let first = filled(alloc, shot, key, rect, &ink)?;
+            Ok(Painted {
+                job,
+                shot,
+                key,
+                first,
+                second: None,
+            })
+        }
+        _ => Err(NoMemory),
+    }
 }
