@@ -17,7 +17,8 @@ use Rattle.job_core.specs.declared.ink.Ink.{Ink}
 use Rattle.job_core.specs.Paints.{paint, IsPainted}
 use Rattle.job_core.specs.Due.{IsDue}
 use Rattle.job_core.specs.Inks.{LaysInk}
-use Rattle.job_core.proofs.Values.{one_met, world_key, some_of_limits, seen_at, painted_once, IsBlock}
+use Rattle.job_core.proofs.Values.{one_met, world_key, some_of_limits, seen_at, painted_once}
+use Rattle.job_core.specs.Made.{IsBlock}
 
 pub fill_met : (rect : Area) (colour : Rgba) (op : Op) (m : ℕ) (s : Sight) (key : Key) → IsDue (Fill rect colour op m) s key → meets rect (tile key) ≡ true
 fill_met rect colour op m s key due = one_met rect key (some_of_limits rect due.limits) due.met

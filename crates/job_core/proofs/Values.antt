@@ -24,6 +24,7 @@ use Rattle.doc_model.specs.Lawful.{of_limits}
 use Rattle.doc_model.specs.Layers.{at, painted, plain, at-painted}
 use Rattle.doc_model.proofs.JobLaws.{at-apply}
 use Rattle.job_core.specs.Paints.{layer_of, paint, HasValue, IsPainted}
+use Rattle.job_core.specs.Made.{IsBlock}
 
 -- ---- the key
 
@@ -75,12 +76,6 @@ pub seen_at : (s : Sight) (a : Area) (p : Point) → list_any (lies_in a) s.rect
 seen_at s a p l h = at-layer_of s p (any_lies a s.rects p l h)
 
 -- ---- blocks
-
--- what f has of the points of a rectangle in a tile, as a block
-pub record IsBlock (key : Key) (part : Area) (f : Point → Rgba) (b : Piece) : Type 0 where
-  pub key_is : b.key ≡ key
-  pub rect_is : b.rect ≡ part
-  pub pixels : HasPixels part f b.pixels
 
 pub block_of : (key : Key) (part : Area) (f : Point → Rgba) (ps : List Rgba) (b : Piece) → b ≡ piece key part ps → HasPixels part f ps → IsBlock key part f b
 block_of key part f ps b e has = subst (IsBlock key part f) (sym e) (record { key_is = refl; rect_is = refl; pixels = has })

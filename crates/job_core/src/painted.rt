@@ -1,17 +1,22 @@
 //! What a job leaves in one tile.
 
-ghost use Rattle.std.specs.Prelude.{◌≡◌, true, IfOk, IfSome, IfNone, slice_get, length, ◌<◌, option_copied, Some};
+ghost use Rattle.std.specs.Prelude.{◌≡◌, true, IfOk, IfSome, IfNone, slice_get, length, ◌<◌, Some, ◌∷◌, option_to_list};
 ghost use Rattle.std.specs.List.{list_any, list_all};
 ghost use Rattle.geom_core.specs.Grid.{same_key, all_keys_of};
 ghost use Rattle.geom_core.specs.Areas.{lies_in};
 ghost use Rattle.doc_model.specs.Jobs.{reads, writes};
 ghost use Rattle.doc_model.specs.Lawful.{checks, within_limits};
-ghost use Rattle.job_core.specs.Paints.{IsPainted};
+ghost use Rattle.job_core.specs.Paints.{paint, IsPainted};
+ghost use Rattle.job_core.specs.Due.{IsDue};
 
+use crate::blocks::{Blocks, alone};
+use crate::blurs::blurred;
+use crate::dabs::{Brush, dabbed};
 use crate::fills::filled;
 use crate::ink::Ink;
+use crate::moves::moved;
 use doc_model::Job;
-use geom_core::{NoMemory, TileKey};
+use geom_core::{NoMemory, Rect, TileKey};
 use std::alloc::Global;
 use std::marker::Model;
 use tile_core::{Block, Shot};
@@ -100,7 +105,22 @@ pub fn paint_tile<'a>(
     ensures shot { IfOk result (λ w. w.shot ≡ shot.now) }
     ensures key { IfOk result (λ w. w.key ≡ key) }
 {
-    match job {
+    let Blocks { first, second } = blocks_of(alloc, job, shot, key)?;
+    Ok(Painted {
+        job,
+        shot,
+        key,
+        first,
+        second,
+    })
+}
+
+/// The blocks that the job leaves in the key's tile.
+fn blocks_of(alloc: Global, job: &Job, shot: &Shot, key: TileKey) -> Result<Blocks, NoMemory>
+    requires { IsDue job.now shot.now key }
+    ensures { IfOk result (λ bs. IsPainted (paint job.now shot.now key (bs.first ∷ option_to_list bs.second))) }
+{
+    match *job {
         Job::Fill {
             rect,
             colour,
@@ -108,19 +128,44 @@ pub fn paint_tile<'a>(
             strength,
         } => {
             let ink = Ink {
-                colour: *colour,
-                op: *op,
-                strength: *strength,
+                colour,
+                op,
+                strength,
             };
-            let first = filled(alloc, shot, key, rect, &ink)?;
-            Ok(Painted {
-                job,
-                shot,
-                key,
-                first,
-                second: None,
-            })
+            let block = filled(alloc, shot, key, &rect, &ink)?;
+            Ok(alone(block))
         }
-        _ => Err(NoMemory),
+        Job::Dab {
+            x,
+            y,
+            r,
+            soft,
+            colour,
+            op,
+            strength,
+        } => {
+            let brush = Brush { x, y, r, soft };
+            let ink = Ink {
+                colour,
+                op,
+                strength,
+            };
+            let block = dabbed(alloc, shot, key, &written(job, 0), &brush, &ink)?;
+            Ok(alone(block))
+        }
+        Job::Move { rect, dx, dy } => moved(alloc, shot, key, &rect, &written(job, 1), dx, dy),
+        Job::Blur { rect, r } => {
+            let block = blurred(alloc, shot, key, &rect, r)?;
+            Ok(alone(block))
+        }
     }
+}
+
+/// The rectangle with that index, from 0, of those that the job may change.
+fn written(job: &Job, i: usize) -> Rect
+    requires checked { checks job.now ≡ true }
+    requires there { i < length (writes job.now) }
+    ensures { slice_get (writes job.now) i ≡ Some result }
+{
+    job.writes()[i]
 }
