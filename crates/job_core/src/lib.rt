@@ -12,3 +12,6 @@ mod part;
 mod rows;
 
 pub use painted::{Painted, paint_tile};
+
+#[cfg(test)]
+mod tests;
