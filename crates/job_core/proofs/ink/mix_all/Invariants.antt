@@ -1,5 +1,5 @@
 use Rattle.job_core.proofs.InkedRows.{LaidSoFar}
-use Rattle.job_core.proofs.ink.lay_on_all.Given as goal
+use Rattle.job_core.proofs.ink.mix_all.Given as goal
 
 -- the ink lies on the pixels so far
 abbrev pub invariant-loop-i : goal.invariant-loop-i
