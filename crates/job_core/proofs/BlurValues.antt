@@ -73,7 +73,7 @@ module _ (rect : Area) (r : ℕ) (s : Sight) (key : Key) where
   blur_painted part b due shared ek er has = painted_once (Blur rect r) s key rect part (blurred s r) b refl (blur_key due) shared
       (record { key_is = ek; rect_is = er; pixels = λ p h. ap (λ (a : Area). get_or b.pixels (place_in a p) clear) (sym er) ∙ has p h })
       (λ p h. ap (mean ((2 * r + 1) * (2 * r + 1))) (same_pixels (sight_at s) (at (layer_of s)) (points_of (square p.x p.y r))
-        (λ q k. sym (seen_at s (grown rect r) q (and_left _ _ due.seen) (near rect r p q h (sym (any-points_of (square p.x p.y r) q) ∙ k))))))
+      (λ q k. sym (seen_at s (grown rect r) q (and_left _ _ due.seen) (near rect r p q h (sym (any-points_of (square p.x p.y r) q) ∙ k))))))
 
   pub blur_result : {E : Type 0} (part : Area) (o : Result Piece E) → IsDue (Blur rect r) s key → IsShared rect (tile key) part → IfOk o (λ b. b.key ≡ key) → IfOk o (λ b. b.rect ≡ part)
       → IfOk o (λ b. (p : Point) → holds part p ≡ true → piece_at b p ≡ blurred s r p) → IfOk o (λ b. IsPainted (paint (Blur rect r) s key (b ∷ [])))

@@ -52,24 +52,27 @@ dab_next brush ink dx dy dx' dy' w i from k old mid ys so fits ek many ex ey lai
       ∙ ap (λ t. cond (leb t (row * w + col) && ltb (row * w + col) (t + w)) r o) f
       ∙ ap (λ b. cond b r o) (stretch w 0 w i row col (omega arith) h ∙ row_test w i row col h)
       ∙ one_more i row r (brushed brush ink (dx +ℤ pos col) (dy +ℤ pos row) (get_or old (row * w + col) clear)) (get_or old (row * w + col) clear) o
-        (λ t. let e : row ≡ i = this_row i row t in
-        let at : from + col ≡ row * w + col = place w i row from col e so.from_is in
-        let part : get_or (take k (drop from mid)) col clear ≡ get_or old (row * w + col) clear =
-          get_or-take k (drop from mid) col clear (omega arith) ∙ get_or-drop from mid col clear ∙ ap (λ n. get_or mid n clear) at ∙ so.done col row h ∙ not_yet i row _ _ e in
-        ap (λ n. get_or ys n clear) (rest w i row from col e so.from_is) ∙ laid col (long col h)
-        ∙ ap (brushed brush ink (dx' +ℤ pos col) dy') part
-        ∙ ap (λ z. brushed brush ink (z +ℤ pos col) dy' (get_or old (row * w + col) clear)) ex
-        ∙ ap (λ z. brushed brush ink (dx +ℤ pos col) z (get_or old (row * w + col) clear)) (ey ∙ ap (λ n. dy +ℤ pos n) (sym e)))
-        (so.done col row h);
+      (λ t. let e : row ≡ i = this_row i row t in
+      let at : from + col ≡ row * w + col = place w i row from col e so.from_is in
+      let part : get_or (take k (drop from mid)) col clear ≡ get_or old (row * w + col) clear =
+      get_or-take k (drop from mid) col clear (omega arith) ∙ get_or-drop from mid col clear ∙ ap (λ n. get_or mid n clear) at ∙ so.done col row h ∙ not_yet i row _ _ e in
+      ap (λ n. get_or ys n clear) (rest w i row from col e so.from_is) ∙ laid col (long col h)
+      ∙ ap (brushed brush ink (dx' +ℤ pos col) dy') part
+      ∙ ap (λ z. brushed brush ink (z +ℤ pos col) dy' (get_or old (row * w + col) clear)) ex
+      ∙ ap (λ z. brushed brush ink (dx +ℤ pos col) z (get_or old (row * w + col) clear)) (ey ∙ ap (λ n. dy +ℤ pos n) (sym e)))
+      (so.done col row h);
   from_is = next w i from so.from_is;
 }
   where
     place : (w i row from col : ℕ) → row ≡ i → from ≡ i * w → from + col ≡ row * w + col
     place w i row from col e f = rw e (omega arith)
+
     rest : (w i row from col : ℕ) → row ≡ i → from ≡ i * w → (row * w + col) - from ≡ col
     rest w i row from col e f = rw e (omega arith)
+
     next : (w i from : ℕ) → from ≡ i * w → from + w ≡ (i + 1) * w
     next w i from e = omega arith
+
     long : (n : ℕ) → n < w → n < length (take k (drop from mid))
     long n h = omega (arith, length-take-le k (drop from mid) (omega (arith, length-drop from mid)))
 

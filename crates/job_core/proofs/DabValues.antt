@@ -34,10 +34,13 @@ steps a x b d n e h = record { small = small a x n h; at = at a x b d n e h }
   where
     small : (a x : ℤ) (n : ℕ) → (int_le a x && int_lt x (a +ℤ pos n)) ≡ true → nat_abs (x -ℤ a) < n
     small a x n h = grind (arith, ints)
+
     back : (a x : ℤ) (n : ℕ) → (int_le a x && int_lt x (a +ℤ pos n)) ≡ true → pos (nat_abs (x -ℤ a)) ≡ (x -ℤ a)
     back a x n h = grind (arith, ints)
+
     sum : (a x b d y : ℤ) → d ≡ (a -ℤ b) → y ≡ (x -ℤ a) → (d +ℤ y) ≡ (x -ℤ b)
     sum a x b d y e f = omega (arith, ints)
+
     at : (a x b d : ℤ) (n : ℕ) → d ≡ (a -ℤ b) → (int_le a x && int_lt x (a +ℤ pos n)) ≡ true → (d +ℤ pos (nat_abs (x -ℤ a))) ≡ (x -ℤ b)
     at a x b d n e h = sum a x b d (pos (nat_abs (x -ℤ a))) e (back a x n h)
 

@@ -22,7 +22,7 @@ use Rattle.job_core.specs.Paints.{layer_of, paint, HasValue, IsPainted}
 use Rattle.job_core.specs.Due.{IsDue}
 use Rattle.job_core.specs.Laid.{LaysOver}
 use Rattle.job_core.specs.Made.{IsBlock, IsStep, brought, left_at}
-use Rattle.job_core.proofs.Values.{IsSome, some_of_limits, key_met, world_key, seen_at, value_at, has_value, tile_held}
+use Rattle.job_core.proofs.Values.{HasPoints, some_of_limits, key_met, world_key, seen_at, value_at, has_value, tile_held}
 
 -- ---- rectangles moved
 
@@ -35,8 +35,10 @@ moved_back a to dx dy u v e eu ev l = (λ i. lies_in (there i) world) ∙ l
   where
     across : (moved to u v).x ≡ a.x
     across = back_axis a.x dx to.x u a.w (λ i. (e i).x) eu
+
     down : (moved to u v).y ≡ a.y
     down = back_axis a.y dy to.y v a.h (λ i. (e i).y) ev
+
     there : moved to u v ≡ a
     there i = record { x = across i; y = down i; w = (e i).w; h = (e i).h }
 
@@ -134,9 +136,10 @@ all_moved a t tk part to e shared is p h k = within_holds part to p is (shared.h
 
 pub some_left : (a t tk part to : Area) (key : Key) (s : Sight) (dx dy dx' dy' : ℤ) (b : Piece) → t ≡ tk → dx' ≡ dx → dy' ≡ dy → IsShared a t part → IsBlock key part (left_at s to dx' dy') b
     → IsShared a tk b.rect × IsBlock key b.rect (left_at s to dx dy) b
-some_left a t tk part to key s dx dy dx' dy' b e ex ey shared is =
-    (subst (λ r. IsShared a tk r) (sym is.rect_is) (subst (λ u. IsShared a u part) e shared),
-    subst (λ r. IsBlock key r (left_at s to dx dy) b) (sym is.rect_is) (block_left_as key part s to dx dy dx' dy' b ex ey is))
+some_left a t tk part to key s dx dy dx' dy' b e ex ey shared is = (
+  subst (λ r. IsShared a tk r) (sym is.rect_is) (subst (λ u. IsShared a u part) e shared),
+  subst (λ r. IsBlock key r (left_at s to dx dy) b) (sym is.rect_is) (block_left_as key part s to dx dy dx' dy' b ex ey is),
+)
 
 -- ---- what a move may rest on
 
@@ -148,6 +151,7 @@ step_axis x d n some h k = (low x d n some h k, high x d n some h k)
   where
     low : (x d : ℤ) (n : ℕ) → 1 ≤ n → (int_le (negsuc 16383) x && int_le (x +ℤ pos n) (negsuc 16383 +ℤ pos 32768)) ≡ true → (int_le (negsuc 16383) (x +ℤ d) && int_le ((x +ℤ d) +ℤ pos n) (negsuc 16383 +ℤ pos 32768)) ≡ true → negsuc 32766 ≤ℤ d
     low x d n some h k = grind (arith, ints)
+
     high : (x d : ℤ) (n : ℕ) → 1 ≤ n → (int_le (negsuc 16383) x && int_le (x +ℤ pos n) (negsuc 16383 +ℤ pos 32768)) ≡ true → (int_le (negsuc 16383) (x +ℤ d) && int_le ((x +ℤ d) +ℤ pos n) (negsuc 16383 +ℤ pos 32768)) ≡ true → d ≤ℤ pos 32767
     high x d n some h k = grind (arith, ints)
 
@@ -163,7 +167,7 @@ module _ (rect : Area) (dx dy : ℤ) (s : Sight) (key : Key) where
 
   pub move_step : IsDue (Move rect dx dy) s key → IsStep dx dy
   move_step due =
-      let some : IsSome rect = some_of_limits rect due.limits in
+      let some : HasPoints rect = some_of_limits rect due.limits in
       record {
         across = step_axis rect.x dx rect.w some.0 (and_left _ _ (in_world due)) (and_left _ _ (moved_in_world due));
         down = step_axis rect.y dy rect.h some.1 (and_right (int_le world.x rect.x && int_le (right rect) (right world)) _ (in_world due)) (and_right (int_le world.x (moved rect dx dy).x && int_le (right (moved rect dx dy)) (right world)) _ (moved_in_world due));
@@ -172,10 +176,10 @@ module _ (rect : Area) (dx dy : ℤ) (s : Sight) (key : Key) where
   -- the move's rectangle or the moved one meets the tile
   pub move_met : IsDue (Move rect dx dy) s key → (meets rect (tile key) ≡ true) ⊎ (meets (moved rect dx dy) (tile key) ≡ true)
   move_met due =
-      let some : IsSome rect = some_of_limits rect due.limits in
+      let some : HasPoints rect = some_of_limits rect due.limits in
       let either : (list_any (same_key key) (keys_of rect) || list_any (same_key key) (keys_of (moved rect dx dy))) ≡ true =
-        ap (λ t. list_any (same_key key) (keys_of rect) || t) (ap (list_any (same_key key)) (sym (append-nil (keys_of (moved rect dx dy)))))
-        ∙ sym (list_any-append (same_key key) (keys_of rect) (keys_of (moved rect dx dy) ++ [])) ∙ due.met in
+      ap (λ t. list_any (same_key key) (keys_of rect) || t) (ap (list_any (same_key key)) (sym (append-nil (keys_of (moved rect dx dy)))))
+      ∙ sym (list_any-append (same_key key) (keys_of rect) (keys_of (moved rect dx dy) ++ [])) ∙ due.met in
       elim (or_cases _ _ either) [
         | inl e ↦ inl (key_met rect key some e)
         | inr e ↦ inr (key_met (moved rect dx dy) key some e)

@@ -99,4 +99,4 @@ laid_over a part al at pl pt w h width src old new xa ya xp yp is ew eh ea laid 
     let lays : LaysRows a.w (pl - al) (pt - at) part.w part.h src old new = rw (← ew, ← eh, ← ea) laid in
     lays (nat_abs (p.x -ℤ a.x)) (nat_abs (p.y -ℤ a.y)) i.small
     ∙ chosen (in_part (pl - al) (pt - at) part.w part.h (nat_abs (p.x -ℤ a.x)) (nat_abs (p.y -ℤ a.y))) (holds part p) _ _ _ (λ k. i.test k && j.test k)
-      (λ t. λ k. get_or src (j.place (and_right _ _ t) k * part.w + i.place (and_left _ _ t) k) clear)
+    (λ t. λ k. get_or src (j.place (and_right _ _ t) k * part.w + i.place (and_left _ _ t) k) clear)

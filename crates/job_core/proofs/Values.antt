@@ -28,11 +28,11 @@ use Rattle.job_core.specs.Made.{IsBlock}
 
 -- ---- the key
 
--- a rectangle that is not empty
-abbrev pub IsSome : Area → Type 0
-IsSome a = (1 ≤ a.w) × (1 ≤ a.h)
+-- a rectangle with at least one point
+abbrev pub HasPoints : Area → Type 0
+HasPoints a = (1 ≤ a.w) × (1 ≤ a.h)
 
-pub some_of_limits : (a : Area) → of_limits a ≡ true → IsSome a
+pub some_of_limits : (a : Area) → of_limits a ≡ true → HasPoints a
 some_of_limits a h = (grind (arith, nat_tests), grind (arith, nat_tests))
 
 axis_known : (a k : ℤ) (n : ℕ) → (int_le (negsuc 16383) a && int_le (a +ℤ pos n) (negsuc 16383 +ℤ pos 32768)) ≡ true → (int_lt a ((pos 64 *ℤ k) +ℤ pos 64) && int_lt (pos 64 *ℤ k) (a +ℤ pos n)) ≡ true → (negsuc 255 ≤ℤ k) × (k <ℤ pos 256)
@@ -40,6 +40,7 @@ axis_known a k n l m = (low a k n l m, high a k n l m)
   where
     low : (a k : ℤ) (n : ℕ) → (int_le (negsuc 16383) a && int_le (a +ℤ pos n) (negsuc 16383 +ℤ pos 32768)) ≡ true → (int_lt a ((pos 64 *ℤ k) +ℤ pos 64) && int_lt (pos 64 *ℤ k) (a +ℤ pos n)) ≡ true → negsuc 255 ≤ℤ k
     low a k n l m = grind (arith, ints)
+
     high : (a k : ℤ) (n : ℕ) → (int_le (negsuc 16383) a && int_le (a +ℤ pos n) (negsuc 16383 +ℤ pos 32768)) ≡ true → (int_lt a ((pos 64 *ℤ k) +ℤ pos 64) && int_lt (pos 64 *ℤ k) (a +ℤ pos n)) ≡ true → k <ℤ pos 256
     high a k n l m = grind (arith, ints)
 
@@ -51,10 +52,10 @@ world_key a k l m =
     record { left = x.0; right = x.1; top = y.0; bottom = y.1 }
 
 -- the tiles of a rectangle are those that it meets
-pub key_met : (a : Area) (k : Key) → IsSome a → list_any (same_key k) (keys_of a) ≡ true → meets a (tile k) ≡ true
+pub key_met : (a : Area) (k : Key) → HasPoints a → list_any (same_key k) (keys_of a) ≡ true → meets a (tile k) ≡ true
 key_met a k s h = sym ((tiles_met a s.0 s.1).exact k) ∙ h
 
-pub one_met : (a : Area) (k : Key) → IsSome a → list_any (same_key k) (all_keys_of (a ∷ [])) ≡ true → meets a (tile k) ≡ true
+pub one_met : (a : Area) (k : Key) → HasPoints a → list_any (same_key k) (all_keys_of (a ∷ [])) ≡ true → meets a (tile k) ≡ true
 one_met a k s h = key_met a k s (ap (list_any (same_key k)) (sym (append-nil (keys_of a))) ∙ h)
 
 -- ---- the shot
@@ -63,9 +64,9 @@ one_met a k s h = key_met a k s (ap (list_any (same_key k)) (sym (append-nil (ke
 any_lies : (a : Area) (rects : List Area) (p : Point) → list_any (lies_in a) rects ≡ true → holds a p ≡ true → any_holds rects p ≡ true
 any_lies a [] p l h = l
 any_lies a (b ∷ rest) p l h = elim (or_cases (lies_in a b) (list_any (lies_in a) rest) l) [
-    | inl e ↦ or_left (holds b p) (any_holds rest p) (lies_held a b e p h)
-    | inr e ↦ or_right (holds b p) (any_holds rest p) (any_lies a rest p e h)
-  ]
+  | inl e ↦ or_left (holds b p) (any_holds rest p) (lies_held a b e p h)
+  | inr e ↦ or_right (holds b p) (any_holds rest p) (any_lies a rest p e h)
+]
 
 at-layer_of : (s : Sight) (p : Point) → any_holds s.rects p ≡ true → at (layer_of s) p ≡ sight_at s p
 unfolding layer_of
@@ -100,6 +101,7 @@ tile_held k p = go (holds (tile k) p) refl
     away : (t : Bool) → holds (tile k) p ≡ false → in_tile k p ≡ t → false ≡ t
     away true f h = sym f ∙ ap (λ (m : Key). holds (tile m) p) (sym (key_same (key_of p) k h)) ∙ own_tile p
     away false f h = refl
+
     go : (t : Bool) → holds (tile k) p ≡ t → t ≡ in_tile k p
     go true h = sym (key_is (key_of p) k (key_of_holder k p h))
     go false h = away (in_tile k p) h refl
@@ -113,8 +115,11 @@ pub painted_once : (job : Job) (s : Sight) (key : Key) (rect part : Area) (f : P
     → ((p : Point) → holds rect p ≡ true → f p ≡ value job (layer_of s) p) → IsPainted (paint job s key (b ∷ []))
 painted_once job s key rect part f b wr known shared is same = record {
   key_is = known;
-  values = All-from_recursion (HasValue job s key) (b ∷ []) (has_value job s key part f b is (λ p h. let held : holds rect p ≡ true = and_left _ _ (sym (shared.held p) ∙ h) in
-      same p held ∙ sym (value_at job s p (ap (λ rects. any_holds rects p) wr ∙ or-false (holds rect p) ∙ held))), tt);
+  values = All-from_recursion (HasValue job s key) (b ∷ []) (
+    has_value job s key part f b is (λ p h. let held : holds rect p ≡ true = and_left _ _ (sym (shared.held p) ∙ h) in
+        same p held ∙ sym (value_at job s p (ap (λ rects. any_holds rects p) wr ∙ or-false (holds rect p) ∙ held))),
+    tt,
+  );
   covers = λ p. or-false (holds b.rect p) ∙ ap (λ (a : Area). holds a p) is.rect_is ∙ shared.held p
       ∙ ap (λ t. holds rect p && t) (tile_held key p)
       ∙ ap (λ t. t && in_tile key p) (sym (ap (λ rects. any_holds rects p) wr ∙ or-false (holds rect p)));

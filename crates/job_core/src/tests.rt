@@ -61,11 +61,7 @@ fn dab(x: i32, y: i32, r: u8, soft: bool) -> Job {
 fn red_corner(alloc: Global) -> Result<Shot, NoMemory> {
     let mut pixels = vec![in alloc; pixel(GROUND); 4096]?;
     pixels[0] = pixel(RED);
-    let mut shot = Shot::new(
-        alloc,
-        &[rect(-16384, -16384, 32768, 32768)],
-        pixel(GROUND),
-    )?;
+    let mut shot = Shot::new(alloc, &[rect(-16384, -16384, 32768, 32768)], pixel(GROUND))?;
     shot.put(ORIGIN, &Tile::from_pixels(alloc, pixels)?)?;
     Ok(shot)
 }
@@ -142,7 +138,13 @@ fn fills(rt: HostRuntime) -> Result<(), Fail> {
     let alloc = rt.alloc();
     let blue = [0, 0, 255, 255];
     let one = rect(0, 0, 1, 1);
-    leaves(&rt, alloc, filling(one, blue, 255), &[one], &[(0, 0, 0, blue)])?;
+    leaves(
+        &rt,
+        alloc,
+        filling(one, blue, 255),
+        &[one],
+        &[(0, 0, 0, blue)],
+    )?;
     let clipped = rect(0, 0, 64, 1);
     leaves(
         &rt,
@@ -200,13 +202,14 @@ fn dabs(rt: HostRuntime) -> Result<(), Fail> {
         alloc,
         dab(2, 2, 1, false),
         &[square],
-        &[(0, 1, 1, GROUND), (0, 2, 1, RED), (0, 1, 2, RED), (0, 2, 2, RED)],
+        &[
+            (0, 1, 1, GROUND),
+            (0, 2, 1, RED),
+            (0, 1, 2, RED),
+            (0, 2, 2, RED),
+        ],
     )?;
-    let shot = Shot::new(
-        alloc,
-        &[rect(-16384, -16384, 32768, 32768)],
-        Pixel::CLEAR,
-    )?;
+    let shot = Shot::new(alloc, &[rect(-16384, -16384, 32768, 32768)], Pixel::CLEAR)?;
     let job = dab(1, 1, 1, true);
     let work = painted(&rt, alloc, &job, &shot)?;
     for (x, y, alpha) in [

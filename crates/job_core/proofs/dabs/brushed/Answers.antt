@@ -29,5 +29,5 @@ lay_dab-requires-clause-bottom c = omega (arith, ints)
 pub returns-clause-has : goal.returns-clause-has
 returns-clause-has c =
     rw (refilled c.in_ok-pixels.pixels.len c.lay_dab.new.pixels c.in_ok-pixels.pixels.items (c.lay_dab.auto.pixels ∙ c.deref_mut.ensures.len))
-      (dabbed_pixels c.args.brush.now c.args.ink.now c.args.part.now c.args.shot.now _ _ c.w.result c.h.result c.deref_mut.result.now c.in_ok-pixels.pixels.items c.lay_dab.new.pixels c.deref_mut.ensures.value c.w.ensures.value c.h.ensures.value
-      (omega (arith, ints)) (omega (arith, ints)) c.in_ok-pixels.ensures.has c.lay_dab.ensures)
+    (dabbed_pixels c.args.brush.now c.args.ink.now c.args.part.now c.args.shot.now _ _ c.w.result c.h.result c.deref_mut.result.now c.in_ok-pixels.pixels.items c.lay_dab.new.pixels c.deref_mut.ensures.value c.w.ensures.value c.h.ensures.value
+    (omega (arith, ints)) (omega (arith, ints)) c.in_ok-pixels.ensures.has c.lay_dab.ensures)
