@@ -1,0 +1,8 @@
+//! Documents with their history, and the stroke that is painted on them.
+#![tactic(auto)]
+
+mod reach;
+mod store;
+
+pub use reach::{Begun, Reach, TreeRefusal};
+pub use store::Store;

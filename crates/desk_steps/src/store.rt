@@ -1,0 +1,186 @@
+//! The store.
+
+ghost use Rattle.std.specs.Prelude.{◌≡◌, ◌≤◌, ◌+◌, ℕ, true, false, [], None, Some, Ok, Err, is_some, take, IfOk, OnOk, OnErr, IfErr, IfSome, IfNone, IsNone, ◌↔◌};
+ghost use Rattle.std.specs.FinSet as set;
+ghost use Rattle.geom_core.specs.Grid.{key_of, same_key};
+ghost use Rattle.geom_core.specs.Points.{Point};
+ghost use Rattle.tile_core.specs.Pixels.{pixel_at};
+ghost use Rattle.doc_model.specs.Layers.{Layer, at, plain};
+ghost use Rattle.doc_model.specs.Jobs.{shot_of};
+ghost use Rattle.doc_model.specs.Forest.{content};
+ghost use Rattle.doc_model.specs.Changes.{changed, there};
+ghost use Rattle.doc_model.specs.declared.tree.TreeFault.{TreeFault};
+ghost use Rattle.machine_model.specs.Effects.{layer_in};
+ghost use Rattle.job_core.specs.Paints.{layer_of};
+ghost use Rattle.desk_steps.specs.declared.reach.Reach.TheVariants as tells;
+ghost use Rattle.desk_steps.specs.declared.reach.TreeRefusal.TheVariants as refusal;
+ghost use Rattle.desk_steps.specs.declared.reach.Begun.TheVariants.{Ready, NoLayer, NotPaint};
+ghost use Rattle.desk_steps.specs.Archives.{Archive, IsArchive, Changes, HasTouched, TellsFirst, empty_archive, layer_under_way, shape, with_put, finished, reverted, undone, redone, tiles_in_first};
+
+use crate::reach::{Begun, Reach, TreeRefusal};
+use doc_model::Change;
+use geom_core::{NoMemory, Rect, TileKey, Touched};
+use job_core::Painted;
+use memento_core::Steps;
+use pixel_core::Pixel;
+use std::alloc::Global;
+use std::marker::Model;
+use std::sync::ledger::Ledger;
+use tile_core::{Shot, Tile};
+use tree_core::Tree;
+
+#[derive(Clone, Copy)]
+enum Never {}
+
+/// A document of layers and groups, what can be undone and redone, and the stroke under way.
+#[derive(Drop)]
+pub struct Store {
+    never: Never,
+}
+
+impl Model for Store {
+    ghost use Rattle.desk_steps.specs.Archives.{Archive, IsArchive, empty_archive, archive_code};
+
+    ghost Value = { Archive };
+
+    ghost coded = { archive_code };
+
+    ghost view = { λ s. empty_archive };
+
+    ghost invariant = { λ s. Unit {0} };
+}
+
+impl Store {
+    /// An empty document, and nothing to undo or redo.
+    pub fn new(alloc: Global) -> Result<Store, NoMemory>
+        ensures { IfOk result (λ s. s ≡ empty_archive) }
+    {
+        Err(NoMemory)
+    }
+
+    /// Takes room for one more change. It stays until the next stroke is finished or change is made.
+    pub fn prepare(&mut self) -> Result<(), NoMemory>
+        ensures ok { OnOk result (self.new ≡ record self.old { room = true }) }
+        ensures err { OnErr result (self.new ≡ self.old) }
+    {
+        match self.never {}
+    }
+
+    /// Begins a stroke on a paint layer. Where the id is none, nothing begins.
+    pub fn begin(&mut self, layer: u16) -> Result<Begun, NoMemory>
+        requires { self.old.way ≡ None }
+        ensures ready { result ≡ Ok Ready → (is_some (content layer self.old.present) ≡ true) × (self.new ≡ record self.old { way = Some (layer, set.empty) }) }
+        ensures no_layer { result ≡ Ok NoLayer → (there layer self.old.present ≡ false) × (self.new ≡ self.old) }
+        ensures not_paint { result ≡ Ok NotPaint → ((there layer self.old.present ≡ true) × (content layer self.old.present ≡ None)) × (self.new ≡ self.old) }
+        ensures err { OnErr result (self.new ≡ self.old) }
+    {
+        match self.never {}
+    }
+
+    /// The pixels of the stroke's layer on these rectangles.
+    pub fn grab(&self, alloc: Global, rects: &[Rect]) -> Result<Shot, NoMemory>
+        requires { is_some self.now.way ≡ true }
+        ensures rects { IfOk result (λ s. s.rects ≡ rects.now) }
+        ensures shot { IfOk result (λ s. layer_of s ≡ shot_of rects.now (layer_under_way self.now.way self.now.present)) }
+    {
+        match self.never {}
+    }
+
+    /// Lays what was painted on the stroke's layer. No other point changes.
+    pub fn put(&mut self, alloc: Global, painted: &Painted<'_>) -> Result<(), NoMemory>
+        requires { is_some self.old.way ≡ true }
+        ensures ok { OnOk result (self.new ≡ with_put self.old.way painted.now self.old) }
+        ensures err { OnErr result (self.new ≡ self.old) }
+    {
+        match self.never {}
+    }
+
+    /// Ends the stroke: it is the newest change, and nothing can be redone any more. No memory.
+    pub fn finish(&mut self)
+        requires under_way { is_some self.old.way ≡ true }
+        requires room { self.old.room ≡ true }
+        ensures { self.new ≡ finished self.old.way self.old }
+    {
+        match self.never {}
+    }
+
+    /// Takes the stroke back, as if it had never begun. It tells the tiles that were put back. No memory.
+    pub fn revert<L: Ledger>(&mut self, steps: &mut Steps<L>) -> Touched
+        requires { is_some self.old.way ≡ true }
+        ensures new { self.new ≡ reverted self.old }
+        ensures touched { (layer : ℕ) (keys : set.FinSet _) → self.old.way ≡ Some (layer, keys) → HasTouched keys result }
+        ensures counts { steps.new ≤ steps.old + result.count }
+    {
+        match self.never {}
+    }
+
+    /// Makes the change of the tree, which is then the newest one.
+    ///
+    /// # Errors
+    /// `Tree` with the first refusal, exactly where there is one. After any error all is as it was.
+    pub fn change(&mut self, alloc: Global, change: &Change) -> Result<Reach, TreeRefusal>
+        requires { self.old.way ≡ None }
+        ensures whole { IfOk result (λ r. r ≡ tells.Whole) }
+        ensures ok { OnOk result (Changes change.now self.old self.new) }
+        ensures tree { (fault : TreeFault) → result ≡ Err (refusal.Tree fault) → changed plain change.now self.old.base ≡ Err fault }
+        ensures err { OnErr result (self.new ≡ self.old) }
+    {
+        match self.never {}
+    }
+
+    /// Undoes the newest change. None exactly where there is none. No memory.
+    pub fn undo<L: Ledger>(&mut self, steps: &mut Steps<L>) -> Option<Reach>
+        requires { self.old.way ≡ None }
+        ensures none { IsNone result ↔ (self.old.past ≡ []) }
+        ensures new { self.new ≡ undone self.old.past self.old }
+        ensures reach { IfSome result (TellsFirst self.old.past self.new.present) }
+        ensures counts { steps.new ≤ steps.old + tiles_in_first self.old.past }
+    {
+        match self.never {}
+    }
+
+    /// Redoes the change that was undone last. None exactly where there is none. No memory.
+    pub fn redo<L: Ledger>(&mut self, steps: &mut Steps<L>) -> Option<Reach>
+        requires { self.old.way ≡ None }
+        ensures none { IsNone result ↔ (self.old.future ≡ []) }
+        ensures new { self.new ≡ redone self.old.future self.old }
+        ensures reach { IfSome result (TellsFirst self.old.future self.new.present) }
+        ensures counts { steps.new ≤ steps.old + tiles_in_first self.old.future }
+    {
+        match self.never {}
+    }
+
+    /// Forgets all changes that can be undone but the newest `keep`. No memory.
+    pub fn purge(&mut self, keep: usize)
+        requires { self.old.way ≡ None }
+        ensures { self.new ≡ record self.old { past = take keep self.old.past } }
+    {
+        match self.never {}
+    }
+
+    /// The tree of the document.
+    pub fn tree(&self) -> &Tree
+        ensures value { result.now ≡ shape self.now.present }
+        ensures known { IsArchive self.now }
+    {
+        match self.never {}
+    }
+
+    /// The tile of a layer under a key. None exactly where the id is no paint layer or no tile stands
+    /// there; a paint layer then has its default pixel in that tile.
+    pub fn tile(&self, layer: u16, key: TileKey) -> Option<&Tile>
+        ensures some { IfSome result (λ t. is_some (content layer self.now.present) ≡ true) }
+        ensures held { IfSome result (λ t. (p : Point) → same_key (key_of p) key ≡ true → at (layer_in layer self.now.present) p ≡ pixel_at t.now p) }
+        ensures plain { IfNone result ((p : Point) → same_key (key_of p) key ≡ true → is_some (content layer self.now.present) ≡ true → at (layer_in layer self.now.present) p ≡ (layer_in layer self.now.present).default_pixel) }
+    {
+        match self.never {}
+    }
+
+    /// The default pixel of a paint layer.
+    pub fn ground(&self, layer: u16) -> Pixel
+        requires { is_some (content layer self.now.present) ≡ true }
+        ensures { result ≡ (layer_in layer self.now.present).default_pixel }
+    {
+        match self.never {}
+    }
+}

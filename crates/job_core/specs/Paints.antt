@@ -1,0 +1,46 @@
+-- What painting one tile of a job leaves.
+use Rattle.std.specs.Prelude.{◌≡◌, Bool, true, ◌&&◌, List, map, All, refl}
+use Rattle.std.specs.Coded.{Coded, code_by, coded×, coded_list}
+use Rattle.pixel_core.specs.Rgba.{Rgba, pixel_code}
+use Rattle.geom_core.specs.Points.{Point}
+use Rattle.geom_core.specs.Areas.{Area, holds, any_holds, area_code}
+use Rattle.geom_core.specs.Grid.{Key, key_code, IsWorldKey}
+use Rattle.tile_core.specs.Blocks.{Piece, piece, piece_at}
+use Rattle.tile_core.specs.Shots.{Sight, sight_at, sight_code}
+use Rattle.doc_model.specs.contracts.job.Job as job
+use Rattle.doc_model.specs.declared.job.Job.{Job}
+use Rattle.doc_model.specs.Jobs.{apply, writes, in_tile}
+use Rattle.doc_model.specs.Layers.{Layer, at, painted, plain}
+
+-- the layer that a shot shows: its pixels on its rectangles, and its default pixel elsewhere
+unfoldable pub layer_of : Sight → Layer
+layer_of s = painted s.rects (λ _. true) (sight_at s) (plain s.default_pixel)
+
+-- a job, the shot that it was painted on, a tile's key, and blocks
+pub record Paint : Type 0 where
+  pub job : Job
+  pub shot : Sight
+  pub key : Key
+  pub blocks : List Piece
+
+-- these parts together
+abbrev pub paint : Job → Sight → Key → List Piece → Paint
+paint j s k bs = record { job = j; shot = s; key = k; blocks = bs }
+
+-- the block lies in the key's tile, and has what the job makes of the shot
+pub record HasValue (job : Job) (shot : Sight) (key : Key) (b : Piece) : Type 0 where
+  pub key_is : b.key ≡ key
+  pub value_is : (p : Point) → holds b.rect p ≡ true → piece_at b p ≡ at (apply job (layer_of shot)) p
+
+-- the blocks hold just the points of the job's writes in the tile, and have the job's value there
+pub record IsPainted (w : Paint) : Type 0 where
+  pub key_is : IsWorldKey w.key
+  pub values : All (HasValue w.job w.shot w.key) w.blocks
+  pub covers : (p : Point) → any_holds (map (λ (b : Piece). b.rect) w.blocks) p ≡ (any_holds (writes w.job) p && in_tile w.key p)
+
+abbrev piece_code : Coded Piece
+piece_code = code_by (Key × (Area × List Rgba)) (coded× key_code (coded× area_code (coded_list pixel_code))) (λ b. (b.key, (b.rect, b.pixels))) (λ t. piece t.0 t.1.0 t.1.1) (λ _. refl)
+
+-- the code by which contracts tell what was painted apart
+abbrev pub paint_code : Coded Paint
+paint_code = code_by (Job × (Sight × (Key × List Piece))) (coded× (job.the_row).coded (coded× sight_code (coded× key_code (coded_list piece_code)))) (λ w. (w.job, (w.shot, (w.key, w.blocks)))) (λ t. paint t.0 t.1.0 t.1.1.0 t.1.1.1) (λ _. refl)

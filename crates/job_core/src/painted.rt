@@ -1,0 +1,171 @@
+//! What a job leaves in one tile.
+
+ghost use Rattle.std.specs.Prelude.{◌≡◌, true, IfOk, IfSome, IfNone, slice_get, length, ◌<◌, Some, ◌∷◌, option_to_list};
+ghost use Rattle.std.specs.List.{list_any, list_all};
+ghost use Rattle.geom_core.specs.Grid.{same_key, all_keys_of};
+ghost use Rattle.geom_core.specs.Areas.{lies_in};
+ghost use Rattle.doc_model.specs.Jobs.{reads, writes};
+ghost use Rattle.doc_model.specs.Lawful.{checks, within_limits};
+ghost use Rattle.job_core.specs.Paints.{paint, IsPainted};
+ghost use Rattle.job_core.specs.Due.{IsDue};
+
+use crate::blocks::{Blocks, alone};
+use crate::blurs::blurred;
+use crate::dabs::{Brush, dabbed};
+use crate::fills::filled;
+use crate::ink::Ink;
+use crate::moves::moved;
+use doc_model::Job;
+use geom_core::{NoMemory, Rect, TileKey};
+use std::alloc::Global;
+use std::marker::Model;
+use tile_core::{Block, Shot};
+
+/// The blocks that a job leaves in one tile. They cover the points of the job's writes in the tile,
+/// and no others, and hold what the job makes of the shot.
+#[derive(Drop)]
+pub struct Painted<'a> {
+    job: &'a Job,
+    shot: &'a Shot,
+    key: TileKey,
+    first: Block,
+    second: Option<Block>,
+}
+
+impl<'a> Model for Painted<'a> {
+    ghost use Rattle.std.specs.Prelude.{◌∷◌, option_to_list};
+    ghost use Rattle.job_core.specs.Paints.{Paint, paint, paint_code, IsPainted};
+
+    ghost Value = { Paint };
+
+    ghost coded = { paint_code };
+
+    ghost view = { λ p. paint p.job.now p.shot.now p.key (p.first ∷ option_to_list p.second) };
+
+    ghost invariant = { λ p. IsPainted (paint p.job.now p.shot.now p.key (p.first ∷ option_to_list p.second)) };
+}
+
+impl<'a> Painted<'a> {
+    /// The job.
+    pub fn job(&self) -> &Job
+        ensures { result.now ≡ self.now.job }
+    {
+        self.job
+    }
+
+    /// The shot that it was painted on.
+    pub fn shot(&self) -> &Shot
+        ensures { result.now ≡ self.now.shot }
+    {
+        self.shot
+    }
+
+    /// The key of the tile.
+    pub fn key(&self) -> TileKey
+        ensures value { result ≡ self.now.key }
+        ensures known { IsPainted self.now }
+    {
+        self.key
+    }
+
+    /// How many blocks there are: one or two.
+    pub fn block_count(&self) -> usize
+        ensures { result ≡ length self.now.blocks }
+    {
+        match self.second {
+            None => 1,
+            Some(_) => 2,
+        }
+    }
+
+    /// The block with that index, which counts from 0.
+    pub fn block(&self, i: usize) -> &Block
+        requires { i < length self.now.blocks }
+        ensures { Some result.now ≡ slice_get self.now.blocks i }
+    {
+        match &self.second {
+            Some(second) if i == 1 => second,
+            _ => &self.first,
+        }
+    }
+}
+
+/// What the job leaves in the key's tile.
+pub fn paint_tile<'a>(
+    alloc: Global,
+    job: &'a Job,
+    shot: &'a Shot,
+    key: TileKey,
+) -> Result<Painted<'a>, NoMemory>
+    requires checked { checks job.now ≡ true }
+    requires limits { within_limits job.now ≡ true }
+    requires seen { list_all (λ a. list_any (lies_in a) shot.now.rects) (reads job.now) ≡ true }
+    requires met { list_any (same_key key) (all_keys_of (writes job.now)) ≡ true }
+    ensures job { IfOk result (λ w. w.job ≡ job.now) }
+    ensures shot { IfOk result (λ w. w.shot ≡ shot.now) }
+    ensures key { IfOk result (λ w. w.key ≡ key) }
+{
+    let Blocks { first, second } = blocks_of(alloc, job, shot, key)?;
+    Ok(Painted {
+        job,
+        shot,
+        key,
+        first,
+        second,
+    })
+}
+
+/// The blocks that the job leaves in the key's tile.
+fn blocks_of(alloc: Global, job: &Job, shot: &Shot, key: TileKey) -> Result<Blocks, NoMemory>
+    requires { IsDue job.now shot.now key }
+    ensures { IfOk result (λ bs. IsPainted (paint job.now shot.now key (bs.first ∷ option_to_list bs.second))) }
+{
+    match *job {
+        Job::Fill {
+            rect,
+            colour,
+            op,
+            strength,
+        } => {
+            let ink = Ink {
+                colour,
+                op,
+                strength,
+            };
+            let block = filled(alloc, shot, key, &rect, &ink)?;
+            Ok(alone(block))
+        }
+        Job::Dab {
+            x,
+            y,
+            r,
+            soft,
+            colour,
+            op,
+            strength,
+        } => {
+            let brush = Brush { x, y, r, soft };
+            let ink = Ink {
+                colour,
+                op,
+                strength,
+            };
+            let block = dabbed(alloc, shot, key, &written(job, 0), &brush, &ink)?;
+            Ok(alone(block))
+        }
+        Job::Move { rect, dx, dy } => moved(alloc, shot, key, &rect, &written(job, 1), dx, dy),
+        Job::Blur { rect, r } => {
+            let block = blurred(alloc, shot, key, &rect, r)?;
+            Ok(alone(block))
+        }
+    }
+}
+
+/// The rectangle with that index, from 0, of those that the job may change.
+fn written(job: &Job, i: usize) -> Rect
+    requires checked { checks job.now ≡ true }
+    requires there { i < length (writes job.now) }
+    ensures { slice_get (writes job.now) i ≡ Some result }
+{
+    job.writes()[i]
+}

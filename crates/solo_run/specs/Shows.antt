@@ -1,0 +1,24 @@
+-- What a painted script gives.
+use Rattle.std.specs.Prelude.{◌≡◌, List, map, All}
+use Rattle.doc_model.specs.declared.command.Outcome.{Outcome}
+use Rattle.doc_model.specs.declared.canvas.Canvas.{Canvas}
+use Rattle.doc_model.specs.Strokes.{entries}
+use Rattle.doc_model.specs.Meaning.{Story, meaning}
+use Rattle.tile_core.specs.Frames.{Scene}
+use Rattle.ppm_out.specs.Pictures.{colours_of}
+use Rattle.script_text.specs.Script.{Contents}
+
+-- what a script means: its entries one after another, from the empty document on
+abbrev pub meaning_of : Contents → Story
+meaning_of script = meaning script.canvas (entries script.commands)
+
+-- the frame has the canvas's sides
+pub record HasSides (canvas : Canvas) (f : Scene) : Type 0 where
+  pub width : f.width ≡ canvas.w
+  pub height : f.height ≡ canvas.h
+
+-- the frames show what the script's exports mean, and the outcomes are those of its entries
+pub record Shows (script : Contents) (scenes : List Scene) (outcomes : List Outcome) : Type 0 where
+  pub sides : All (HasSides script.canvas) scenes
+  pub colours : map colours_of scenes ≡ (meaning_of script).frames
+  pub outcomes_are : outcomes ≡ (meaning_of script).outcomes
