@@ -1,1 +1,6 @@
-
+pub mod SameTree
+pub mod LoneNodes
+pub mod NextNodes
+pub mod Piles
+pub mod GroupSteps
+pub mod RootTiles
