@@ -1,7 +1,6 @@
 //! Frames of a document.
 
-ghost use Rattle.std.specs.Prelude.{◌≡◌, ℕ, IfOk, OnOk, OnErr, true};
-ghost use Rattle.geom_core.specs.Grid.{IsWorldKey};
+ghost use Rattle.std.specs.Prelude.{IfOk, OnOk};
 ghost use Rattle.doc_model.specs.Canvases.{IsOfLimits};
 ghost use Rattle.doc_model.specs.Picture.{picture};
 ghost use Rattle.doc_model.specs.Laws.{IsDocument};

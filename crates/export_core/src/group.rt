@@ -1,6 +1,6 @@
 //! The picture of a node on one tile.
 
-ghost use Rattle.std.specs.Prelude.{◌≡◌, ℕ, ◌≤◌, ◌<◌, IfOk, OnOk, OnErr, true, false, is_some, length};
+ghost use Rattle.std.specs.Prelude.{◌≡◌, ◌≤◌, IfOk, OnOk, true, false, is_some, length};
 ghost use Rattle.doc_model.specs.Changes.{takes};
 ghost use Rattle.doc_model.specs.Forest.{content, height};
 ghost use Rattle.doc_model.specs.Laws.{IsDocument};

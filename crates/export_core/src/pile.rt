@@ -1,6 +1,6 @@
 //! The children of a group on one tile, as they are found.
 
-ghost use Rattle.std.specs.Prelude.{◌≡◌, ℕ, IfOk, OnOk, OnErr, true, length, [], IsTrue, ◌↔◌};
+ghost use Rattle.std.specs.Prelude.{◌≡◌, IfOk, OnOk, length, [], IsTrue, ◌↔◌};
 ghost use Rattle.pixel_core.specs.Rgba.{clear};
 ghost use Rattle.compose_core.specs.declared.children.Given.TheVariants.{Plain};
 ghost use Rattle.export_core.specs.Pieces.{LaysOn, ShowsPile, ShowsChildren, shows_itself};
