@@ -1,0 +1,17 @@
+use Rattle.std.proofs.Common.{◌≡◌, ◌+◌, ◌*◌, length}
+use Rattle.machine_model.specs.Groups.{nodes_in}
+use Rattle.export_core.proofs.Piles.{LaidSoFar}
+use Rattle.export_core.proofs.group.+nodes.Given as goal
+
+abbrev pub decreases-add_child : goal.decreases-add_child
+decreases-add_child l = 3 * l.levels
+
+abbrev pub decreases-group_on : goal.decreases-group_on
+decreases-group_on l = 3 * l.levels + 1
+
+abbrev pub decreases-node_on : goal.decreases-node_on
+decreases-node_on l = 3 * l.levels + 2
+
+-- the children so far are laid
+abbrev pub invariant-group_on-loop-place : goal.invariant-group_on-loop-place
+invariant-group_on-loop-place l = (length l.pile.looks.items ≡ length l.pile.tiles.items) × LaidSoFar (nodes_in l.group l.store.present) l.place l.key l.pile.looks.items l.pile.tiles.items

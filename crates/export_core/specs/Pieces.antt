@@ -1,0 +1,84 @@
+-- What nodes of a document have on one tile.
+use Rattle.std.specs.Prelude.{◌≡◌, ℕ, suc, ◌%◌, Bool, ◌==◌, ◌&&◌, not, true, false, if◌then◌else◌, List}
+use Rattle.pixel_core.specs.Rgba.{Rgba, clear}
+use Rattle.pixel_core.specs.declared.blending.Op.{Op}
+use Rattle.pixel_core.specs.declared.blending.Op.TheVariants.{Erase}
+use Rattle.geom_core.specs.Points.{Point}
+use Rattle.geom_core.specs.Place.{across, down}
+use Rattle.geom_core.specs.Grid.{Key, key_of, same_key}
+use Rattle.tile_core.specs.Frames.{Scene, put_at}
+use Rattle.doc_model.specs.declared.tree.Look.{Look}
+use Rattle.doc_model.specs.Layers.{at}
+use Rattle.doc_model.specs.Forest.{upper}
+use Rattle.doc_model.specs.Changes.{takes}
+use Rattle.doc_model.specs.Picture.{Doc, with_look, laid, picture}
+use Rattle.machine_model.specs.Groups.{nodes_in}
+use Rattle.machine_model.specs.Effects.{layer_in}
+use Rattle.compose_core.specs.declared.children.Given.{Given}
+use Rattle.compose_core.specs.Children.{given_at, laid_children, children_on}
+use Rattle.export_core.specs.declared.pile.Pile.{Pile}
+
+-- what is seen of a pixel: where its alpha is 0 no colours are
+abbrev pub seen : Rgba → Rgba
+seen p = if p.a == 0 then clear else p
+
+-- the two pixels look alike, and so does whatever they are laid on
+abbrev pub Alike : Rgba → Rgba → Type 0
+Alike p q = seen p ≡ seen q
+
+-- what is given at a point of the tile
+abbrev pub given_on : Given → Point → Rgba
+given_on given p = given_at (across p % 64) (down p % 64) given
+
+-- the pixel of a node at a point, of a group its picture; the group 0 is the root
+abbrev pub node_pixel : ℕ → Doc → Point → Rgba
+node_pixel id doc p = if takes id doc then picture (nodes_in id doc) p else at (layer_in id doc) p
+
+-- what is given has the layer's pixels on the key's tile
+abbrev pub ShowsLayer : Doc → ℕ → Key → Given → Type 0
+ShowsLayer doc id key given = (p : Point) → same_key (key_of p) key ≡ true → given_on given p ≡ at (layer_in id doc) p
+
+-- what is given looks like the node on the key's tile
+abbrev pub ShowsNode : Doc → ℕ → Key → Given → Type 0
+ShowsNode doc id key given = (p : Point) → same_key (key_of p) key ≡ true → Alike (given_on given p) (node_pixel id doc p)
+
+-- children with these looks, laid from the bottom on a clear backdrop at a point of the tile
+abbrev pub laid_at : List Look → List Given → Point → Rgba
+laid_at looks tiles p = laid_children (children_on looks tiles (across p % 64) (down p % 64))
+
+-- the same of a pile
+abbrev pub pile_at : Pile → Point → Rgba
+pile_at pile p = laid_at pile.looks.items pile.tiles.items p
+
+-- what is given looks like the children together
+abbrev pub ShowsChildren : List Look → List Given → Given → Type 0
+ShowsChildren looks tiles given = (p : Point) → Alike (given_on given p) (laid_at looks tiles p)
+
+-- what is given looks like the pile
+abbrev pub ShowsPile : Pile → Given → Type 0
+ShowsPile pile given = ShowsChildren pile.looks.items pile.tiles.items given
+
+-- a child with that look is laid on the old pile
+abbrev pub LaysOn : Look → Given → Pile → Pile → Type 0
+LaysOn look given old new = (p : Point) → Alike (pile_at new p) (with_look look (given_on given p) (pile_at old p))
+
+-- on the key's tile the new pile is the old one with the k-th node laid on it, so that the nodes above it come next
+abbrev pub AddsChild : Doc → ℕ → Key → Pile → Pile → Type 0
+AddsChild nodes k key old new = (p : Point) → same_key (key_of p) key ≡ true → Alike (laid (upper k nodes) p (pile_at old p)) (laid (upper (suc k) nodes) p (pile_at new p))
+
+-- whether a source with that look on a clear backdrop is left as it is
+abbrev pub shows_itself : Look → Bool
+shows_itself look = (look.visible && (look.opacity == 255)) && not (is_erase look.op)
+  where
+    is_erase : Op → Bool
+    is_erase Erase = true
+    is_erase op = false
+
+-- on the key's tile the new frame looks like these pixels, if the old one did or had nothing there. All else stays
+pub record ShowsTile (shown : Point → Rgba) (key : Key) (old new : Scene) : Type 0 where
+  pub width : new.width ≡ old.width
+  pub height : new.height ≡ old.height
+  pub paper : new.paper ≡ old.paper
+  pub on_tile : (p : Point) → same_key (key_of p) key ≡ true → Alike (put_at old p) clear → Alike (put_at new p) (shown p)
+  pub kept : (p : Point) → same_key (key_of p) key ≡ true → Alike (put_at old p) (shown p) → Alike (put_at new p) (shown p)
+  pub elsewhere : (p : Point) → same_key (key_of p) key ≡ false → put_at new p ≡ put_at old p

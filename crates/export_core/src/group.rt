@@ -1,0 +1,98 @@
+//! The picture of a node on one tile.
+
+ghost use Rattle.std.specs.Prelude.{◌≡◌, ◌≤◌, IfOk, OnOk, true, false, is_some, length};
+ghost use Rattle.doc_model.specs.Changes.{takes};
+ghost use Rattle.doc_model.specs.Forest.{content, height};
+ghost use Rattle.doc_model.specs.Laws.{IsDocument};
+ghost use Rattle.machine_model.specs.Groups.{nodes_in};
+ghost use Rattle.export_core.specs.Pieces.{ShowsNode, ShowsLayer, AddsChild};
+
+use crate::pile::Pile;
+use compose_core::Given;
+use desk_steps::Store;
+use geom_core::{NoMemory, TileKey};
+use std::alloc::Global;
+
+/// What a node has on a tile, the root by its id 0. At most `levels` levels of nodes stand in a group.
+#[cycle(nodes)]
+pub fn node_on(
+    alloc: Global,
+    store: &Store,
+    id: u16,
+    levels: u8,
+    key: TileKey,
+) -> Result<Given, NoMemory>
+    requires limits { IsDocument store.now.present }
+    requires layer { takes id store.now.present ≡ false → is_some (content id store.now.present) ≡ true }
+    requires low { takes id store.now.present ≡ true → height (nodes_in id store.now.present) ≤ levels }
+    ensures { IfOk result (ShowsNode store.now.present id key) }
+{
+    if store.tree().is_group(id) {
+        group_on(alloc, store, id, levels, key)
+    } else {
+        layer_on(store, id, key)
+    }
+}
+
+/// What a group has on a tile: its children, laid one on another.
+#[cycle(nodes)]
+fn group_on(
+    alloc: Global,
+    store: &Store,
+    group: u16,
+    levels: u8,
+    key: TileKey,
+) -> Result<Given, NoMemory>
+    requires limits { IsDocument store.now.present }
+    requires takes { takes group store.now.present ≡ true }
+    requires low { height (nodes_in group store.now.present) ≤ levels }
+    ensures { IfOk result (ShowsNode store.now.present group key) }
+{
+    let mut pile = Pile::new(alloc);
+    for place in 0..store.tree().child_count(group) {
+        add_child(alloc, store, group, place, levels, key, &mut pile)?;
+    }
+    pile.composed(alloc)
+}
+
+/// Lays a child of a group on those below it, unless it is invisible.
+#[cycle(nodes)]
+fn add_child(
+    alloc: Global,
+    store: &Store,
+    group: u16,
+    place: u16,
+    levels: u8,
+    key: TileKey,
+    pile: &mut Pile,
+) -> Result<(), NoMemory>
+    requires limits { IsDocument store.now.present }
+    requires low { height (nodes_in group store.now.present) ≤ levels }
+    requires paired { length pile.old.looks.items ≡ length pile.old.tiles.items }
+    ensures paired { OnOk result (length pile.new.looks.items ≡ length pile.new.tiles.items) }
+    ensures laid { OnOk result (AddsChild (nodes_in group store.now.present) place key pile.old pile.new) }
+{
+    let tree = store.tree();
+    let Some(id) = tree.child(group, place) else {
+        return Ok(());
+    };
+    let Some(look) = tree.look(id) else {
+        return Ok(());
+    };
+    if !look.visible {
+        return Ok(());
+    }
+    let given = node_on(alloc, store, id, levels - 1, key)?;
+    pile.add(look, given)
+}
+
+/// What a paint layer has on a tile: its tile, shared, or its default pixel.
+fn layer_on(store: &Store, id: u16, key: TileKey) -> Result<Given, NoMemory>
+    requires { is_some (content id store.now.present) ≡ true }
+    ensures { IfOk result (ShowsLayer store.now.present id key) }
+{
+    match store.tile(id, key) {
+        Some(tile) => Ok(Given::Held(tile.share()?)),
+        None => Ok(Given::Plain(store.ground(id))),
+    }
+}
