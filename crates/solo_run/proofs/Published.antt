@@ -4,7 +4,6 @@ use Rattle.std.specs.Prelude.{slice_get, int_le, ℤ, pos, ◌+ℤ◌}
 use Rattle.std.specs.List.{list_any, list_all}
 use Rattle.std.specs.FinSet as set
 use Rattle.std.specs.FinSet.{FinSet}
-use Rattle.std.proofs.lemmas.Option.{slice_get-get_or}
 use Rattle.std.proofs.lemmas.List.Folds.{list_any-append}
 use borrow.Author.Differences.{ints}
 use Rattle.pixel_core.specs.Rgba.{Rgba}
@@ -27,6 +26,7 @@ use Rattle.tile_core.specs.Shots.{Sight}
 use Rattle.machine_model.specs.Effects.{layer_in}
 use Rattle.job_core.specs.Paints.{Paint, layer_of}
 use Rattle.desk_steps.specs.Archives.{Archive, Way, layer_under_way, with_put}
+use Rattle.solo_run.proofs.Fronts.{take_more}
 use Rattle.solo_run.specs.Painting.{Paints, PaintsOn, published_in, jobs_only}
 
 and_none : (b : Bool) → (b && false) ≡ false
@@ -67,26 +67,6 @@ published_in-append job shot (k ∷ ks) ls layer = published_in-append job shot 
 apply_all-last : (jobs : List Job) (job : Job) (layer : Layer) → apply_all (jobs ++ job ∷ []) layer ≡ apply job (apply_all jobs layer)
 apply_all-last [] job layer = refl
 apply_all-last (j ∷ jobs) job layer = apply_all-last jobs job (apply j layer)
-
--- the item at a place
-pub item_at : {A : Type 0} (xs : List A) (i : ℕ) (x : A) → i < length xs → x ≡ get_or xs i x → slice_get xs i ≡ Some x
-item_at xs i x h e = slice_get-get_or xs i x h ∙ ap Some (sym e)
-
-take_suc : {A : Type 0} (xs : List A) (i : ℕ) (x : A) → slice_get xs i ≡ Some x → take (suc i) xs ≡ take i xs ++ x ∷ []
-take_suc [] i x e = cc
-take_suc (y ∷ xs) zero x e = let same : y ≡ x = cc in ap (λ z. z ∷ []) same
-take_suc (y ∷ xs) (suc i) x e = ap (λ zs. y ∷ zs) (take_suc xs i x e)
-
--- one item more from the front
-pub take_more : {A : Type 0} (xs : List A) (i : ℕ) (x : A) → slice_get xs i ≡ Some x → take (i + 1) xs ≡ take i xs ++ x ∷ []
-take_more xs i x e = ap (λ n. take n xs) (add-one i) ∙ take_suc xs i x e
-
--- all items
-pub take_all : {A : Type 0} (xs : List A) (n : ℕ) → length xs ≤ n → take n xs ≡ xs
-take_all [] zero h = refl
-take_all [] (suc n) h = refl
-take_all (x ∷ xs) zero h = absurd (omega arith)
-take_all (x ∷ xs) (suc n) h = ap (λ ys. x ∷ ys) (take_all xs n (omega arith))
 
 all_keys-last : (rects : List Area) (r : Area) → all_keys_of (rects ++ r ∷ []) ≡ all_keys_of rects ++ keys_of r
 all_keys-last [] r = no_more (keys_of r)

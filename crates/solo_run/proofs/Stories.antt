@@ -36,6 +36,7 @@ use Rattle.entry_queue.specs.declared.entry.Entry.TheVariants.{Waiting, Whole, O
 use Rattle.entry_queue.specs.Pushed.{Pending, StandsFor, kept_of, may_leave, queued, stroke_of}
 use Rattle.entry_queue.proofs.Taking.{Fits, all_fit, kept_fit, lawful_fits}
 use Rattle.desk_steps.specs.Archives.{Archive, finished}
+use Rattle.solo_run.proofs.Fronts.{take_more}
 use Rattle.solo_run.specs.declared.solo.Solo.{Solo}
 use Rattle.solo_run.specs.Painting.{Paints, PaintsOn, jobs_only}
 use Rattle.solo_run.specs.Told.{Ends, GoesOn, HasCome, IsReady, Rests, docs, fits, story_of}
@@ -74,18 +75,6 @@ told_whole canvas story doc.Undoes c h = cc
 told_whole canvas story doc.Redoes c h = cc
 told_whole canvas story (doc.Purges k) c h = cc
 told_whole canvas story doc.Exports c h = cc
-
--- nothing but an outcome was added
-pub refused_goes : (next : Story → Story) (s : Solo) (o : Outcome) → Rests s → ((story : Story) → next story ≡ ends_with story o) → GoesOn next s s o
-refused_goes next s o r e = record { rests = r; canvas = refl; story = λ outcomes. sym (e (story_of s outcomes)) }
-
--- a stroke with jobs that conflict
-pub overlap_goes : (s : Solo) (e : doc.Entry) (c : Closed) (pair : ℕ × ℕ) → Rests s → queued e ≡ Whole c → c.stroke.overlap ≡ Some pair → Ends e s s (outcome.Overlap pair.0 pair.1)
-overlap_goes s e c pair r h o = refused_goes (λ story. told s.canvas story e) s (outcome.Overlap pair.0 pair.1) r (λ story. told_whole s.canvas story e c h ∙ ap (told_stroke story (as_stroke c)) o)
-
--- a cancelled stroke
-pub cancelled_goes : (s : Solo) (e : doc.Entry) (c : Closed) → Rests s → queued e ≡ Whole c → c.stroke.overlap ≡ None → c.cancelled ≡ true → Ends e s s outcome.Cancelled
-cancelled_goes s e c r h o k = refused_goes (λ story. told s.canvas story e) s outcome.Cancelled r (λ story. told_whole s.canvas story e c h ∙ ap (told_stroke story (as_stroke c)) o ∙ ap (λ b. closed_stroke story (record (as_stroke c) { fate = fate_of b }) (fate_of b)) k)
 
 goes_as : (one other : Story → Story) (old new : Solo) (o : Outcome) → ((story : Story) → one story ≡ other story) → GoesOn one old new o → GoesOn other old new o
 goes_as one other old new o same g = record { rests = g.rests; canvas = g.canvas; story = λ outcomes. g.story outcomes ∙ same (story_of old outcomes) }
@@ -126,20 +115,6 @@ no_layer_goes s a layer stroke r is t same = roomy s a is (λ story. laid_stroke
 
     none : content stroke.layer s.store.base ≡ None
     none = absent stroke.layer s.store.base not_there
-
--- a stroke whose layer is a group
-pub not_paint_goes : (s : Solo) (a : Archive) (layer : ℕ) (stroke : Stroke) → Rests s → a ≡ record s.store { room = true } → there layer a.present ≡ true → content layer a.present ≡ None → stroke.layer ≡ layer → GoesOn (λ story. laid_stroke story stroke (content stroke.layer story.document)) s (record s { store = a }) (outcome.NotPaint layer)
-not_paint_goes s a layer stroke r is t n same = roomy s a is (λ story. laid_stroke story stroke (content stroke.layer story.document)) (outcome.NotPaint layer) r (λ outcomes.
-    ap (laid_stroke (story_of s outcomes) stroke) none ∙ ap (λ b. ends_with (story_of s outcomes) (cond b (outcome.NotPaint stroke.layer) (outcome.NoLayer stroke.layer))) is_there ∙ ap (λ n. ends_with (story_of s outcomes) (outcome.NotPaint n)) same)
-  where
-    base : s.store.base ≡ a.present
-    base = sym (ap (λ (b : Archive). b.present) is ∙ r.present)
-
-    is_there : there stroke.layer s.store.base ≡ true
-    is_there = (λ i. there (same i) (base i)) ∙ t
-
-    none : content stroke.layer s.store.base ≡ None
-    none = (λ i. content (same i) (base i)) ∙ n
 
 -- the store after a stroke, by what it painted
 abbrev after : Archive → ℕ → FinSet key_cmp → Doc → Archive
@@ -192,3 +167,120 @@ purge_goes s keep new r e = subst (λ a. Ends (doc.Purges keep) s (record s { st
   canvas = refl;
   story = λ outcomes i. record (story_of s (outcomes ++ outcome.Done ∷ [])) { past = docs_take keep s.store.past i };
 })
+
+told_all-last : (canvas : Canvas) (s : Story) (es : List doc.Entry) (e : doc.Entry) → told_all canvas s (es ++ e ∷ []) ≡ told canvas (told_all canvas s es) e
+told_all-last canvas s [] e = refl
+told_all-last canvas s (x ∷ es) e = told_all-last canvas (told canvas s x) es e
+
+-- the first entry that is left, as the document has it
+pub record IsNext (es : List doc.Entry) (n : ℕ) (x : Entry) : Type 0 where
+  pub entry : doc.Entry
+  pub at : slice_get es n ≡ Some entry
+  pub is : queued entry ≡ x
+
+pub next_left : (es : List doc.Entry) (n : ℕ) (x : Entry) → slice_get (map queued (drop n es)) 0 ≡ Some x → IsNext es n x
+next_left [] zero x h = cc
+next_left (e ∷ es) zero x h = record { entry = e; at = refl; is = (let same : queued e ≡ x = cc in same) }
+next_left [] (suc n) x h = cc
+next_left (e ∷ es) (suc n) x h = let more : IsNext es n x = next_left es n x h in record { entry = more.entry; at = more.at; is = more.is }
+
+closed_at : (es : List doc.Entry) (n : ℕ) (e : doc.Entry) → slice_get es n ≡ Some e → list_all is_closed_entry es ≡ true → is_closed_entry e ≡ true
+closed_at [] n e h all = cc
+closed_at (x ∷ es) zero e h all = let same : x ≡ e = cc in ap is_closed_entry (sym same) ∙ and_left (is_closed_entry x) _ all
+closed_at (x ∷ es) (suc n) e h all = closed_at es n e h (and_right (is_closed_entry x) _ all)
+
+fits_at : (es : List doc.Entry) (n : ℕ) (e : doc.Entry) → slice_get es n ≡ Some e → AllByRecursion Fits es → Fits e
+fits_at [] n e h all = cc
+fits_at (x ∷ es) zero e h all = let same : x ≡ e = cc in subst Fits same all.0
+fits_at (x ∷ es) (suc n) e h all = fits_at es n e h all.1
+
+queued_fits : (e : doc.Entry) → Fits e → fits (queued e) ≡ true
+queued_fits (doc.Strokes s) h = go s.fate
+  where
+    go : (f : Fate) → fits (stroke_of f (kept_of s)) ≡ true
+    go Open = kept_fit s.jobs h
+    go Ended = kept_fit s.jobs h
+    go Cancelled = kept_fit s.jobs h
+queued_fits (doc.Changes c) h = refl
+queued_fits doc.Undoes h = refl
+queued_fits doc.Redoes h = refl
+queued_fits (doc.Purges k) h = refl
+queued_fits doc.Exports h = refl
+
+next_entry : (commands : List Command) (s : Solo) (q : Pending) (x : Entry) → HasCome commands s q → Some x ≡ slice_get q.left 0 → IsNext (entries commands) (length q.outcomes) x
+next_entry commands s q x h e = next_left (entries commands) (length q.outcomes) x (ap (λ left. slice_get left 0) (sym h.queue.left_is) ∙ sym e)
+
+-- the first entry is ready
+pub next_ready : (commands : List Command) (s : Solo) (q : Pending) (x : Entry) → lawful commands ≡ true → list_all is_closed_entry (entries commands) ≡ true → HasCome commands s q → Some x ≡ slice_get q.left 0 → IsReady x
+next_ready commands s q x l all h e =
+    let next : IsNext (entries commands) (length q.outcomes) x = next_entry commands s q x h e in
+    record {
+      entry = next.entry;
+      is = next.is;
+      closed = closed_at (entries commands) (length q.outcomes) next.entry next.at all;
+      fit = ap fits (sym next.is) ∙ queued_fits next.entry (fits_at (entries commands) (length q.outcomes) next.entry next.at (lawful_fits commands l));
+    }
+
+-- and may leave
+pub ready_leaves : (q : Pending) (x : Entry) → Some x ≡ slice_get q.left 0 → IsReady x → may_leave q.left ≡ true
+ready_leaves q x e r = go q.left e (leaves r.entry r.closed r.is)
+  where
+    leaves : (d : doc.Entry) → is_closed_entry d ≡ true → queued d ≡ x → may_leave (x ∷ []) ≡ true
+    leaves (doc.Strokes s) c is = closed s.fate c is
+      where
+        closed : (f : Fate) → not (is_open f) ≡ true → stroke_of f (kept_of s) ≡ x → may_leave (x ∷ []) ≡ true
+        closed Open c is = cc
+        closed Ended c is = ap (λ y. may_leave (y ∷ [])) (sym is)
+        closed Cancelled c is = ap (λ y. may_leave (y ∷ [])) (sym is)
+    leaves (doc.Changes change) c is = ap (λ y. may_leave (y ∷ [])) (sym is)
+    leaves doc.Undoes c is = ap (λ y. may_leave (y ∷ [])) (sym is)
+    leaves doc.Redoes c is = ap (λ y. may_leave (y ∷ [])) (sym is)
+    leaves (doc.Purges k) c is = ap (λ y. may_leave (y ∷ [])) (sym is)
+    leaves doc.Exports c is = ap (λ y. may_leave (y ∷ [])) (sym is)
+
+    alone : (y : Entry) (left : List Entry) → may_leave (y ∷ left) ≡ may_leave (y ∷ [])
+    alone (Waiting s) left = refl
+    alone (Whole c) left = refl
+    alone (Other c) left = refl
+
+    go : (left : List Entry) → Some x ≡ slice_get left 0 → may_leave (x ∷ []) ≡ true → may_leave left ≡ true
+    go [] e m = cc
+    go (y ∷ left) e m = let same : x ≡ y = cc in alone y left ∙ ap (λ z. may_leave (z ∷ [])) (sym same) ∙ m
+
+-- the document between entries is within the limits
+pub document_right : (commands : List Command) (s : Solo) (q : Pending) → HasCome commands s q → IsDocument s.store.base
+document_right commands s q h =
+    let each : EachDoc (IsDocument {A = Layer}) (meaning s.canvas (take (length q.outcomes) (entries commands))) = meaning_keeps_limits s.canvas (take (length q.outcomes) (entries commands)) in
+    subst (λ (t : Story). IsDocument t.document) (sym h.story) each.document
+
+length_last : {A : Type 0} (xs : List A) (x : A) → length (xs ++ x ∷ []) ≡ length xs + 1
+length_last [] x = refl
+length_last (y ∷ xs) x = let h : length (xs ++ x ∷ []) ≡ length xs + 1 = length_last xs x in omega arith
+
+-- one entry more
+pub come_further : (commands : List Command) (old new : Solo) (q r : Pending) (x : Entry) (o : Outcome) → HasCome commands old q → Some x ≡ slice_get q.left 0
+    → ((e : doc.Entry) → queued e ≡ x → Ends e old new o) → r.outcomes ≡ q.outcomes ++ o ∷ [] → StandsFor commands r → HasCome commands new r
+come_further commands old new q r x o h e ends outcomes stands =
+    let next : IsNext (entries commands) (length q.outcomes) x = next_entry commands old q x h e in
+    let on : Ends next.entry old new o = ends next.entry next.is in
+    record {
+      rests = on.rests;
+      queue = stands;
+      story =
+          ap (story_of new) outcomes
+          ∙ on.story q.outcomes
+          ∙ ap (λ t. told old.canvas t next.entry) h.story
+          ∙ sym (told_all-last old.canvas start (take (length q.outcomes) (entries commands)) next.entry)
+          ∙ ap (told_all old.canvas start) (sym (take_more (entries commands) (length q.outcomes) next.entry next.at) ∙ ap (λ n. take n (entries commands)) (sym (ap length outcomes ∙ length_last q.outcomes o)))
+          ∙ ap (λ c. meaning c (take (length r.outcomes) (entries commands))) (sym on.canvas);
+    }
+
+none_left_over : (n : ℕ) (es : List doc.Entry) → map queued (drop n es) ≡ [] → take n es ≡ es
+none_left_over zero [] h = refl
+none_left_over zero (e ∷ es) h = cc
+none_left_over (suc n) [] h = refl
+none_left_over (suc n) (e ∷ es) h = ap (λ ds. e ∷ ds) (none_left_over n es h)
+
+-- all entries
+pub come_all : (commands : List Command) (s : Solo) (q : Pending) → HasCome commands s q → q.left ≡ [] → story_of s q.outcomes ≡ meaning s.canvas (entries commands)
+come_all commands s q h e = h.story ∙ ap (meaning s.canvas) (none_left_over (length q.outcomes) (entries commands) (sym h.queue.left_is ∙ e))

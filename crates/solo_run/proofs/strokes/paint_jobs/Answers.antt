@@ -1,7 +1,8 @@
 use Rattle.std.proofs.Common.{subst}
 use Rattle.doc_model.specs.Jobs.{apply_all}
 use Rattle.solo_run.specs.Painting.{PaintsOn, jobs_only}
-use Rattle.solo_run.proofs.Published.{item_at, job_more, paints_none, take_all}
+use Rattle.solo_run.proofs.Fronts.{item_at, take_all}
+use Rattle.solo_run.proofs.Published.{job_more, paints_none}
 use Rattle.solo_run.proofs.strokes.paint_jobs.Goals as goal
 
 pub loop-entry-init : goal.loop-entry-init

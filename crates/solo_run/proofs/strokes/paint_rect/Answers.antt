@@ -3,7 +3,8 @@ use Rattle.geom_core.specs.Grid.{keys_of}
 use Rattle.doc_model.specs.Jobs.{writes}
 use Rattle.job_core.specs.Paints.{layer_of}
 use Rattle.solo_run.specs.Painting.{PaintsOn, published_in}
-use Rattle.solo_run.proofs.Published.{key_met, paints_none, take_all, tile_more}
+use Rattle.solo_run.proofs.Fronts.{take_all}
+use Rattle.solo_run.proofs.Published.{key_met, paints_none, tile_more}
 use Rattle.solo_run.proofs.strokes.paint_rect.Goals as goal
 
 pub paint_in-requires-clause-met : goal.paint_in-requires-clause-met

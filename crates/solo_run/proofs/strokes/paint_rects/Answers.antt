@@ -4,7 +4,8 @@ use Rattle.geom_core.specs.Grid.{all_keys_of}
 use Rattle.doc_model.specs.Jobs.{writes}
 use Rattle.job_core.specs.Paints.{layer_of}
 use Rattle.solo_run.specs.Painting.{PaintsOn, published_in}
-use Rattle.solo_run.proofs.Published.{item_at, paints_none, rect_more, take_all}
+use Rattle.solo_run.proofs.Fronts.{item_at, take_all}
+use Rattle.solo_run.proofs.Published.{paints_none, rect_more}
 use Rattle.solo_run.proofs.strokes.paint_rects.Goals as goal
 
 pub paint_rect-requires-clause-written : goal.paint_rect-requires-clause-written
