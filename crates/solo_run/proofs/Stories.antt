@@ -1,6 +1,6 @@
 -- What the entries of a queue mean, and what becomes of the story.
 use Rattle.std.proofs.Common.{◌≡◌, ℕ, suc, zero, ◌+◌, ◌<◌, ◌≤◌, Bool, true, false, ◌&&◌, not, Option, Some, None, is_some, List, [], ◌∷◌, ◌++◌, map, length, drop, take, cond, refl, sym, ap, ◌∙◌, subst, arith}
-use Rattle.std.specs.Prelude.{slice_get, Result, Ok, Err, IfOk}
+use Rattle.std.specs.Prelude.{slice_get, All, Result, Ok, Err, IfOk}
 use Rattle.std.specs.List.{list_all, AllByRecursion}
 use Rattle.std.specs.FinSet as set
 use Rattle.std.specs.FinSet.{FinSet}
@@ -39,6 +39,8 @@ use Rattle.desk_steps.specs.Archives.{Archive, finished}
 use Rattle.solo_run.proofs.Fronts.{take_more}
 use Rattle.solo_run.specs.declared.solo.Solo.{Solo}
 use Rattle.solo_run.specs.Painting.{Paints, PaintsOn, jobs_only}
+use Rattle.script_text.specs.Script.{Contents}
+use Rattle.solo_run.specs.Shows.{HasSides, Shows}
 use Rattle.solo_run.specs.Told.{Ends, GoesOn, HasCome, IsReady, Rests, docs, fits, story_of}
 
 abbrev pub fate_of : Bool → Fate
@@ -284,3 +286,25 @@ none_left_over (suc n) (e ∷ es) h = ap (λ ds. e ∷ ds) (none_left_over n es 
 -- all entries
 pub come_all : (commands : List Command) (s : Solo) (q : Pending) → HasCome commands s q → q.left ≡ [] → story_of s q.outcomes ≡ meaning s.canvas (entries commands)
 come_all commands s q h e = h.story ∙ ap (meaning s.canvas) (none_left_over (length q.outcomes) (entries commands) (sym h.queue.left_is ∙ e))
+
+-- no entry yet
+pub come_none : (fed commands : List Command) (s : Solo) (q : Pending) → fed ≡ commands → Rests s → StandsFor fed q → q.outcomes ≡ [] → story_of s [] ≡ start → HasCome commands s q
+come_none fed commands s q same r stands none begins = record {
+  rests = r;
+  queue = subst (λ cs. StandsFor cs q) same stands;
+  story = ap (story_of s) none ∙ begins ∙ sym (ap (λ os. meaning s.canvas (take (length os) (entries commands))) none);
+}
+
+-- the frames and the outcomes after all entries
+pub come_shows : (script : Contents) (s : Solo) (q : Pending) → HasCome script.commands s q → s.canvas ≡ script.canvas → q.left ≡ [] → Shows script s.frames.items q.outcomes
+come_shows script s q h c e =
+    let told : story_of s q.outcomes ≡ meaning script.canvas (entries script.commands) = come_all script.commands s q h e ∙ ap (λ d. meaning d (entries script.commands)) c in
+    record {
+      sides = subst (λ d. All (HasSides d) s.frames.items) c h.rests.sides;
+      colours = ap (λ (t : Story). t.frames) told;
+      outcomes_are = ap (λ (t : Story). t.outcomes) told;
+    }
+
+pub shorter : (left new : List Entry) → may_leave left ≡ true → new ≡ drop 1 left → length new < length left
+shorter [] new m e = cc
+shorter (x ∷ left) new m e = let same : length new ≡ length left = ap length e in omega arith
