@@ -1,5 +1,5 @@
 -- A job that is painted tile by tile leaves what it leaves of the whole layer.
-use Rattle.std.proofs.Common.{◌≡◌, ℕ, suc, zero, ◌+◌, ◌<◌, ◌≤◌, add-one, get_or, Bool, true, false, ◌&&◌, ◌||◌, cond, Option, Some, None, is_some, List, [], ◌∷◌, ◌++◌, map, length, take, refl, sym, ap, ◌∙◌, subst, inl, inr, arith}
+use Rattle.std.proofs.Common.{◌≡◌, ℕ, suc, zero, ◌+◌, Bool, true, false, ◌&&◌, ◌||◌, cond, Option, Some, None, is_some, List, [], ◌∷◌, ◌++◌, take, refl, sym, ap, ◌∙◌, subst, arith}
 use Rattle.std.specs.Prelude.{slice_get, int_le, ℤ, pos, ◌+ℤ◌}
 use Rattle.std.specs.List.{list_any, list_all}
 use Rattle.std.specs.FinSet as set
@@ -9,7 +9,7 @@ use borrow.Author.Differences.{ints}
 use Rattle.pixel_core.specs.Rgba.{Rgba}
 use Rattle.geom_core.specs.Points.{Point}
 use Rattle.geom_core.specs.Areas.{Area, any_holds, lies_in}
-use Rattle.geom_core.specs.Grid.{Key, key_cmp, key_of, same_key, keys_of, all_keys_of}
+use Rattle.geom_core.specs.Grid.{Key, key_of, same_key, keys_of, all_keys_of}
 use Rattle.geom_core.proofs.Tests.{and_left, and_right, both_true, or_left, or_right}
 use Rattle.geom_core.proofs.Keys.{key_of_any_held}
 use Rattle.geom_core.proofs.Tiles.{key_is}

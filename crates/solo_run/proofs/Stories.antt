@@ -1,28 +1,22 @@
 -- What the entries of a queue mean, and what becomes of the story.
-use Rattle.std.proofs.Common.{◌≡◌, ℕ, suc, zero, ◌+◌, ◌<◌, ◌≤◌, Bool, true, false, ◌&&◌, not, Option, Some, None, is_some, List, [], ◌∷◌, ◌++◌, map, length, drop, take, cond, refl, sym, ap, ◌∙◌, subst, arith}
+use Rattle.std.proofs.Common.{◌≡◌, ℕ, suc, zero, ◌+◌, ◌<◌, Bool, true, false, not, Option, Some, None, is_some, List, [], ◌∷◌, ◌++◌, map, length, drop, take, cond, refl, sym, ap, ◌∙◌, subst, arith}
 use Rattle.std.specs.Prelude.{slice_get, All, Result, Ok, Err, IfOk}
 use Rattle.std.specs.List.{list_all, AllByRecursion}
 use Rattle.std.specs.FinSet as set
 use Rattle.std.specs.FinSet.{FinSet}
 use Rattle.geom_core.specs.Grid.{key_cmp}
-use Rattle.geom_core.proofs.Tests.{and_left, and_right, both_true, true_or_false, or_right}
-use Rattle.pixel_core.specs.Rgba.{Rgba}
-use Rattle.ppm_out.specs.Pictures.{colours_of}
-use Rattle.doc_model.specs.declared.job.Job.{Job}
-use Rattle.doc_model.specs.declared.job.Kind.{Kind}
+use Rattle.geom_core.proofs.Tests.{and_left, and_right, or_right}
 use Rattle.doc_model.specs.declared.canvas.Canvas.{Canvas}
-use Rattle.doc_model.specs.declared.tree.Change.{Change}
 use Rattle.doc_model.specs.declared.command.Command.{Command}
-use Rattle.doc_model.specs.declared.command.Command.TheVariants as command
 use Rattle.doc_model.specs.declared.command.Outcome.{Outcome}
 use Rattle.doc_model.specs.declared.command.Outcome.TheVariants as outcome
 use Rattle.doc_model.specs.Layers.{Layer}
 use Rattle.doc_model.specs.Jobs.{apply_all}
-use Rattle.doc_model.specs.Forest.{content, with_content, has}
+use Rattle.doc_model.specs.Forest.{content, with_content}
 use Rattle.doc_model.specs.Changes.{there}
 use Rattle.doc_model.specs.Picture.{Doc}
 use Rattle.doc_model.specs.Laws.{IsDocument, EachDoc}
-use Rattle.doc_model.specs.Lawful.{is_closed_entry, is_open, lawful, lawful_after, may_follow}
+use Rattle.doc_model.specs.Lawful.{is_closed_entry, is_open, lawful}
 use Rattle.doc_model.specs.Meaning.{Story, start, told, told_all, told_stroke, closed_stroke, laid_stroke, meaning, ends_with}
 use Rattle.doc_model.specs.Strokes as doc
 use Rattle.doc_model.specs.Strokes.{Fate, Open, Ended, Cancelled, Stroke, Jobs, conflict, entries, fed}
@@ -30,11 +24,11 @@ use Rattle.doc_model.proofs.Limits.{meaning_keeps_limits}
 use Rattle.doc_model.proofs.SameContent.{content_has, with_same}
 use Rattle.doc_model.proofs.Weights.{tree_distinct}
 use Rattle.machine_model.specs.State.{Reach, Part}
-use Rattle.stroke_core.specs.Fed.{Fed, Closed}
+use Rattle.stroke_core.specs.Fed.{Closed}
 use Rattle.entry_queue.specs.declared.entry.Entry.{Entry}
 use Rattle.entry_queue.specs.declared.entry.Entry.TheVariants.{Waiting, Whole, Other}
 use Rattle.entry_queue.specs.Pushed.{Pending, StandsFor, kept_of, may_leave, queued, stroke_of}
-use Rattle.entry_queue.proofs.Taking.{Fits, all_fit, kept_fit, lawful_fits}
+use Rattle.entry_queue.proofs.Taking.{Fits, kept_fit, lawful_fits}
 use Rattle.desk_steps.specs.Archives.{Archive, finished}
 use Rattle.solo_run.proofs.Fronts.{take_more}
 use Rattle.solo_run.specs.declared.solo.Solo.{Solo}

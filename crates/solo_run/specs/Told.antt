@@ -1,6 +1,5 @@
 -- What is told of a document that is painted entry by entry.
-use Rattle.std.specs.Prelude.{◌≡◌, ℕ, true, false, Bool, Option, Some, None, if◌then◌else◌, List, [], ◌∷◌, ◌++◌, map, take, length, All}
-use Rattle.doc_model.specs.declared.canvas.Canvas.{Canvas}
+use Rattle.std.specs.Prelude.{◌≡◌, true, Bool, None, List, [], ◌∷◌, ◌++◌, map, take, length, All}
 use Rattle.doc_model.specs.declared.command.Command.{Command}
 use Rattle.doc_model.specs.declared.command.Outcome.{Outcome}
 use Rattle.doc_model.specs.declared.command.Outcome.TheVariants.{Done}
@@ -12,7 +11,6 @@ use Rattle.doc_model.specs.Lawful.{is_closed_entry}
 use Rattle.doc_model.specs.Meaning.{Story, told, meaning}
 use Rattle.machine_model.specs.State.{Reach}
 use Rattle.ppm_out.specs.Pictures.{colours_of}
-use Rattle.stroke_core.specs.Fed.{Fed}
 use Rattle.entry_queue.specs.declared.entry.Entry.{Entry}
 use Rattle.entry_queue.specs.declared.entry.Entry.TheVariants.{Waiting, Whole, Other}
 use Rattle.entry_queue.specs.Pushed.{Pending, StandsFor, queued}

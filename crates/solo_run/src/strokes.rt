@@ -45,12 +45,7 @@ fn paint_job(alloc: Global, store: &mut Store, job: &Job) -> Result<(), NoMemory
 }
 
 /// Paints a job in the tiles of all rectangles that it writes.
-fn paint_rects(
-    alloc: Global,
-    store: &mut Store,
-    job: &Job,
-    shot: &Shot,
-) -> Result<(), NoMemory>
+fn paint_rects(alloc: Global, store: &mut Store, job: &Job, shot: &Shot) -> Result<(), NoMemory>
     requires checked { checks job.now ≡ true }
     requires limits { within_limits job.now ≡ true }
     requires seen { shot.now.rects ≡ reads job.now }

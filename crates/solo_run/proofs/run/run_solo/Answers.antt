@@ -2,7 +2,6 @@ use Rattle.std.proofs.Common.{◌≡◌, Vec, Global, [], refl, sym, ap, ◌∙�
 use Rattle.doc_model.specs.Canvases.{IsOfLimits}
 use Rattle.doc_model.specs.Lawful.{lawful}
 use Rattle.tile_core.specs.Frames.{Scene}
-use Rattle.script_text.specs.Script.{is_script}
 use Rattle.solo_run.proofs.Scripts.{HoldsOfScript, script_holds}
 use Rattle.solo_run.specs.Shows.{Shows}
 use Rattle.solo_run.specs.Told.{Ends, HasCome, IsReady}
@@ -39,8 +38,8 @@ pub loop-entry-preserved : goal.loop-entry-preserved
 loop-entry-preserved c =
     let script : HoldsOfScript c.args.script.now = script_holds c.args.script.now c.commands.ensures.script in
     let come : HasCome c.args.script.now.commands c.end.new.self c.pop.new.self =
-        come_further c.args.script.now.commands c.loop-entry.solo c.end.new.self c.loop-entry.queue c.pop.new.self c.in-Some.entry.now c.in_ok-outcome.outcome c.loop-entry.invariant.0 c.in-Some.ensures.value
-        c.in_ok-outcome.ensures c.pop.ensures.outcomes (c.pop.ensures.stands c.args.script.now.commands c.loop-entry.invariant.0.queue) in
+    come_further c.args.script.now.commands c.loop-entry.solo c.end.new.self c.loop-entry.queue c.pop.new.self c.in-Some.entry.now c.in_ok-outcome.outcome c.loop-entry.invariant.0 c.in-Some.ensures.value
+    c.in_ok-outcome.ensures c.pop.ensures.outcomes (c.pop.ensures.stands c.args.script.now.commands c.loop-entry.invariant.0.queue) in
     let next : IsReady c.in-Some.entry.now = next_ready c.args.script.now.commands c.loop-entry.solo c.loop-entry.queue c.in-Some.entry.now script.follows script.closed c.loop-entry.invariant.0 c.in-Some.ensures.value in
     let ends : Ends next.entry c.loop-entry.solo c.end.new.self c.in_ok-outcome.outcome = c.in_ok-outcome.ensures next.entry next.is in
     (come, ends.canvas ∙ c.loop-entry.invariant.1)

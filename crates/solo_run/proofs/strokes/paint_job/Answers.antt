@@ -1,6 +1,6 @@
-use Rattle.std.proofs.Common.{◌≡◌, ap, sym, ◌∙◌}
+use Rattle.std.proofs.Common.{ap, ◌∙◌}
 use Rattle.geom_core.specs.Grid.{all_keys_of}
-use Rattle.doc_model.specs.Jobs.{apply, reads, writes, shot_of}
+use Rattle.doc_model.specs.Jobs.{apply, writes, shot_of}
 use Rattle.job_core.specs.Paints.{layer_of}
 use Rattle.desk_steps.specs.Archives.{layer_under_way}
 use Rattle.solo_run.specs.Painting.{PaintsOn, published_in}

@@ -1,7 +1,6 @@
-use Rattle.std.proofs.Common.{◌≡◌, Some, ◌∙◌, ap, sym, subst}
+use Rattle.std.proofs.Common.{◌∙◌, ap, sym, subst}
 use Rattle.std.specs.Prelude.{slice_get}
 use Rattle.geom_core.specs.Grid.{all_keys_of}
-use Rattle.doc_model.specs.Jobs.{writes}
 use Rattle.job_core.specs.Paints.{layer_of}
 use Rattle.solo_run.specs.Painting.{PaintsOn, published_in}
 use Rattle.solo_run.proofs.Fronts.{item_at, take_all}

@@ -1,4 +1,4 @@
-use Rattle.std.proofs.Common.{◌≡◌, true, Ok, Some, is_some, sym, ap, ◌∙◌}
+use Rattle.std.proofs.Common.{Ok, Some, is_some, sym, ap, ◌∙◌}
 use Rattle.std.specs.FinSet as set
 use Rattle.doc_model.specs.Forest.{content}
 use Rattle.doc_model.specs.Changes.{there}
