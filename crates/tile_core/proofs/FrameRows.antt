@@ -24,11 +24,11 @@ written old mid new ys zs k m e n w =
     w ∙ ap (λ v. v ++ zs ++ drop (k + m) mid) front ∙ ap (λ v. ys ++ zs ++ v) back
 
 -- how many colours n pixels have
-many_colours : {X : Type 0} (f : X → List ℕ) (xs : List X) → ((x : X) → length (f x) ≡ 3) → length (flat_map f xs) ≡ 3 * length xs
+pub many_colours : {X : Type 0} (f : X → List ℕ) (xs : List X) → ((x : X) → length (f x) ≡ 3) → length (flat_map f xs) ≡ 3 * length xs
 many_colours f [] h = refl
 many_colours f (x ∷ xs) h = length-append (f x) (flat_map f xs) ∙ ap (λ n. n + length (flat_map f xs)) (h x) ∙ ap (λ n. 3 + n) (many_colours f xs h) ∙ (omega arith)
 
-length-row : (x y : ℤ) (n : ℕ) → length (row x y n) ≡ n
+pub length-row : (x y : ℤ) (n : ℕ) → length (row x y n) ≡ n
 length-row x y zero = refl
 length-row x y (suc n) = ap (λ i. suc i) (length-row (x +ℤ pos 1) y n)
 
@@ -48,7 +48,7 @@ colours_next paper old mid new rgb ps at i p e h is room er w =
     ∙ ap (λ m. (take at old ++ flat_map f (take (i + 1) ps)) ++ drop m old) end
 
 -- the pixel put at a point of a row
-point_pixel : (s : Scene) (o : Option Pixels) (i y c : ℕ) → finite.get s.tiles (key (pos i) (pos (y / 64))) ≡ o → c < 64 → put_at s (point (pos (64 * i + c)) (pos y)) ≡ pixel_or o clear (point (pos (64 * i + c)) (pos y))
+pub point_pixel : (s : Scene) (o : Option Pixels) (i y c : ℕ) → finite.get s.tiles (key (pos i) (pos (y / 64))) ≡ o → c < 64 → put_at s (point (pos (64 * i + c)) (pos y)) ≡ pixel_or o clear (point (pos (64 * i + c)) (pos y))
 point_pixel s o i y c e h =
     let q : (64 * i + c) / 64 ≡ i = omega arith in
     ap (λ n. pixel_or (finite.get s.tiles (key (pos n) (pos (y / 64)))) clear (point (pos (64 * i + c)) (pos y))) q ∙ ap (λ v. pixel_or v clear (point (pos (64 * i + c)) (pos y))) e
@@ -123,7 +123,7 @@ lays_clear paper at n old new h w =
     w ∙ ap (λ v. take at old ++ flat_map (λ q. on_paper q paper) v ++ drop (at + 3 * length v) old) e ∙ ap (λ m. take at old ++ flat_map (λ q. on_paper q paper) (replicate n clear) ++ drop (at + 3 * m) old) (length-replicate n clear)
 
 -- a row in two parts
-row-add : (a m n b : ℕ) (y : ℤ) → a + m ≡ b → row (pos a) y (m + n) ≡ row (pos a) y m ++ row (pos b) y n
+pub row-add : (a m n b : ℕ) (y : ℤ) → a + m ≡ b → row (pos a) y (m + n) ≡ row (pos a) y m ++ row (pos b) y n
 row-add a zero n b y e = let f : a ≡ b = omega arith in let g : 0 + n ≡ n = omega arith in ap (λ i. row (pos a) y i) g ∙ ap (λ i. row (pos i) y n) f
 row-add a (suc m) n b y e =
     let f : a + 1 + m ≡ b = omega arith in

@@ -98,7 +98,8 @@ pub fn same_part(tile: &[Pixel], other: &[Pixel], part: Part) -> bool
     true
 }
 
-fn same_pixels(row: &[Pixel], other: &[Pixel]) -> bool
+/// Whether both have the same pixels.
+pub fn same_pixels(row: &[Pixel], other: &[Pixel]) -> bool
     ensures { IsTrue result ↔ (row.now ≡ other.now) }
 {
     row == other
