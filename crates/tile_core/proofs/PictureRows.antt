@@ -78,8 +78,18 @@ picture_next s old mid colours y at across w so ew ea ec =
       at_is = omega (arith, so.at_is, ea, ew, m);
     }
 
-pub picture_all : (s : Scene) (old new : List ℕ) (y at : ℕ) → PictureSoFar s old new y at → y ≡ s.height → new ≡ picture_colours s ++ drop (3 * (s.width * s.height)) old
-picture_all s old new y at so e = so.laid ∙ ap (λ i. first_rows s y ++ drop i old) so.at_is ∙ ap (λ n. first_rows s n ++ drop (3 * (s.width * n)) old) e
+pub picture_shown : (s : Scene) (old new : List ℕ) (y at : ℕ) → PictureSoFar s old new y at → y ≡ s.height → Shows s new
+picture_shown s old new y at so e =
+    let n : length (first_rows s s.height) ≡ 3 * (s.width * s.height) = length-first s s.height in
+    let laid : new ≡ first_rows s s.height ++ drop at old = so.laid ∙ ap (λ i. first_rows s i ++ drop at old) e in
+    ap (take (3 * (s.width * s.height))) laid ∙ ap (λ i. take i (first_rows s s.height ++ drop at old)) (sym n) ∙ take-append_seam (first_rows s s.height) (drop at old)
+
+pub picture_rest : (s : Scene) (old new : List ℕ) (y at : ℕ) → PictureSoFar s old new y at → y ≡ s.height → drop (3 * (s.width * s.height)) new ≡ drop (3 * (s.width * s.height)) old
+picture_rest s old new y at so e =
+    let n : length (first_rows s s.height) ≡ 3 * (s.width * s.height) = length-first s s.height in
+    let end : at ≡ 3 * (s.width * s.height) = so.at_is ∙ ap (λ i. 3 * (s.width * i)) e in
+    let laid : new ≡ first_rows s s.height ++ drop at old = so.laid ∙ ap (λ i. first_rows s i ++ drop at old) e in
+    ap (drop (3 * (s.width * s.height))) laid ∙ ap (λ i. drop i (first_rows s s.height ++ drop at old)) (sym n) ∙ drop-append_seam (first_rows s s.height) (drop at old) ∙ ap (λ i. drop i old) end
 
 pub row_fits : (w y h at across : ℕ) → y < h → at ≡ 3 * (w * y) → across ≡ 3 * w → at + across ≤ 3 * (w * h)
 row_fits w y h at across l e f =

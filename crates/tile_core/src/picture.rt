@@ -14,7 +14,8 @@ impl Frame {
     /// Writes red, green and blue of each point, in row order, to the first 3 * width * height places.
     pub fn picture_into(&self, picture: &mut [u8])
         requires room { 3 * (self.now.width * self.now.height) ≤ length picture.old }
-        ensures { picture.new ≡ picture_colours self.now ++ drop (3 * (self.now.width * self.now.height)) picture.old }
+        ensures shown { Shows self.now picture.new }
+        ensures rest { drop (3 * (self.now.width * self.now.height)) picture.new ≡ drop (3 * (self.now.width * self.now.height)) picture.old }
     {
         let across = 3 * self.width() as usize;
         let mut at = 0;
@@ -29,7 +30,8 @@ impl Frame {
     pub fn picture_after(&self, before: &Frame, picture: &mut [u8])
         requires room { 3 * (self.now.width * self.now.height) ≤ length picture.old }
         requires shown { Shows before.now picture.old }
-        ensures { picture.new ≡ picture_colours self.now ++ drop (3 * (self.now.width * self.now.height)) picture.old }
+        ensures shown { Shows self.now picture.new }
+        ensures rest { drop (3 * (self.now.width * self.now.height)) picture.new ≡ drop (3 * (self.now.width * self.now.height)) picture.old }
     {
         if self.has_canvas_of(before) {
             self.tiles_after(before, picture);
@@ -52,7 +54,8 @@ impl Frame {
         requires alike { SameCanvas self.now before.now }
         requires room { 3 * (self.now.width * self.now.height) ≤ length picture.old }
         requires shown { Shows before.now picture.old }
-        ensures { picture.new ≡ picture_colours self.now ++ drop (3 * (self.now.width * self.now.height)) picture.old }
+        ensures shown { Shows self.now picture.new }
+        ensures rest { drop (3 * (self.now.width * self.now.height)) picture.new ≡ drop (3 * (self.now.width * self.now.height)) picture.old }
     {
         let across = 3 * self.width() as usize;
         let mut kept = [false; 32];

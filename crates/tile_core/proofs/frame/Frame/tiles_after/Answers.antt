@@ -1,5 +1,5 @@
 use Rattle.std.proofs.Common.{◌+◌, ◌*◌, ◌/◌, refl, arith}
-use Rattle.tile_core.proofs.PictureRows.{picture_next, row_before, kept_none, marks_of, marks_next}
+use Rattle.tile_core.proofs.PictureRows.{picture_next, picture_shown, picture_rest, row_before, kept_none, marks_of, marks_next}
 use Rattle.tile_core.proofs.frame.Frame.tiles_after.Goals.{then-y-eq0, else-y-eq0}
 use Rattle.tile_core.proofs.frame.Frame.tiles_after.Goals as goal
 
@@ -21,3 +21,9 @@ loop-y-preserved c = record {
     | else-y-eq0 w ↦ rw (w.kept-is) (marks_of c.args.self.now c.args.before.now c.loop-y.y c.loop-y.kept c.loop-y.invariant.marks (omega arith))
   ]);
 }
+
+pub returns-clause-shown : goal.returns-clause-shown
+returns-clause-shown c = picture_shown c.args.self.now c.args.picture.now c.loop-y.picture c.loop-y.y c.loop-y.at c.loop-y.invariant.rows (omega (arith, c.height-y-end.ensures.value))
+
+pub returns-clause-rest : goal.returns-clause-rest
+returns-clause-rest c = picture_rest c.args.self.now c.args.picture.now c.loop-y.picture c.loop-y.y c.loop-y.at c.loop-y.invariant.rows (omega (arith, c.height-y-end.ensures.value))
