@@ -34,13 +34,13 @@ length-row x y (suc n) = ap (λ i. suc i) (length-row (x +ℤ pos 1) y n)
 
 -- one more pixel's colours
 pub colours_next : (paper : Rgba) (old mid new rgb : List ℕ) (ps : List Rgba) (at i : ℕ) (p : Rgba) → mid ≡ (take at old ++ flat_map (λ q. on_paper q paper) (take i ps)) ++ drop (at + 3 * i) old → i < length ps → p ≡ get_or ps i p
-    → at + 3 * length ps ≤ length old → rgb ≡ on_paper p paper → new ≡ take (at + 3 * i) mid ++ rgb ++ drop (at + 3 * i + length rgb) mid
+    → at + 3 * length ps ≤ length old → rgb ≡ on_paper p paper → new ≡ take (at + 3 * i) mid ++ rgb ++ drop (at + 3 * i + 3) mid
     → new ≡ (take at old ++ flat_map (λ q. on_paper q paper) (take (i + 1) ps)) ++ drop (at + 3 * (i + 1)) old
 colours_next paper old mid new rgb ps at i p e h is room er w =
     let f : Rgba → List ℕ = (λ q. on_paper q paper) in
     let front : length (take at old) ≡ at = length-take-le at old (omega arith) in
     let n : length (take at old ++ flat_map f (take i ps)) ≡ at + 3 * i = length-append (take at old) (flat_map f (take i ps)) ∙ ap (λ m. m + length (flat_map f (take i ps))) front ∙ ap (λ m. at + m) (many_colours f (take i ps) (λ _. refl) ∙ ap (λ m. 3 * m) (length-take-le i ps (omega arith))) in
-    let w' : new ≡ take (at + 3 * i) mid ++ f p ++ drop (at + 3 * i + 3) mid = w ∙ ap (λ v. take (at + 3 * i) mid ++ v ++ drop (at + 3 * i + length v) mid) er in
+    let w' : new ≡ take (at + 3 * i) mid ++ f p ++ drop (at + 3 * i + 3) mid = w ∙ ap (λ v. take (at + 3 * i) mid ++ v ++ drop (at + 3 * i + 3) mid) er in
     let more : flat_map f (take i ps) ++ f p ≡ flat_map f (take (i + 1) ps) = sym (ap (flat_map f) (take_more ps i p h ∙ ap (λ q. take i ps ++ q ∷ []) (sym is)) ∙ flat_map-append f (take i ps) (p ∷ [])) in
     let end : at + 3 * i + 3 ≡ at + 3 * (i + 1) = omega arith in
     written old mid new (take at old ++ flat_map f (take i ps)) (f p) (at + 3 * i) 3 e n w'

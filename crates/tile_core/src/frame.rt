@@ -12,7 +12,6 @@ ghost use Rattle.tile_core.specs.Frames.{IsScene, scene, colours_at, row_colours
 
 use crate::Tile;
 use crate::keyed::{pixel_under, put_under, tile_under};
-use crate::rows::put_row;
 use geom_core::{NoMemory, TileKey, tile_of};
 use pixel_core::{Pixel, on_paper};
 use std::alloc::Global;
@@ -146,8 +145,20 @@ fn lay_colours(row: &mut [u8], at: usize, pixels: &[Pixel], paper: Pixel)
     ensures { row.new ≡ take at row.old ++ flat_map (λ p. paper_colours p paper) pixels.now ++ drop (at + 3 * length pixels.now) row.old }
 {
     for i in 0..pixels.len() {
-        put_row(row, at + 3 * i, &colours_of(pixels[i], paper));
+        put_colours(row, at + 3 * i, colours_of(pixels[i], paper));
     }
+}
+
+/// Writes three colours to the places from `at` on.
+#[inline]
+fn put_colours(row: &mut [u8], at: usize, colours: [u8; 3])
+    requires { at + 3 ≤ length row.old }
+    ensures { row.new ≡ take at row.old ++ colours ++ drop (at + 3) row.old }
+{
+    let [r, g, b] = colours;
+    row[at] = r;
+    row[at + 1] = g;
+    row[at + 2] = b;
 }
 
 /// Writes the colours of n clear pixels on the paper to the places from `at` on.
@@ -166,12 +177,12 @@ fn colours_of(p: Pixel, paper: Pixel) -> [u8; 3]
     requires { paper.a ≡ 255 }
     ensures { result ≡ paper_colours p paper }
 {
-    if p == Pixel::CLEAR {
-        let [r, g, b, _] = paper.bytes();
-        return [r, g, b];
-    }
     let [r, g, b, a] = p.bytes();
     if a == 255 {
+        return [r, g, b];
+    }
+    if p == Pixel::CLEAR {
+        let [r, g, b, _] = paper.bytes();
         [r, g, b]
     } else {
         on_paper(p, paper)
