@@ -40,7 +40,11 @@ pub fn write_frame<K: Sink>(frame: &Frame, row: &mut [u8], out: &mut K) -> Resul
 ///
 /// # Errors
 /// `Failed` only where the sink's count of faults rose. The sink then took the first of the bytes.
-pub fn write_frames<K: Sink>(frames: &[Frame], picture: &mut [u8], out: &mut K) -> Result<(), Failed>
+pub fn write_frames<K: Sink>(
+    frames: &[Frame],
+    picture: &mut [u8],
+    out: &mut K,
+) -> Result<(), Failed>
     requires room { All (λ (f : Scene). 3 * (f.width * f.height) ≤ length picture.old) frames.now }
     ensures ok { OnOk result (Appends (K.taken out.old) (K.taken out.new) (flat_map scene_bytes frames.now)) }
     ensures err { OnErr result (AppendsPrefix (K.taken out.old) (K.taken out.new) (flat_map scene_bytes frames.now)) }

@@ -2,21 +2,19 @@
 use Rattle.std.proofs.Common.{◌≡◌, ◌≢◌, ℕ, suc, zero, ◌+◌, ◌-◌, ◌*◌, ◌/◌, ◌%◌, ◌≤◌, ◌<◌, ◌⊎◌, inl, inr, Bool, true, false, List, [], ◌∷◌, ◌++◌, length, get_or, take, drop, map, replicate, min, refl, sym, ap, subst, ◌∙◌, arith, append_assoc, append-nil, length-append}
 use Rattle.std.specs.List.{flat_map}
 use Rattle.std.specs.FinMap as finite
-use Rattle.std.specs.Prelude.{ℤ, pos, ◌+ℤ◌, slice_range}
+use Rattle.std.specs.Prelude.{ℤ, pos, slice_range}
 use Rattle.std.proofs.Math.ListN.{set, drop_of_length-le}
 use borrow.Rule.Slice.PartMut.{put_mid}
 use Rattle.std.proofs.Math.Seq.{take-append_seam, drop-append_seam}
-use Rattle.std.proofs.lemmas.List.{length-take, drop-drop, drop-take, get_or-set_same, get_or-set_other, take-append-le}
+use Rattle.std.proofs.lemmas.List.{length-take, drop-drop, drop-take, get_or-set_same, get_or-set_other}
 use Rattle.std.proofs.lemmas.List.Folds.{flat_map-map}
 use Rattle.std.proofs.lemmas.Slice.{drop-append-drop}
 use Rattle.std.proofs.lemmas.Grind.{flat_map-append}
-use Rattle.pixel_core.specs.Rgba.{clear}
 use Rattle.pixel_core.specs.Compose.{on_paper}
 use Rattle.geom_core.specs.Points.{Point, point}
 use Rattle.geom_core.specs.Areas.{row, rows}
 use Rattle.geom_core.specs.Grid.{key}
-use Rattle.tile_core.specs.Pixels.{pixel_or}
-use Rattle.tile_core.specs.Frames.{Scene, put_at, colours_at, row_colours, picture_colours, Shows, SameCanvas, IsKept, LaysPoints}
+use Rattle.tile_core.specs.Frames.{Scene, put_at, colours_at, row_colours, Shows, SameCanvas, IsKept, LaysPoints}
 use Rattle.tile_core.proofs.FrameRows.{written, many_colours, length-row, point_pixel, row-add, RowSoFar}
 
 -- the colours of the first n rows

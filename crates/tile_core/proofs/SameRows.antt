@@ -1,5 +1,5 @@
 -- Tiles that have the same pixels, row by row.
-use Rattle.std.proofs.Common.{◌≡◌, ℕ, ◌+◌, ◌-◌, ◌*◌, ◌≤◌, ◌<◌, Bool, true, ◌&&◌, nat_eq, List, [], ◌∷◌, ◌++◌, length, get_or, take, drop, sym, ap, ◌∙◌, subst, arith, ◌⊎◌, inl, inr}
+use Rattle.std.proofs.Common.{◌≡◌, ℕ, ◌+◌, ◌-◌, ◌*◌, ◌≤◌, ◌<◌, Bool, true, ◌&&◌, nat_eq, [], ◌∷◌, ◌++◌, length, get_or, take, drop, sym, ap, ◌∙◌, subst, arith, ◌⊎◌, inl, inr}
 use Rattle.std.specs.Prelude.{slice_range}
 use Rattle.std.proofs.lemmas.Bool.Decides.{nat_tests}
 use Rattle.std.specs.Int.{to_le_bytes, w32}
@@ -69,17 +69,16 @@ same_more xs ys i m n same p q h l ep eq f g so =
     let ex : take (i + 1) xs ≡ take i xs ++ p ∷ [] = take_more xs i p h ∙ ap (λ v. take i xs ++ v ∷ []) (sym ep) in
     let ey : take (i + 1) ys ≡ take i ys ++ q ∷ [] = take_more ys i q (omega arith) ∙ ap (λ v. take i ys ++ v ∷ []) (sym eq) in
     let nx : length (take i xs) ≡ i = length-take-le i xs (omega arith) in
-    let ny : length (take i ys) ≡ i = length-take-le i ys (omega arith) in
-    (
+    let ny : length (take i ys) ≡ i = length-take-le i ys (omega arith) in (
       (λ t.
-        let s : same ≡ true = grind (arith, nat_tests) in
-        let e : m ≡ n = grind (arith, nat_tests) in
-        ex ∙ ap (λ v. v ++ p ∷ []) (so.0 s) ∙ ap (λ v. take i ys ++ v ∷ []) (g e) ∙ sym ey),
+          let s : same ≡ true = grind (arith, nat_tests) in
+          let e : m ≡ n = grind (arith, nat_tests) in
+          ex ∙ ap (λ v. v ++ p ∷ []) (so.0 s) ∙ ap (λ v. take i ys ++ v ∷ []) (g e) ∙ sym ey),
       (λ e.
-        let both : take i xs ++ p ∷ [] ≡ take i ys ++ q ∷ [] = sym ex ∙ e ∙ ey in
-        let front : take i xs ≡ take i ys = sym (take-append_seam (take i xs) (p ∷ [])) ∙ ap (λ j. take j (take i xs ++ p ∷ [])) nx ∙ ap (take i) both ∙ ap (λ j. take j (take i ys ++ q ∷ [])) (sym ny) ∙ take-append_seam (take i ys) (q ∷ []) in
-        let last : p ∷ [] ≡ q ∷ [] = sym (drop-append_seam (take i xs) (p ∷ [])) ∙ ap (λ j. drop j (take i xs ++ p ∷ [])) nx ∙ ap (drop i) both ∙ ap (λ j. drop j (take i ys ++ q ∷ [])) (sym ny) ∙ drop-append_seam (take i ys) (q ∷ []) in
-        let s : same ≡ true = so.1 front in
-        let w : m ≡ n = f (ap (λ v. get_or v 0 p) last) in
-        grind (arith, nat_tests)),
+          let both : take i xs ++ p ∷ [] ≡ take i ys ++ q ∷ [] = sym ex ∙ e ∙ ey in
+          let front : take i xs ≡ take i ys = sym (take-append_seam (take i xs) (p ∷ [])) ∙ ap (λ j. take j (take i xs ++ p ∷ [])) nx ∙ ap (take i) both ∙ ap (λ j. take j (take i ys ++ q ∷ [])) (sym ny) ∙ take-append_seam (take i ys) (q ∷ []) in
+          let last : p ∷ [] ≡ q ∷ [] = sym (drop-append_seam (take i xs) (p ∷ [])) ∙ ap (λ j. drop j (take i xs ++ p ∷ [])) nx ∙ ap (drop i) both ∙ ap (λ j. drop j (take i ys ++ q ∷ [])) (sym ny) ∙ drop-append_seam (take i ys) (q ∷ []) in
+          let s : same ≡ true = so.1 front in
+          let w : m ≡ n = f (ap (λ v. get_or v 0 p) last) in
+          grind (arith, nat_tests)),
     )

@@ -1,4 +1,4 @@
-use Rattle.std.proofs.Common.{◌+◌, ◌*◌, ◌/◌, refl, arith}
+use Rattle.std.proofs.Common.{◌+◌, ◌*◌, refl, arith}
 use Rattle.tile_core.proofs.PictureRows.{picture_next, picture_shown, picture_rest, row_before, kept_none, marks_of, marks_next}
 use Rattle.tile_core.proofs.frame.Frame.tiles_after.Goals.{then-y-eq0, else-y-eq0}
 use Rattle.tile_core.proofs.frame.Frame.tiles_after.Goals as goal
