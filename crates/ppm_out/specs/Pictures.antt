@@ -17,3 +17,7 @@ frame_bytes w h frame = header w h ++ concat frame
 -- the colours that a frame of tiles shows, in row order
 abbrev pub colours_of : Scene → Frame
 colours_of s = map (colours_at s) (points_of (area (pos 0) (pos 0) s.width s.height))
+
+-- a frame of tiles as a pixmap
+abbrev pub scene_bytes : Scene → List ℕ
+scene_bytes s = frame_bytes s.width s.height (colours_of s)

@@ -5,4 +5,4 @@ mod picture;
 #[cfg(test)]
 mod tests;
 
-pub use picture::write_frame;
+pub use picture::{write_frame, write_frames};

@@ -1,10 +1,12 @@
 //! Portable pixmaps of kind P6, as Netpbm's page on PPM has them.
 
-ghost use Rattle.std.specs.Prelude.{◌*◌, ◌≤◌, OnOk, OnErr, length};
+ghost use Rattle.std.specs.Prelude.{◌*◌, ◌≤◌, OnOk, OnErr, length, All};
+ghost use Rattle.std.specs.List.{flat_map};
+ghost use Rattle.tile_core.specs.Frames.{Scene, Shows};
 ghost use Rattle.std.specs.Io.KnownBytes.{Appends};
 ghost use Rattle.io_edge.specs.Bytes.{AppendsPrefix};
 ghost use Rattle.io_edge.specs.Faults.{HasCause};
-ghost use Rattle.ppm_out.specs.Pictures.{header, frame_bytes, colours_of};
+ghost use Rattle.ppm_out.specs.Pictures.{header, frame_bytes, colours_of, scene_bytes};
 
 use io_edge::{Failed, Sink, write_all, write_pieces};
 use itoa::Buffer;
@@ -30,6 +32,47 @@ pub fn write_frame<K: Sink>(frame: &Frame, row: &mut [u8], out: &mut K) -> Resul
         write_all(out, &row[..3 * w as usize])?;
     }
     Ok(())
+}
+
+/// Writes the frames as pixmaps, one after another. `picture` has room for the colours of each
+/// frame, which it keeps for the next one: of frames with the same sides and paper only the tiles
+/// that differ are laid anew. It takes no memory.
+///
+/// # Errors
+/// `Failed` only where the sink's count of faults rose. The sink then took the first of the bytes.
+pub fn write_frames<K: Sink>(
+    frames: &[Frame],
+    picture: &mut [u8],
+    out: &mut K,
+) -> Result<(), Failed>
+    requires room { All (λ (f : Scene). 3 * (f.width * f.height) ≤ length picture.old) frames.now }
+    ensures ok { OnOk result (Appends (K.taken out.old) (K.taken out.new) (flat_map scene_bytes frames.now)) }
+    ensures err { OnErr result (AppendsPrefix (K.taken out.old) (K.taken out.new) (flat_map scene_bytes frames.now)) }
+    ensures cause { HasCause (K.faults out.old) (K.faults out.new) result }
+{
+    for i in 0..frames.len() {
+        if i == 0 {
+            frames[i].picture_into(picture);
+        } else {
+            frames[i].picture_after(&frames[i - 1], picture);
+        }
+        write_picture(&frames[i], picture, out)?;
+    }
+    Ok(())
+}
+
+/// Writes the pixmap of a frame whose colours stand in the picture.
+fn write_picture<K: Sink>(frame: &Frame, picture: &[u8], out: &mut K) -> Result<(), Failed>
+    requires room { 3 * (frame.now.width * frame.now.height) ≤ length picture.now }
+    requires shown { Shows frame.now picture.now }
+    ensures ok { OnOk result (Appends (K.taken out.old) (K.taken out.new) (scene_bytes frame.now)) }
+    ensures err { OnErr result (AppendsPrefix (K.taken out.old) (K.taken out.new) (scene_bytes frame.now)) }
+    ensures cause { HasCause (K.faults out.old) (K.faults out.new) result }
+{
+    let columns = frame.width();
+    let rows = frame.height();
+    write_header(columns, rows, out)?;
+    write_all(out, &picture[..3 * (columns as usize * rows as usize)])
 }
 
 /// Writes what stands before the colours.

@@ -24,23 +24,23 @@ written old mid new ys zs k m e n w =
     w ∙ ap (λ v. v ++ zs ++ drop (k + m) mid) front ∙ ap (λ v. ys ++ zs ++ v) back
 
 -- how many colours n pixels have
-many_colours : {X : Type 0} (f : X → List ℕ) (xs : List X) → ((x : X) → length (f x) ≡ 3) → length (flat_map f xs) ≡ 3 * length xs
+pub many_colours : {X : Type 0} (f : X → List ℕ) (xs : List X) → ((x : X) → length (f x) ≡ 3) → length (flat_map f xs) ≡ 3 * length xs
 many_colours f [] h = refl
 many_colours f (x ∷ xs) h = length-append (f x) (flat_map f xs) ∙ ap (λ n. n + length (flat_map f xs)) (h x) ∙ ap (λ n. 3 + n) (many_colours f xs h) ∙ (omega arith)
 
-length-row : (x y : ℤ) (n : ℕ) → length (row x y n) ≡ n
+pub length-row : (x y : ℤ) (n : ℕ) → length (row x y n) ≡ n
 length-row x y zero = refl
 length-row x y (suc n) = ap (λ i. suc i) (length-row (x +ℤ pos 1) y n)
 
 -- one more pixel's colours
 pub colours_next : (paper : Rgba) (old mid new rgb : List ℕ) (ps : List Rgba) (at i : ℕ) (p : Rgba) → mid ≡ (take at old ++ flat_map (λ q. on_paper q paper) (take i ps)) ++ drop (at + 3 * i) old → i < length ps → p ≡ get_or ps i p
-    → at + 3 * length ps ≤ length old → rgb ≡ on_paper p paper → new ≡ take (at + 3 * i) mid ++ rgb ++ drop (at + 3 * i + length rgb) mid
+    → at + 3 * length ps ≤ length old → rgb ≡ on_paper p paper → new ≡ take (at + 3 * i) mid ++ rgb ++ drop (at + 3 * i + 3) mid
     → new ≡ (take at old ++ flat_map (λ q. on_paper q paper) (take (i + 1) ps)) ++ drop (at + 3 * (i + 1)) old
 colours_next paper old mid new rgb ps at i p e h is room er w =
     let f : Rgba → List ℕ = (λ q. on_paper q paper) in
     let front : length (take at old) ≡ at = length-take-le at old (omega arith) in
     let n : length (take at old ++ flat_map f (take i ps)) ≡ at + 3 * i = length-append (take at old) (flat_map f (take i ps)) ∙ ap (λ m. m + length (flat_map f (take i ps))) front ∙ ap (λ m. at + m) (many_colours f (take i ps) (λ _. refl) ∙ ap (λ m. 3 * m) (length-take-le i ps (omega arith))) in
-    let w' : new ≡ take (at + 3 * i) mid ++ f p ++ drop (at + 3 * i + 3) mid = w ∙ ap (λ v. take (at + 3 * i) mid ++ v ++ drop (at + 3 * i + length v) mid) er in
+    let w' : new ≡ take (at + 3 * i) mid ++ f p ++ drop (at + 3 * i + 3) mid = w ∙ ap (λ v. take (at + 3 * i) mid ++ v ++ drop (at + 3 * i + 3) mid) er in
     let more : flat_map f (take i ps) ++ f p ≡ flat_map f (take (i + 1) ps) = sym (ap (flat_map f) (take_more ps i p h ∙ ap (λ q. take i ps ++ q ∷ []) (sym is)) ∙ flat_map-append f (take i ps) (p ∷ [])) in
     let end : at + 3 * i + 3 ≡ at + 3 * (i + 1) = omega arith in
     written old mid new (take at old ++ flat_map f (take i ps)) (f p) (at + 3 * i) 3 e n w'
@@ -48,7 +48,7 @@ colours_next paper old mid new rgb ps at i p e h is room er w =
     ∙ ap (λ m. (take at old ++ flat_map f (take (i + 1) ps)) ++ drop m old) end
 
 -- the pixel put at a point of a row
-point_pixel : (s : Scene) (o : Option Pixels) (i y c : ℕ) → finite.get s.tiles (key (pos i) (pos (y / 64))) ≡ o → c < 64 → put_at s (point (pos (64 * i + c)) (pos y)) ≡ pixel_or o clear (point (pos (64 * i + c)) (pos y))
+pub point_pixel : (s : Scene) (o : Option Pixels) (i y c : ℕ) → finite.get s.tiles (key (pos i) (pos (y / 64))) ≡ o → c < 64 → put_at s (point (pos (64 * i + c)) (pos y)) ≡ pixel_or o clear (point (pos (64 * i + c)) (pos y))
 point_pixel s o i y c e h =
     let q : (64 * i + c) / 64 ≡ i = omega arith in
     ap (λ n. pixel_or (finite.get s.tiles (key (pos n) (pos (y / 64)))) clear (point (pos (64 * i + c)) (pos y))) q ∙ ap (λ v. pixel_or v clear (point (pos (64 * i + c)) (pos y))) e
@@ -123,7 +123,7 @@ lays_clear paper at n old new h w =
     w ∙ ap (λ v. take at old ++ flat_map (λ q. on_paper q paper) v ++ drop (at + 3 * length v) old) e ∙ ap (λ m. take at old ++ flat_map (λ q. on_paper q paper) (replicate n clear) ++ drop (at + 3 * m) old) (length-replicate n clear)
 
 -- a row in two parts
-row-add : (a m n b : ℕ) (y : ℤ) → a + m ≡ b → row (pos a) y (m + n) ≡ row (pos a) y m ++ row (pos b) y n
+pub row-add : (a m n b : ℕ) (y : ℤ) → a + m ≡ b → row (pos a) y (m + n) ≡ row (pos a) y m ++ row (pos b) y n
 row-add a zero n b y e = let f : a ≡ b = omega arith in let g : 0 + n ≡ n = omega arith in ap (λ i. row (pos a) y i) g ∙ ap (λ i. row (pos i) y n) f
 row-add a (suc m) n b y e =
     let f : a + 1 + m ≡ b = omega arith in

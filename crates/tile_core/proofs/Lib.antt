@@ -10,3 +10,4 @@ pub mod PartsOf
 pub mod FrameRows
 pub mod SameRows
 pub mod TileLaws
+pub mod PictureRows

@@ -1,9 +1,11 @@
 -- Tiles that have the same pixels, row by row.
-use Rattle.std.proofs.Common.{◌≡◌, ℕ, ◌+◌, ◌-◌, ◌*◌, ◌≤◌, ◌<◌, Bool, true, ◌&&◌, nat_eq, length, get_or, drop, sym, ap, ◌∙◌, subst, arith, ◌⊎◌, inl, inr}
+use Rattle.std.proofs.Common.{◌≡◌, ℕ, ◌+◌, ◌-◌, ◌*◌, ◌≤◌, ◌<◌, Bool, true, ◌&&◌, nat_eq, [], ◌∷◌, ◌++◌, length, get_or, take, drop, sym, ap, ◌∙◌, subst, arith, ◌⊎◌, inl, inr}
 use Rattle.std.specs.Prelude.{slice_range}
 use Rattle.std.proofs.lemmas.Bool.Decides.{nat_tests}
-use Rattle.std.proofs.lemmas.List.{ext_get_or, get_or-take, get_or-drop}
-use Rattle.pixel_core.specs.Rgba.{Rgba, rgba, clear}
+use Rattle.std.specs.Int.{to_le_bytes, w32}
+use Rattle.std.proofs.Math.Seq.{take-append_seam, drop-append_seam}
+use Rattle.std.proofs.lemmas.List.{ext_get_or, get_or-take, get_or-drop, take_more, length-take-le}
+use Rattle.pixel_core.specs.Rgba.{Rgba, rgba, clear, bytes_of}
 use Rattle.tile_core.specs.Pixels.{Pixels, pixel_of}
 use Rattle.tile_core.specs.Parts.{SamePart}
 use Rattle.tile_core.proofs.SoFar.{SameSoFar}
@@ -51,3 +53,32 @@ each_same tile other left top w h rows from same e l p q =
     let n : length (slice_range tile from (from + w)) ≡ w = length_range tile from w p in
     ext_get_or clear (slice_range tile from (from + w)) (slice_range other from (from + w)) (n ∙ sym (length_range other from w q))
     (λ col k. let k' : col < w = omega (arith, n) in in_row tile left top w rows from col e k' ∙ same col rows k' l ∙ sym (in_row other left top w rows from col e k'))
+
+pixel_of_bytes : (p q : Rgba) → bytes_of p ≡ bytes_of q → p ≡ q
+pixel_of_bytes p q e i = rgba (get_or (e i) 0 0) (get_or (e i) 1 0) (get_or (e i) 2 0) (get_or (e i) 3 0)
+
+-- numbers that tell pixels apart
+pub one_number : (p q : Rgba) (m n : ℕ) → to_le_bytes w32 m ≡ bytes_of p → to_le_bytes w32 n ≡ bytes_of q → m ≡ n → p ≡ q
+one_number p q m n e f h = pixel_of_bytes p q (sym e ∙ ap (to_le_bytes w32) h ∙ f)
+
+-- one more pixel is the same
+pub same_more : (xs ys : Pixels) (i m n : ℕ) (same : Bool) (p q : Rgba) → i < length xs → length ys ≡ length xs → p ≡ get_or xs i p → q ≡ get_or ys i q → (p ≡ q → m ≡ n) → (m ≡ n → p ≡ q)
+    → (same ≡ true → take i xs ≡ take i ys) × (take i xs ≡ take i ys → same ≡ true)
+    → ((same && nat_eq m n) ≡ true → take (i + 1) xs ≡ take (i + 1) ys) × (take (i + 1) xs ≡ take (i + 1) ys → (same && nat_eq m n) ≡ true)
+same_more xs ys i m n same p q h l ep eq f g so =
+    let ex : take (i + 1) xs ≡ take i xs ++ p ∷ [] = take_more xs i p h ∙ ap (λ v. take i xs ++ v ∷ []) (sym ep) in
+    let ey : take (i + 1) ys ≡ take i ys ++ q ∷ [] = take_more ys i q (omega arith) ∙ ap (λ v. take i ys ++ v ∷ []) (sym eq) in
+    let nx : length (take i xs) ≡ i = length-take-le i xs (omega arith) in
+    let ny : length (take i ys) ≡ i = length-take-le i ys (omega arith) in (
+      (λ t.
+          let s : same ≡ true = grind (arith, nat_tests) in
+          let e : m ≡ n = grind (arith, nat_tests) in
+          ex ∙ ap (λ v. v ++ p ∷ []) (so.0 s) ∙ ap (λ v. take i ys ++ v ∷ []) (g e) ∙ sym ey),
+      (λ e.
+          let both : take i xs ++ p ∷ [] ≡ take i ys ++ q ∷ [] = sym ex ∙ e ∙ ey in
+          let front : take i xs ≡ take i ys = sym (take-append_seam (take i xs) (p ∷ [])) ∙ ap (λ j. take j (take i xs ++ p ∷ [])) nx ∙ ap (take i) both ∙ ap (λ j. take j (take i ys ++ q ∷ [])) (sym ny) ∙ take-append_seam (take i ys) (q ∷ []) in
+          let last : p ∷ [] ≡ q ∷ [] = sym (drop-append_seam (take i xs) (p ∷ [])) ∙ ap (λ j. drop j (take i xs ++ p ∷ [])) nx ∙ ap (drop i) both ∙ ap (λ j. drop j (take i ys ++ q ∷ [])) (sym ny) ∙ drop-append_seam (take i ys) (q ∷ []) in
+          let s : same ≡ true = so.1 front in
+          let w : m ≡ n = f (ap (λ v. get_or v 0 p) last) in
+          grind (arith, nat_tests)),
+    )

@@ -1,5 +1,5 @@
 -- A frame as contracts see it: its sides, its paper, and tiles under some keys.
-use Rattle.std.specs.Prelude.{◌≡◌, ℕ, ◌+◌, ◌*◌, ◌≤◌, pos, List, take, drop, ◌++◌, refl}
+use Rattle.std.specs.Prelude.{◌≡◌, ℕ, ◌+◌, ◌*◌, ◌≤◌, pos, List, take, drop, ◌++◌, refl, Bool, true, false, slice_index_or}
 use Rattle.std.specs.List.{flat_map}
 use Rattle.std.specs.FinMap as map
 use Rattle.std.specs.FinMap.{FinMap}
@@ -7,8 +7,8 @@ use Rattle.std.specs.Coded.{Coded, code_by, coded×, coded_ℕ, coded_list}
 use Rattle.pixel_core.specs.Rgba.{Rgba, clear, pixel_code}
 use Rattle.pixel_core.specs.Compose.{on_paper}
 use Rattle.geom_core.specs.Points.{Point}
-use Rattle.geom_core.specs.Areas.{row}
-use Rattle.geom_core.specs.Grid.{Key, key_cmp, key_of, key_code}
+use Rattle.geom_core.specs.Areas.{row, area, points_of}
+use Rattle.geom_core.specs.Grid.{Key, key_cmp, key, key_of, key_code}
 use Rattle.tile_core.specs.Pixels.{Pixels, pixel_or}
 
 -- a frame's sides, its paper, and what was put
@@ -41,6 +41,24 @@ colours_at s p = on_paper (put_at s p) s.paper
 -- the colours of the points of a row, from the left
 abbrev pub row_colours : Scene → ℕ → List ℕ
 row_colours s y = flat_map (colours_at s) (row (pos 0) (pos y) s.width)
+
+-- the colours of all points, in row order
+abbrev pub picture_colours : Scene → List ℕ
+picture_colours s = flat_map (colours_at s) (points_of (area (pos 0) (pos 0) s.width s.height))
+
+-- the first bytes are the colours of all points, in row order
+abbrev pub Shows : Scene → List ℕ → Type 0
+Shows s bytes = take (3 * (s.width * s.height)) bytes ≡ picture_colours s
+
+-- both frames have the same sides and the same paper
+pub record SameCanvas (s before : Scene) : Type 0 where
+  pub width : before.width ≡ s.width
+  pub height : before.height ≡ s.height
+  pub paper : before.paper ≡ s.paper
+
+-- in the columns of tiles that are marked, both frames have the same tile in that row of tiles
+abbrev pub IsKept : Scene → Scene → ℕ → List Bool → Type 0
+IsKept s before band kept = (col : ℕ) → slice_index_or kept col false ≡ true → map.get s.tiles (key (pos col) (pos band)) ≡ map.get before.tiles (key (pos col) (pos band))
 
 -- in rows of colours, the new one has those of the n points from x on, and the old one's elsewhere
 abbrev pub LaysPoints : Scene → ℕ → List ℕ → List ℕ → ℕ → ℕ → Type 0

@@ -3,6 +3,7 @@
 ghost use Rattle.std.specs.Prelude.{replicate, ◌≡◌, ℕ, ◌+◌, ◌*◌, ◌<◌, ◌≤◌, ◌++◌, IfOk, OnOk, OnErr, length, ◌-◌, pos, take, drop, min};
 ghost use Rattle.std.specs.List.{flat_map};
 ghost use Rattle.std.specs.FinMap as map;
+ghost use Rattle.std.specs.Option.{option_copied};
 ghost use Rattle.geom_core.specs.Areas.{row as points};
 ghost use Rattle.geom_core.specs.Points.{point};
 ghost use Rattle.pixel_core.specs.Compose.{on_paper as paper_colours};
@@ -10,8 +11,7 @@ ghost use Rattle.pixel_core.specs.Rgba.{clear};
 ghost use Rattle.tile_core.specs.Frames.{IsScene, scene, colours_at, row_colours, with_put, LaysPoints};
 
 use crate::Tile;
-use crate::keyed::{pixel_under, put_under};
-use crate::rows::put_row;
+use crate::keyed::{pixel_under, put_under, tile_under};
 use geom_core::{NoMemory, TileKey, tile_of};
 use pixel_core::{Pixel, on_paper};
 use std::alloc::Global;
@@ -72,6 +72,21 @@ impl Frame {
         self.height
     }
 
+    /// The opaque paper.
+    pub fn paper(&self) -> Pixel
+        ensures value { result ≡ self.now.paper }
+        ensures opaque { result.a ≡ 255 }
+    {
+        self.paper
+    }
+
+    /// The tile that was put under the key. Where there is none, the key's points are the paper.
+    pub fn tile(&self, key: TileKey) -> Option<&Tile>
+        ensures { option_copied result ≡ map.get self.now.tiles key }
+    {
+        tile_under(&self.tiles, key)
+    }
+
     /// The points of the key become the tile's pixels on the paper. The tile is shared, not copied.
     pub fn put(&mut self, key: TileKey, tile: &Tile) -> Result<(), NoMemory>
         ensures ok { OnOk result (self.new ≡ with_put self.old key tile.now) }
@@ -105,7 +120,7 @@ impl Frame {
     }
 
     /// The same for the row's points in the tiles of one column.
-    fn tile_row_into(&self, col: u16, y: u16, row: &mut [u8])
+    pub(crate) fn tile_row_into(&self, col: u16, y: u16, row: &mut [u8])
         requires col { 64 * col < self.now.width }
         requires y { y < self.now.height }
         requires room { 3 * self.now.width ≤ length row.old }
@@ -130,8 +145,20 @@ fn lay_colours(row: &mut [u8], at: usize, pixels: &[Pixel], paper: Pixel)
     ensures { row.new ≡ take at row.old ++ flat_map (λ p. paper_colours p paper) pixels.now ++ drop (at + 3 * length pixels.now) row.old }
 {
     for i in 0..pixels.len() {
-        put_row(row, at + 3 * i, &colours_of(pixels[i], paper));
+        put_colours(row, at + 3 * i, colours_of(pixels[i], paper));
     }
+}
+
+/// Writes three colours to the places from `at` on.
+#[inline]
+fn put_colours(row: &mut [u8], at: usize, colours: [u8; 3])
+    requires { at + 3 ≤ length row.old }
+    ensures { row.new ≡ take at row.old ++ colours ++ drop (at + 3) row.old }
+{
+    let [r, g, b] = colours;
+    row[at] = r;
+    row[at + 1] = g;
+    row[at + 2] = b;
 }
 
 /// Writes the colours of n clear pixels on the paper to the places from `at` on.
@@ -150,12 +177,12 @@ fn colours_of(p: Pixel, paper: Pixel) -> [u8; 3]
     requires { paper.a ≡ 255 }
     ensures { result ≡ paper_colours p paper }
 {
-    if p == Pixel::CLEAR {
-        let [r, g, b, _] = paper.bytes();
-        return [r, g, b];
-    }
     let [r, g, b, a] = p.bytes();
     if a == 255 {
+        return [r, g, b];
+    }
+    if p == Pixel::CLEAR {
+        let [r, g, b, _] = paper.bytes();
         [r, g, b]
     } else {
         on_paper(p, paper)

@@ -5,6 +5,7 @@ mod block;
 mod frame;
 mod keyed;
 pub mod laws;
+mod picture;
 mod rows;
 mod shot;
 mod tile;

@@ -1,6 +1,8 @@
 //! Rows of pixels in parts of tiles.
 
 ghost use Rattle.std.specs.Prelude.{◌^◌, IfOk, vec_len, ◌≡◌, ℕ, ◌+◌, ◌*◌, ◌<◌, ◌≤◌, ◌↔◌, IsTrue, length, take, drop, ◌++◌};
+ghost use Rattle.std.specs.Int.{to_le_bytes, w32};
+ghost use Rattle.pixel_core.specs.Rgba.{bytes_of};
 ghost use Rattle.tile_core.specs.Parts.{LaysPart, TakesPart, LaysTile, SamePart};
 
 use pixel_core::Pixel;
@@ -102,6 +104,27 @@ fn same_pixels(row: &[Pixel], other: &[Pixel]) -> bool
     ensures { IsTrue result ↔ (row.now ≡ other.now) }
 {
     row == other
+}
+
+/// Whether two tiles have the same pixels. It goes through all of them, with no branch.
+pub fn same_tiles(tile: &[Pixel], other: &[Pixel]) -> bool
+    requires { length other.now ≡ length tile.now }
+    ensures { IsTrue result ↔ (tile.now ≡ other.now) }
+{
+    let mut same = true;
+    for i in 0..tile.len() {
+        same = same & (word(tile[i]) == word(other[i]));
+    }
+    same
+}
+
+/// The four bytes of a pixel as one number.
+#[inline]
+fn word(p: Pixel) -> u32
+    ensures value { result ≡ p.r + 256 * p.g + 65536 * p.b + 16777216 * p.a }
+    ensures bytes { to_le_bytes w32 result ≡ bytes_of p }
+{
+    u32::from_le_bytes(p.bytes())
 }
 
 /// Lays a part of a tile, from its column `tile_left` and its row `tile_top` on, over a part of
