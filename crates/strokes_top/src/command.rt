@@ -56,12 +56,7 @@ fn paint<K: Sink>(alloc: Global, emit: Emit, script: &Script, out: &mut K) -> St
 }
 
 /// Reads the words and the script, paints it, and writes what is asked for.
-fn answer<S: Source, K: Sink>(
-    alloc: Global,
-    words: &Words,
-    source: &mut S,
-    out: &mut K,
-) -> Status
+fn answer<S: Source, K: Sink>(alloc: Global, words: &Words, source: &mut S, out: &mut K) -> Status
     ensures done { result ≡ Status.Done → IsAnswered (IsOutput false (K.taken out.old) (K.taken out.new)) words.now (S.left source.old) (S.left source.new) }
     ensures done_with_refusals { result ≡ Status.DoneWithRefusals → IsAnswered (IsOutput true (K.taken out.old) (K.taken out.new)) words.now (S.left source.old) (S.left source.new) }
     ensures usage { result ≡ Status.Usage → choice words.now ≡ None }

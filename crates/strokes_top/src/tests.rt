@@ -208,6 +208,13 @@ fn faults(rt: HostRuntime) -> Result<(), Fail> {
     assert_eq!(rt; got.out.as_slice(), b"".as_slice());
     let got = ran(&rt, rt.alloc(), &[], source_of(rt.alloc(), GOOD, 0)?, 2)?;
     assert_eq!(rt; got.code, if PAINTS { 5 } else { 6 });
-    assert_eq!(rt; got.out.as_slice(), if PAINTS { b"P6\n" } else { b"" });
+    assert_eq!(rt;
+        got.out.as_slice(),
+        if PAINTS {
+            b"P6\n".as_slice()
+        } else {
+            b"".as_slice()
+        }
+    );
     Ok(())
 }
