@@ -1,4 +1,5 @@
-//! Paints a script from standard input, and writes its picture to standard output.
+//! Reads a script from standard input, or generates one, and writes what the words ask for of it to
+//! standard output.
 #![tactic(auto)]
 
 use geom_core::NoMemory;

@@ -1,8 +1,6 @@
 pub mod Bytes
+pub mod Choice
+pub mod Named
 pub mod Output
-pub mod Painting
-pub mod Words
 pub mod Status
-pub mod Form
-pub mod Refusal
 pub mod Run

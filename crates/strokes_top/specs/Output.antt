@@ -1,21 +1,53 @@
--- What a run writes: portable pixmaps of kind P6, as Netpbm's page on PPM has them.
-use Rattle.std.specs.Prelude.{ℕ, List, ◌++◌, codes}
-use Rattle.std.specs.List.{flat_map, concat}
-use Rattle.std.specs.Fmt.{decimal}
+-- What a run writes of a script.
+use Rattle.std.specs.Prelude.{◌≡◌, ℕ, Bool, List, map}
+use Rattle.std.specs.List.{flat_map}
+use Rattle.std.specs.declared.option.Option.{Option}
+use Rattle.std.specs.Io.KnownBytes.{Appends}
+use Rattle.io_edge.specs.Bytes.{AppendsPrefix}
 use Rattle.doc_model.specs.declared.canvas.Canvas.{Canvas}
+use Rattle.doc_model.specs.Outcomes.{some_refused}
 use Rattle.doc_model.specs.Picture.{Frame}
 use Rattle.doc_model.specs.Strokes.{entries}
-use Rattle.doc_model.specs.Meaning.{meaning}
+use Rattle.tile_core.specs.Frames.{Scene}
+use Rattle.ppm_out.specs.Pictures.{colours_of, frame_bytes}
+use Rattle.log_out.specs.Log.{log_text}
+use Rattle.log_out.specs.Summary.{Sheet, sum_text}
 use Rattle.script_text.specs.Script.{Contents}
+use Rattle.solo_run.specs.Shows.{meaning_of}
+use Rattle.strokes_top.specs.declared.choice.Emit.{Emit}
+use Rattle.strokes_top.specs.declared.choice.Emit.TheVariants.{Picture, Log, Sum}
 
--- the kind, the columns and rows, and the largest value of a colour
-abbrev pub header : ℕ → ℕ → List ℕ
-header w h = codes "P6\n" ++ decimal w ++ codes " " ++ decimal h ++ codes "\n255\n"
+-- what a frame of tiles shows, as a pixmap
+abbrev pub pixmap : Scene → List ℕ
+pixmap s = frame_bytes s.width s.height (colours_of s)
 
--- a frame as a pixmap
-abbrev pub frame_bytes : Canvas → Frame → List ℕ
-frame_bytes canvas points = header canvas.w canvas.h ++ concat points
+-- a frame with the canvas's columns and rows
+abbrev pub sheet : Canvas → Frame → Sheet
+sheet canvas frame = record { w = canvas.w; h = canvas.h; frame = frame }
 
--- the frames that the script's commands export, one after another
-abbrev pub output : Contents → List ℕ
-output d = flat_map (frame_bytes d.canvas) (meaning d.canvas (entries d.commands)).frames
+-- the frames that the script's exports mean, as pixmaps one after another
+abbrev pub pictures : Contents → List ℕ
+pictures s = flat_map (frame_bytes s.canvas.w s.canvas.h) (meaning_of s).frames
+
+-- a line for each of its entries
+abbrev pub log : Contents → List ℕ
+log s = log_text (entries s.commands) (meaning_of s).outcomes
+
+-- how its entries ended, and a line for each frame
+abbrev pub summary : Contents → List ℕ
+summary s = sum_text (map (sheet s.canvas) (meaning_of s).frames) (meaning_of s).outcomes
+
+-- what is written of a script
+abbrev pub output : Emit → Contents → List ℕ
+output Picture s = pictures s
+output Log s = log s
+output Sum s = summary s
+
+-- all of it was written, and whether some entry was refused
+pub record IsOutput (refusals : Bool) (before after : Option (List ℕ)) (emit : Emit) (s : Contents) : Type 0 where
+  pub written : Appends before after (output emit s)
+  pub refusals_are : some_refused (meaning_of s).outcomes ≡ refusals
+
+-- the first of it was written
+abbrev pub IsBegun : Option (List ℕ) → Option (List ℕ) → Emit → Contents → Type 0
+IsBegun before after emit s = AppendsPrefix before after (output emit s)

@@ -1,13 +1,14 @@
 -- The code of a status, and the line that tells it.
-use Rattle.std.specs.Prelude.{ℕ, List, [], ◌++◌, codes}
+use Rattle.std.specs.Prelude.{ℕ, Bool, true, false, List, [], ◌++◌, codes}
 use Rattle.std.specs.Fmt.{decimal}
 use Rattle.script_lines.specs.Causes.{text}
 use Rattle.strokes_top.specs.declared.status.Status.{Status}
-use Rattle.strokes_top.specs.declared.status.Status.TheVariants.{Done, Usage, Script, ReadFault, WriteFault, NoMemory, TooLong}
+use Rattle.strokes_top.specs.declared.status.Status.TheVariants.{Done, DoneWithRefusals, Usage, Script, ReadFault, WriteFault, NoMemory, TooLong}
 
 -- the exit code
 abbrev pub code_of : Status → ℕ
 code_of Done = 0
+code_of DoneWithRefusals = 1
 code_of Usage = 2
 code_of (Script line cause) = 3
 code_of ReadFault = 4
@@ -18,9 +19,42 @@ code_of TooLong = 7
 -- the line on the error sink
 abbrev pub told_by : Status → List ℕ
 told_by Done = []
+told_by DoneWithRefusals = []
 told_by Usage = codes "strokes: usage: strokes [--workers N] [--emit picture|log|sum] [--demo NUMBER]\n"
 told_by (Script line cause) = codes "strokes: line " ++ decimal line ++ (codes ": " ++ text cause ++ codes "\n")
 told_by ReadFault = codes "strokes: reading failed\n"
 told_by WriteFault = codes "strokes: writing failed\n"
 told_by NoMemory = codes "strokes: out of memory\n"
 told_by TooLong = codes "strokes: script is longer than 1048576 bytes\n"
+
+-- whether the whole output was written
+abbrev pub is_done : Status → Bool
+is_done Done = true
+is_done DoneWithRefusals = true
+is_done s = false
+
+-- whether some of the output may have been written
+abbrev pub may_write : Status → Bool
+may_write WriteFault = true
+may_write s = is_done s
+
+-- whether the script is at fault
+abbrev pub is_script : Status → Bool
+is_script (Script line cause) = true
+is_script s = false
+
+-- whether taking the script may end so
+abbrev pub is_of_script : Status → Bool
+is_of_script (Script line cause) = true
+is_of_script ReadFault = true
+is_of_script TooLong = true
+is_of_script NoMemory = true
+is_of_script s = false
+
+-- whether painting and writing may end so
+abbrev pub is_painted : Status → Bool
+is_painted Done = true
+is_painted DoneWithRefusals = true
+is_painted WriteFault = true
+is_painted NoMemory = true
+is_painted s = false

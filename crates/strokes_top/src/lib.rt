@@ -1,14 +1,14 @@
 //! The command: from words and a source of bytes to a status and what was written.
 #![tactic(auto)]
 
+mod choice;
 mod command;
-mod form;
-mod painting;
-mod place;
 mod report;
+mod source;
 mod status;
 mod transfer;
 mod words;
+mod writing;
 
 pub use command::run;
 pub use status::Status;

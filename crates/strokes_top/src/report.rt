@@ -1,10 +1,10 @@
 //! What a run tells of itself.
 
-ghost use Rattle.std.specs.Prelude.{◌≡◌, ◌≢◌, ◌⊎◌, IfOk, string_bytes};
+ghost use Rattle.std.specs.Prelude.{◌≡◌, ◌⊎◌, true, false, IfOk, string_bytes};
 ghost use Rattle.std.specs.Io.KnownBytes.{Keeps, Appends};
 ghost use Rattle.io_edge.specs.Faults.{Rose};
 ghost use Rattle.io_edge.specs.Bytes.{AppendsPrefix};
-ghost use Rattle.strokes_top.specs.Status.{told_by};
+ghost use Rattle.strokes_top.specs.Status.{is_done, is_script, told_by};
 
 use crate::status::Status;
 use io_edge::{Sink, write_all};
@@ -31,16 +31,13 @@ fn tell<E: Sink>(err: &mut E, line: &[u8])
 /// Tells a status on the error sink. Where the line finds no memory, the status is that.
 pub fn report<E: Sink>(alloc: Global, err: &mut E, status: Status) -> Status
     ensures same { (result ≡ status) ⊎ (result ≡ Status.NoMemory) }
-    ensures done { status ≡ Status.Done → result ≡ Status.Done }
-    ensures write_fault { status ≡ Status.WriteFault → result ≡ Status.WriteFault }
-    ensures too_long { status ≡ Status.TooLong → result ≡ Status.TooLong }
-    ensures usage { status ≡ Status.Usage → result ≡ Status.Usage }
-    ensures quiet { result ≡ Status.Done → Keeps (E.taken err.old) (E.taken err.new) }
-    ensures prefix { result ≢ Status.Done → AppendsPrefix (E.taken err.old) (E.taken err.new) (told_by result) }
-    ensures whole { result ≢ Status.Done → ¬ Rose (E.faults err.old) (E.faults err.new) → Appends (E.taken err.old) (E.taken err.new) (told_by result) }
+    ensures others { is_script status ≡ false → result ≡ status }
+    ensures quiet { is_done result ≡ true → Keeps (E.taken err.old) (E.taken err.new) }
+    ensures prefix { is_done result ≡ false → AppendsPrefix (E.taken err.old) (E.taken err.new) (told_by result) }
+    ensures whole { is_done result ≡ false → ¬ Rose (E.faults err.old) (E.faults err.new) → Appends (E.taken err.old) (E.taken err.new) (told_by result) }
 {
     match status {
-        Status::Done => {}
+        Status::Done | Status::DoneWithRefusals => {}
         Status::Usage => tell(
             err,
             b"strokes: usage: strokes [--workers N] [--emit picture|log|sum] [--demo NUMBER]\n",

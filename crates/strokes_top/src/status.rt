@@ -7,8 +7,10 @@ use script_text::Cause;
 /// How a run ended.
 #[derive(Clone, Copy, Debug, PartialEq, Eq)]
 pub enum Status {
-    /// The output was written.
+    /// The output was written, and no entry of the script was refused.
     Done,
+    /// The output was written, and some entry of the script was refused.
+    DoneWithRefusals,
     /// The words aren't those of the command.
     Usage,
     /// The script's first bad line, whose number counts from 1, and its cause.
@@ -32,6 +34,7 @@ impl Status {
     {
         match self {
             Status::Done => 0,
+            Status::DoneWithRefusals => 1,
             Status::Usage => 2,
             Status::Script { .. } => 3,
             Status::ReadFault => 4,

@@ -1,16 +1,23 @@
+//! Runs over sources and sinks in memory.
+
 use super::*;
+use crate::choice::{Choice, ChoiceError, Emit, choice_of};
 use io_edge::{MemSink, MemSource, NoGate};
 use std::alloc::Global;
 use std::sync::Wait;
 use std::test::*;
 use std::thread::Threads;
 
-const SCRIPT: &[u8] =
+/// Whether scripts are painted. So far `run_solo` only answers that memory ran out.
+const PAINTS: bool = false;
+
+const GOOD: &[u8] =
     b"canvas 1 1\nlayer 1 0 0\nstroke 1 1\nfill 1 seq 0 0 1 1 ff000080 over 255\nend 1\nexport\n";
 
-const ALONE: &[u8] = b"canvas 1 1\n";
+const TWICE: &[u8] =
+    b"canvas 1 1\nlayer 1 0 0\nexport\nstroke 1 1\nfill 1 seq 0 0 1 1 ff000080 over 255\nend 1\nexport\n";
 
-const UNPAINTED: &[u8] = b"canvas 1 1\nlayer 1 0 0\nstroke 1 1\nend 1\nexport\n";
+const REFUSED: &[u8] = b"canvas 1 1\nundo\nexport\n";
 
 #[derive(Drop)]
 struct Seen {
@@ -19,19 +26,28 @@ struct Seen {
     err: Vec<u8>,
 }
 
-/// One run with a word or none, over a source that passes `most` bytes a call and fails at one, and
-/// sinks that take 8 bytes a call, of which the first fails at one. Call 0 never comes.
+fn words_of(alloc: Global, list: &[&str]) -> Result<Words, Fail> {
+    let mut words = Words::new(alloc);
+    for word in list {
+        words.add(*word).map_err(|_| "no memory")?;
+    }
+    Ok(words)
+}
+
+/// A source of a script in pieces of 8 bytes, which fails at one call. Call 0 never comes.
+fn source_of(alloc: Global, script: &[u8], failing: u32) -> Result<MemSource, Fail> {
+    Ok(MemSource::new(script.to_vec(alloc)?, 8, vec![in alloc; failing]?))
+}
+
+/// One run, with sinks that take 8 bytes a call, of which the first fails at one.
 fn ran<R: Threads + Wait + Sync>(
     rt: &R,
     alloc: Global,
-    word: Option<&str>,
+    list: &[&str],
     mut source: MemSource,
     failing_write: u32,
 ) -> Result<Seen, Fail> {
-    let mut words = Words::new(alloc);
-    if let Some(word) = word {
-        words.add(word).map_err(|_| "no memory")?;
-    }
+    let words = words_of(alloc, list)?;
     let mut out = MemSink::new(vec![in alloc; 0; 64]?, 8, vec![in alloc; failing_write]?);
     let mut err = MemSink::new(vec![in alloc; 0; 96]?, 8, Vec::new(alloc));
     let status = run(rt, alloc, &words, &mut source, &mut out, &mut err, &NoGate);
@@ -42,55 +58,107 @@ fn ran<R: Threads + Wait + Sync>(
     })
 }
 
-/// A source of a script in pieces of 8 bytes, which fails at one call.
-fn source_of(alloc: Global, script: &[u8], failing: u32) -> Result<MemSource, Fail> {
-    Ok(MemSource::new(script.to_vec(alloc)?, 8, vec![in alloc; failing]?))
+#[test]
+fn choices(rt: HostRuntime) -> Result<(), Fail> {
+    let rows: [(&[&str], Emit, Option<u32>); 5] = [
+        (&[], Emit::Picture, None),
+        (&["--emit", "sum"], Emit::Sum, None),
+        (&["--emit=log", "--workers", "0"], Emit::Log, None),
+        (&["--workers=16", "--demo=0"], Emit::Picture, Some(0)),
+        (
+            &["--demo", "4294967295", "--emit", "picture"],
+            Emit::Picture,
+            Some(4_294_967_295),
+        ),
+    ];
+    for (list, emit, demo) in rows {
+        let words = words_of(rt.alloc(), list)?;
+        assert_eq!(rt; choice_of(rt.alloc(), &words), Ok(Choice { emit, demo }));
+    }
+    let rows: [&[&str]; 11] = [
+        &["--workers", "17"],
+        &["--workers", "-1"],
+        &["--workers"],
+        &["--demo", "4294967296"],
+        &["--demo", "one"],
+        &["--emit", "nothing"],
+        &["--emit", "log", "--emit", "log"],
+        &["--help"],
+        &["-h"],
+        &["--loud"],
+        &["log"],
+    ];
+    for list in rows {
+        let words = words_of(rt.alloc(), list)?;
+        assert_eq!(rt; choice_of(rt.alloc(), &words), Err(ChoiceError::Usage));
+    }
+    Ok(())
 }
 
 #[test]
-fn pictures(rt: HostRuntime) -> Result<(), Fail> {
-    let got = ran(&rt, rt.alloc(), None, source_of(rt.alloc(), SCRIPT, 0)?, 0)?;
-    assert_eq!(rt; got.code, 0);
-    assert_eq!(rt;
-        got.out.as_slice(),
-        b"P6\n1 1\n255\n\xff\x7f\x7f".as_slice()
-    );
-    assert_eq!(rt; got.err.as_slice(), b"".as_slice());
-    let got = ran(
-        &rt,
-        rt.alloc(),
-        None,
-        source_of(rt.alloc(), UNPAINTED, 0)?,
-        0,
-    )?;
-    assert_eq!(rt; got.code, 0);
-    assert_eq!(rt;
-        got.out.as_slice(),
-        b"P6\n1 1\n255\n\xff\xff\xff".as_slice()
-    );
-    let got = ran(&rt, rt.alloc(), None, source_of(rt.alloc(), ALONE, 0)?, 0)?;
-    assert_eq!(rt; got.code, 0);
-    assert_eq!(rt; got.out.as_slice(), b"".as_slice());
+fn painted(rt: HostRuntime) -> Result<(), Fail> {
+    let rows: [(&[&str], &[u8], u8, &[u8]); 6] = [
+        (&[], GOOD, 0, b"P6\n1 1\n255\n\xff\x7f\x7f"),
+        (
+            &["--workers", "2"],
+            TWICE,
+            0,
+            b"P6\n1 1\n255\n\xff\xff\xffP6\n1 1\n255\n\xff\x7f\x7f",
+        ),
+        (&[], b"canvas 1 1\n", 0, b""),
+        (
+            &["--emit=log"],
+            GOOD,
+            0,
+            b"1 layer done\n2 stroke 1 done\n3 export done\n",
+        ),
+        (
+            &["--emit", "sum"],
+            GOOD,
+            0,
+            b"entries 3 done 3 cancelled 0 refused 0\nframe 1 1 1 509\n",
+        ),
+        (
+            &["--emit", "log"],
+            REFUSED,
+            1,
+            b"1 undo nothing to undo\n2 export done\n",
+        ),
+    ];
+    for (list, script, code, out) in rows {
+        let source = source_of(rt.alloc(), script, 0)?;
+        let got = ran(&rt, rt.alloc(), list, source, 0)?;
+        assert_eq!(rt; got.code, if PAINTS { code } else { 6 });
+        assert_eq!(rt; got.out.as_slice(), if PAINTS { out } else { b"" });
+    }
+    Ok(())
+}
+
+/// The source fails at its first call, which never comes where a script is generated.
+#[test]
+fn generated(rt: HostRuntime) -> Result<(), Fail> {
+    let source = source_of(rt.alloc(), GOOD, 1)?;
+    let got = ran(&rt, rt.alloc(), &["--demo", "1"], source, 0)?;
+    assert_eq!(rt; got.code, if PAINTS { 5 } else { 6 });
+    assert_eq!(rt; got.out.starts_with(b"P6\n800 600\n255\n"), PAINTS);
     Ok(())
 }
 
 #[test]
 fn refusals(rt: HostRuntime) -> Result<(), Fail> {
-    let got = ran(
-        &rt,
-        rt.alloc(),
-        Some("--help"),
-        source_of(rt.alloc(), SCRIPT, 0)?,
-        0,
-    )?;
+    let source = source_of(rt.alloc(), GOOD, 1)?;
+    let got = ran(&rt, rt.alloc(), &["--help"], source, 0)?;
     assert_eq!(rt; got.code, 2);
-    assert_eq!(rt; got.out.as_slice(), b"".as_slice());
+    assert_eq!(rt;
+        got.err.as_slice(),
+        b"strokes: usage: strokes [--workers N] [--emit picture|log|sum] [--demo NUMBER]\n".as_slice()
+    );
     let long = MemSource::new(
         vec![in rt.alloc(); b'#'; 1_048_577]?,
         4096,
         Vec::new(rt.alloc()),
     );
-    let got = ran(&rt, rt.alloc(), None, long, 0)?;
+    let got = ran(&rt, rt.alloc(), &[], long, 0)?;
     assert_eq!(rt; got.code, 7);
     assert_eq!(rt; got.out.as_slice(), b"".as_slice());
     Ok(())
@@ -102,7 +170,7 @@ fn told_of<R: Threads + Wait + Sync>(
     alloc: Global,
     script: &[u8],
 ) -> Result<Vec<u8>, Fail> {
-    let got = ran(rt, alloc, None, source_of(alloc, script, 0)?, 0)?;
+    let got = ran(rt, alloc, &[], source_of(alloc, script, 0)?, 0)?;
     if got.code != 3 || !got.out.is_empty() {
         return Err(Fail::from("not refused"));
     }
@@ -111,7 +179,7 @@ fn told_of<R: Threads + Wait + Sync>(
 
 #[test]
 fn bad_scripts(rt: HostRuntime) -> Result<(), Fail> {
-    let rows: [(&[u8], &[u8]); 6] = [
+    let rows: [(&[u8], &[u8]); 4] = [
         (b"", b"strokes: line 1: canvas missing\n"),
         (
             b"canvas 1 1\n\nlayer 1 0\n",
@@ -125,14 +193,6 @@ fn bad_scripts(rt: HostRuntime) -> Result<(), Fail> {
             b"canvas 1 1\nlayer 1 0 0\nstroke 1 1\nexport\n",
             b"strokes: line 3: stroke left open\n",
         ),
-        (
-            b"canvas 1 1\nlayer 1 0 0\nundo\nexport\n",
-            b"strokes: line 3: not built yet\n",
-        ),
-        (
-            b"# two\ncanvas 1 1\nlayer 1 0 0 00000000\n\nlayer 2 0 0\n",
-            b"strokes: line 5: not built yet\n",
-        ),
     ];
     for (script, line) in rows {
         let got = told_of(&rt, rt.alloc(), script)?;
@@ -143,11 +203,18 @@ fn bad_scripts(rt: HostRuntime) -> Result<(), Fail> {
 
 #[test]
 fn faults(rt: HostRuntime) -> Result<(), Fail> {
-    let got = ran(&rt, rt.alloc(), None, source_of(rt.alloc(), SCRIPT, 2)?, 0)?;
+    let got = ran(&rt, rt.alloc(), &[], source_of(rt.alloc(), GOOD, 2)?, 0)?;
     assert_eq!(rt; got.code, 4);
     assert_eq!(rt; got.out.as_slice(), b"".as_slice());
-    let got = ran(&rt, rt.alloc(), None, source_of(rt.alloc(), SCRIPT, 0)?, 2)?;
-    assert_eq!(rt; got.code, 5);
-    assert_eq!(rt; got.out.as_slice(), b"P6\n1 1\n2".as_slice());
+    let got = ran(&rt, rt.alloc(), &[], source_of(rt.alloc(), GOOD, 0)?, 2)?;
+    assert_eq!(rt; got.code, if PAINTS { 5 } else { 6 });
+    assert_eq!(rt;
+        got.out.as_slice(),
+        if PAINTS {
+            b"P6\n".as_slice()
+        } else {
+            b"".as_slice()
+        }
+    );
     Ok(())
 }

@@ -1,27 +1,24 @@
 //! The words of a command line.
 
-ghost use Rattle.std.specs.Prelude.{◌≡◌, [], ◌∷◌, ◌++◌, OnOk, OnErr, length, ◌==◌};
+ghost use Rattle.std.specs.Prelude.{◌≡◌, [], ◌∷◌, ◌++◌, OnOk, OnErr, map, string_bytes};
 
 use geom_core::NoMemory;
 use std::alloc::Global;
 use std::marker::Model;
 
-/// Words in their order, all in one text.
+/// Words in their order, without the program's name.
 #[derive(Drop)]
 pub struct Words {
-    text: String,
-    lengths: Vec<usize>,
+    texts: Vec<String>,
+    alloc: Global,
 }
 
 impl Model for Words {
-    ghost use Rattle.std.specs.Prelude.{List, ℕ, ◌≡◌, length, sum, string_bytes};
-    ghost use Rattle.strokes_top.specs.Words.{pieces};
+    ghost use Rattle.std.specs.Prelude.{List, ℕ, map, string_bytes};
 
     ghost Value = { List (List ℕ) };
 
-    ghost view = { λ w. pieces w.lengths.items (string_bytes w.text) };
-
-    ghost invariant = { λ w. sum w.lengths.items ≡ length (string_bytes w.text) };
+    ghost view = { λ w. map string_bytes w.texts.items };
 }
 
 impl Words {
@@ -30,8 +27,8 @@ impl Words {
         ensures { result ≡ [] }
     {
         Words {
-            text: String::new(alloc),
-            lengths: Vec::new(alloc),
+            texts: Vec::new(alloc),
+            alloc,
         }
     }
 
@@ -40,20 +37,15 @@ impl Words {
         ensures ok { OnOk result (self.new ≡ self.old ++ word.now ∷ []) }
         ensures err { OnErr result (self.new ≡ self.old) }
     {
-        if self.lengths.push(word.len()).is_err() {
-            return Err(NoMemory);
-        }
-        if self.text.push_str(word).is_err() {
-            let _ = self.lengths.pop();
-            return Err(NoMemory);
-        }
+        let text = String::from_str(self.alloc, word)?;
+        self.texts.push(text)?;
         Ok(())
     }
 
-    /// Whether there are none.
-    pub fn is_empty(&self) -> bool
-        ensures { result ≡ (length self.now == 0) }
+    /// The words.
+    pub(crate) fn texts(&self) -> &[String]
+        ensures { map string_bytes result.now ≡ self.now }
     {
-        self.lengths.is_empty()
+        &self.texts
     }
 }

@@ -1,0 +1,104 @@
+-- What a parse by the command's options gives.
+use Rattle.std.proofs.Common.{◌≡◌, ◌<◌, ◌≤◌, ℕ, List, [], ◌∷◌, Bool, true, false, Option, Some, None, Result, Ok, Err, refl, sym, ap, arith}
+use Rattle.std.specs.Result.{IfOk, result_ok}
+use Rattle.std.specs.Str.Parse.{ParsesUnsigned, ExplainsUnsignedError, HasUnsignedDigitsIfOk, digits_value, without_leading_plus}
+use Rattle.std.specs.declared.num.ParseIntError.{ParseIntError}
+use Rattle.clap.specs.Matches.{TriesOne}
+use Rattle.clap.specs.Kinds.{Kinds, IsAmong}
+use Rattle.clap.specs.Walk.{Text}
+use Rattle.clap.specs.Faults.{fault_of, is_simple_and_free}
+use Rattle.clap.specs.Simple.{is_simple, matches_of}
+use Rattle.clap.specs.ValueTests.{is_unsigned_in}
+use Rattle.clap.specs.Values.{Accepts}
+use Rattle.clap.specs.declared.builder.value_parser.ValueParser.TheVariants as parser
+use Rattle.clap.specs.declared.error.kind.ErrorKind.{ErrorKind}
+use Rattle.clap.proofs.OnLiterals.{clap_on_literals}
+use Rattle.clap.proofs.ValueTestLemmas.{accepts-Accepts, Accepts-accepts}
+use Rattle.strokes_top.specs.declared.choice.Emit.{Emit}
+use Rattle.strokes_top.specs.declared.choice.Emit.TheVariants.{Picture}
+use Rattle.strokes_top.specs.declared.choice.UnknownEmit.{UnknownEmit}
+use Rattle.strokes_top.specs.declared.choice.Choice.{Choice}
+use Rattle.strokes_top.specs.declared.choice.ChoiceError.{ChoiceError}
+use Rattle.strokes_top.specs.Choice.{command, choice, choice_by, emit_of, demo_of, number_of, unless_fault}
+use Rattle.strokes_top.specs.Named.{IsNamed}
+
+pub is_free : is_simple_and_free command ≡ true
+unfolding clap_on_literals
+is_free = refl
+
+pub command_is_simple : is_simple command ≡ true
+unfolding clap_on_literals
+command_is_simple = refl
+
+-- without a fault the choice is that of the matches
+pub choice_without_fault : (words : List Text) → fault_of command words ≡ [] → choice words ≡ choice_by (matches_of command words)
+unfolding choice
+choice_without_fault words e = ap (λ (kinds : Kinds). unless_fault kinds (choice_by (matches_of command words))) e
+
+among_some : (k : ErrorKind) (kinds : Kinds) (c : Option Choice) → IsAmong k kinds → unless_fault kinds c ≡ None
+among_some k [] c h = absurd h
+among_some k (x ∷ kinds) c h = refl
+
+-- with a fault there is none
+pub choice_with_fault : (words : List Text) (k : ErrorKind) → IsAmong k (fault_of command words) → choice words ≡ None
+unfolding choice
+choice_with_fault words k h = among_some k (fault_of command words) (choice_by (matches_of command words)) h
+
+-- what a reading of an emit's text tells
+pub emit_some : (o : Option Text) (emit : Emit) → (o ≡ None → ◌≡◌ {A = Result (Option Emit) UnknownEmit} (Ok (Some emit)) (Ok None)) → ((t : Text) → o ≡ Some t → IsNamed t (Ok emit)) → Some emit ≡ emit_of o
+emit_some None emit none value =
+    let bad : ◌≡◌ {A = Result (Option Emit) UnknownEmit} (Ok (Some emit)) (Ok None) = none refl in
+    cc
+emit_some (Some t) emit none value = sym (value t refl)
+
+pub emit_none : (o : Option Text) → ((t : Text) → o ≡ Some t → ⊥) → Some Picture ≡ emit_of o
+emit_none None value = refl
+emit_none (Some t) value = absurd (value t refl)
+
+pub emit_unknown : (o : Option Text) (e : UnknownEmit) → (o ≡ None → ◌≡◌ {A = Result (Option Emit) UnknownEmit} (Err e) (Ok None)) → ((t : Text) → o ≡ Some t → IsNamed t (Err e)) → None ≡ emit_of o
+emit_unknown None e none value =
+    let bad : ◌≡◌ {A = Result (Option Emit) UnknownEmit} (Err e) (Ok None) = none refl in
+    cc
+emit_unknown (Some t) e none value = sym (value t refl)
+
+-- what `u32` reads from a text
+abbrev pub Parses : Text → Result ℕ ParseIntError → Type 0
+Parses t r = ParsesUnsigned 32 10 t r × ExplainsUnsignedError 10 t r × HasUnsignedDigitsIfOk t r
+
+number_read : (t : Text) (n : ℕ) → Parses t (Ok n) → number_of t ≡ Some n
+number_read t n h =
+    let small : digits_value 10 (without_leading_plus t) < 4294967296 = h.0.0.1 in
+    let is : is_unsigned_in 0 4294967295 t ≡ true = Accepts-accepts false (parser.Unsigned 0 4294967295) t (h.0.0.0, omega arith, omega arith, omega arith) in
+    rw (is, h.0.1) refl
+
+number_unread : (t : Text) (e : ParseIntError) → Parses t (Err e) → number_of t ≡ None
+number_unread t e h = go (is_unsigned_in 0 4294967295 t) refl
+  where
+    go : (b : Bool) → is_unsigned_in 0 4294967295 t ≡ b → number_of t ≡ None
+    go false is = rw is refl
+    go true is =
+        let all : Accepts false (parser.Unsigned 0 4294967295) t = accepts-Accepts false (parser.Unsigned 0 4294967295) t is in
+        let most : digits_value 10 (without_leading_plus t) ≤ 4294967295 = all.3 in
+        absurd (h.0 (all.0, omega arith))
+
+-- what a reading of a number's text tells
+pub demo_read : (o : Option Text) (demo : Option ℕ) → (o ≡ None → ◌≡◌ {A = Result (Option ℕ) ParseIntError} (Ok demo) (Ok None))
+    → ((t : Text) → o ≡ Some t → TriesOne Parses t (Ok demo)) → Some demo ≡ demo_of o
+demo_read None demo none value =
+    let same : ◌≡◌ {A = Result (Option ℕ) ParseIntError} (Ok demo) (Ok None) = none refl in
+    let is : demo ≡ None = cc in
+    ap Some is
+demo_read (Some t) None none value = absurd (value t refl)
+demo_read (Some t) (Some n) none value = rw (number_read t n (value t refl)) refl
+
+pub demo_unread : (o : Option Text) (e : ParseIntError) → (o ≡ None → ◌≡◌ {A = Result (Option ℕ) ParseIntError} (Err e) (Ok None))
+    → ((t : Text) → o ≡ Some t → TriesOne Parses t (Err e)) → None ≡ demo_of o
+demo_unread None e none value =
+    let bad : ◌≡◌ {A = Result (Option ℕ) ParseIntError} (Err e) (Ok None) = none refl in
+    cc
+demo_unread (Some t) e none value = rw (number_unread t e (value t refl)) refl
+
+-- a choice, or none
+pub told_ok : (r : Result Choice ChoiceError) (o : Option Choice) → o ≡ result_ok r → IfOk r (λ c. o ≡ Some c)
+told_ok (Ok c) o e = e
+told_ok (Err f) o e = tt

@@ -1,0 +1,60 @@
+-- What a painted script shows is what is written of it.
+use Rattle.std.proofs.Common.{◌≡◌, ◌∙◌, ◌+◌, ℕ, suc, List, [], ◌∷◌, ◌++◌, length, map, Option, Result, OnOk, refl, ap, ap₂, subst, arith}
+use Rattle.std.specs.List.{All, flat_map}
+use Rattle.std.proofs.lemmas.List.Elements.{All-head, All-tail}
+use Rattle.std.specs.Io.KnownBytes.{Appends}
+use Rattle.io_edge.specs.declared.outside.Failed.{Failed}
+use Rattle.doc_model.specs.declared.canvas.Canvas.{Canvas}
+use Rattle.doc_model.specs.declared.command.Outcome.{Outcome}
+use Rattle.doc_model.specs.Strokes.{Entry, entries}
+use Rattle.doc_model.specs.Meaning.{Story, start, told, told_all}
+use Rattle.machine_model.proofs.Stories.{one_outcome}
+use Rattle.tile_core.specs.Frames.{Scene}
+use Rattle.ppm_out.specs.Pictures.{colours_of, frame_bytes}
+use Rattle.log_out.specs.Summary.{Sheet, sheet_of, sum_text}
+use Rattle.log_out.specs.Log.{log_text}
+use Rattle.script_text.specs.Script.{Contents}
+use Rattle.solo_run.specs.Shows.{HasSides, Shows, meaning_of}
+use Rattle.strokes_top.specs.Output.{pixmap, pictures, log, summary, sheet}
+
+-- one outcome an entry
+outcomes_all : (canvas : Canvas) (es : List Entry) (s : Story) → length (told_all canvas s es).outcomes ≡ length s.outcomes + length es
+outcomes_all canvas [] s = omega arith
+outcomes_all canvas (e ∷ es) s =
+    let one : length (told canvas s e).outcomes ≡ suc (length s.outcomes) = one_outcome canvas s e in
+    let rest : length (told_all canvas (told canvas s e) es).outcomes ≡ length (told canvas s e).outcomes + length es = outcomes_all canvas es (told canvas s e) in
+    omega arith
+
+pub one_each : (script : Contents) (scenes : List Scene) (outcomes : List Outcome) → Shows script scenes outcomes → length outcomes ≡ length (entries script.commands)
+one_each script scenes outcomes h =
+    let all : length (meaning_of script).outcomes ≡ length start.outcomes + length (entries script.commands) = outcomes_all script.canvas (entries script.commands) start in
+    let same : length outcomes ≡ length (meaning_of script).outcomes = ap length h.outcomes_are in
+    let none : length start.outcomes ≡ 0 = refl in
+    omega arith
+
+pixmaps_are : (canvas : Canvas) (scenes : List Scene) → All (HasSides canvas) scenes → flat_map pixmap scenes ≡ flat_map (frame_bytes canvas.w canvas.h) (map colours_of scenes)
+pixmaps_are canvas [] h = refl
+pixmaps_are canvas (s ∷ scenes) h =
+    let sides : HasSides canvas s = All-head (HasSides canvas) s scenes h in
+    let one : pixmap s ≡ frame_bytes canvas.w canvas.h (colours_of s) = rw (sides.width, sides.height) refl in
+    ap₂ (λ (a b : List ℕ). a ++ b) one (pixmaps_are canvas scenes (All-tail (HasSides canvas) s scenes h))
+
+sheets_are : (canvas : Canvas) (scenes : List Scene) → All (HasSides canvas) scenes → map sheet_of scenes ≡ map (sheet canvas) (map colours_of scenes)
+sheets_are canvas [] h = refl
+sheets_are canvas (s ∷ scenes) h =
+    let sides : HasSides canvas s = All-head (HasSides canvas) s scenes h in
+    let one : sheet_of s ≡ sheet canvas (colours_of s) = rw (sides.width, sides.height) refl in
+    ap₂ (λ (x : Sheet) (l : List Sheet). x ∷ l) one (sheets_are canvas scenes (All-tail (HasSides canvas) s scenes h))
+
+pub pictures_are : (script : Contents) (scenes : List Scene) (outcomes : List Outcome) → Shows script scenes outcomes → flat_map pixmap scenes ≡ pictures script
+pictures_are script scenes outcomes h = pixmaps_are script.canvas scenes h.sides ∙ ap (flat_map (frame_bytes script.canvas.w script.canvas.h)) h.colours
+
+pub log_is : (script : Contents) (scenes : List Scene) (outcomes : List Outcome) → Shows script scenes outcomes → log_text (entries script.commands) outcomes ≡ log script
+log_is script scenes outcomes h = ap (log_text (entries script.commands)) h.outcomes_are
+
+pub summary_is : (script : Contents) (scenes : List Scene) (outcomes : List Outcome) → Shows script scenes outcomes → sum_text (map sheet_of scenes) outcomes ≡ summary script
+summary_is script scenes outcomes h = ap₂ sum_text (sheets_are script.canvas scenes h.sides ∙ ap (map (sheet script.canvas)) h.colours) h.outcomes_are
+
+-- all of the same bytes
+pub whole_is : (r : Result (Unit {0}) Failed) (a b : Option (List ℕ)) (xs ys : List ℕ) → OnOk r (Appends a b xs) → xs ≡ ys → OnOk r (Appends a b ys)
+whole_is r a b xs ys h e = subst (λ l. OnOk r (Appends a b l)) e h

@@ -1,0 +1,133 @@
+//! What the words of a command line ask for.
+
+ghost use Rattle.std.specs.Prelude.{◌≡◌, ℕ, List, Option, Result, Ok, Err, Some, None, IfOk, IsErrOf, codes};
+ghost use Rattle.clap.specs.Simple.{app_of};
+ghost use Rattle.clap.specs.Matches.{found_of};
+ghost use Rattle.clap.specs.Walk.{rows_of, one_of};
+ghost use Rattle.strokes_top.specs.Choice.{command as said_command, choice, choice_by, emit_of, demo_of};
+ghost use Rattle.strokes_top.specs.Named.{IsNamed};
+
+use crate::words::Words;
+use clap::builder::ValueParser;
+use clap::error::ErrorKind;
+use clap::{Arg, ArgMatches, Command};
+use std::alloc::{AllocError, Global};
+use std::str::FromStr;
+
+/// What a run writes.
+#[derive(Clone, Copy, Debug, PartialEq, Eq)]
+pub enum Emit {
+    /// A pixmap for each export.
+    Picture,
+    /// A line for each entry.
+    Log,
+    /// A short summary.
+    Sum,
+}
+
+/// What the words ask for.
+#[derive(Clone, Copy, Debug, PartialEq, Eq)]
+pub struct Choice {
+    /// What is written.
+    pub emit: Emit,
+    /// The number of the generated script, where it takes the source's place.
+    pub demo: Option<u32>,
+}
+
+/// Why there is no choice.
+#[derive(Clone, Copy, Debug, PartialEq, Eq)]
+pub enum ChoiceError {
+    /// The command doesn't take the words.
+    Usage,
+    /// Memory ran out.
+    NoMemory,
+}
+
+/// A text names nothing that can be written.
+#[derive(Clone, Copy, Debug, PartialEq, Eq)]
+pub struct UnknownEmit;
+
+impl FromStr for Emit {
+    type Err = UnknownEmit;
+
+    ghost from_str_gives = { IsNamed };
+
+    fn from_str(text: &str) -> Result<Emit, UnknownEmit> {
+        if text == "picture" {
+            Ok(Emit::Picture)
+        } else if text == "log" {
+            Ok(Emit::Log)
+        } else if text == "sum" {
+            Ok(Emit::Sum)
+        } else {
+            Err(UnknownEmit)
+        }
+    }
+}
+
+/// The command with its options.
+fn command<'a>(alloc: Global) -> Result<Command<'a>, AllocError>
+    ensures { IfOk result (λ c. app_of c ≡ said_command) }
+{
+    let workers = Arg::new(alloc, "workers")
+        .long("workers")
+        .value_parser(ValueParser::signed(0, 16));
+    let emit = Arg::new(alloc, "emit").long("emit");
+    let demo = Arg::new(alloc, "demo")
+        .long("demo")
+        .value_parser(clap::value_parser!(u32));
+    Command::new(alloc, "strokes")
+        .no_binary_name(true)
+        .arg(workers)?
+        .arg(emit)?
+        .arg(demo)
+}
+
+/// What is to be written.
+fn emit_in(matches: &ArgMatches<'_>) -> Option<Emit>
+    ensures { result ≡ emit_of (one_of (codes "emit") (rows_of (found_of matches.now))) }
+{
+    match matches.try_get_one::<Emit>("emit") {
+        Ok(Some(emit)) => Some(emit),
+        Ok(None) => Some(Emit::Picture),
+        Err(_) => None,
+    }
+}
+
+/// The number of the generated script, if there is one.
+fn demo_in(matches: &ArgMatches<'_>) -> Option<Option<u32>>
+    ensures { result ≡ demo_of (one_of (codes "demo") (rows_of (found_of matches.now))) }
+{
+    match matches.try_get_one::<u32>("demo") {
+        Ok(demo) => Some(demo),
+        Err(_) => None,
+    }
+}
+
+/// What the values of the options ask for.
+fn choice_in(matches: &ArgMatches<'_>) -> Option<Choice>
+    ensures { result ≡ choice_by (rows_of (found_of matches.now)) }
+{
+    let emit = emit_in(matches)?;
+    let demo = demo_in(matches)?;
+    Some(Choice { emit, demo })
+}
+
+/// What the words ask for: `--workers N`, 0 to 16, which has no effect yet, `--emit WHAT`, and
+/// `--demo NUMBER`, each at most once.
+///
+/// # Errors
+/// `Usage` exactly where the command doesn't take the words, and `NoMemory` where memory ran out.
+pub(crate) fn choice_of(alloc: Global, words: &Words) -> Result<Choice, ChoiceError>
+    ensures ok { IfOk result (λ c. choice words.now ≡ Some c) }
+    ensures usage { IsErrOf result ChoiceError.Usage → choice words.now ≡ None }
+{
+    let Ok(command) = command(alloc) else {
+        return Err(ChoiceError::NoMemory);
+    };
+    match command.try_get_matches_from(words.texts()) {
+        Ok(matches) => choice_in(&matches).ok_or(ChoiceError::Usage),
+        Err(error) if error.kind() == ErrorKind::OutOfMemory => Err(ChoiceError::NoMemory),
+        Err(_) => Err(ChoiceError::Usage),
+    }
+}

@@ -1,0 +1,71 @@
+//! Taking the script: what the source spells, or a generated one.
+
+ghost use Rattle.std.specs.Prelude.{◌≡◌, ◌≢◌, ℕ, true, Err, IfOk, OnErr, IfErr, IsErrOf, is_some};
+ghost use Rattle.io_edge.specs.Faults.{Rose};
+ghost use Rattle.script_lines.specs.declared.cause.Cause.{Cause};
+ghost use Rattle.strokes_top.specs.Bytes.{ConsumesMore, ConsumesAtMost};
+ghost use Rattle.strokes_top.specs.Run.{WasRead, IsGood, HasFault, IsOf, IsRefused};
+ghost use Rattle.strokes_top.specs.Status.{is_of_script};
+
+use crate::status::Status;
+use crate::transfer::{LIMIT, ReadError, read_all};
+use demo_gen::script_of;
+use io_edge::Source;
+use script_text::{ReadRefusal, Script, read};
+use std::alloc::Global;
+
+/// Reads the script that the source spells.
+///
+/// # Errors
+/// The status of a run that has no script.
+fn read_script<S: Source>(alloc: Global, source: &mut S) -> Result<Script, Status>
+    ensures ok { IfOk result (λ s. WasRead (S.left source.old) (S.left source.new) (IsGood (λ t. t ≡ s))) }
+    ensures script { (line : ℕ) (cause : Cause) → IsErrOf result (Status.Script line cause) → WasRead (S.left source.old) (S.left source.new) (HasFault (record { line = line; cause = cause })) }
+    ensures too_long { IsErrOf result Status.TooLong → ConsumesMore LIMIT (S.left source.old) (S.left source.new) }
+    ensures within_limit { result ≢ Err Status.TooLong → ConsumesAtMost LIMIT (S.left source.old) (S.left source.new) }
+    ensures read_fault { IsErrOf result Status.ReadFault → Rose (S.faults source.old) (S.faults source.new) }
+    ensures statuses { IfErr result (λ status. is_of_script status ≡ true) }
+{
+    let bytes = match read_all(alloc, source) {
+        Ok(bytes) => bytes,
+        Err(ReadError::Failed) => return Err(Status::ReadFault),
+        Err(ReadError::TooLong) => return Err(Status::TooLong),
+        Err(ReadError::NoMemory) => return Err(Status::NoMemory),
+    };
+    match read(alloc, &bytes) {
+        Ok(script) => Ok(script),
+        Err(ReadRefusal::Fault(fault)) => Err(Status::Script {
+            line: fault.line,
+            cause: fault.cause,
+        }),
+        Err(ReadRefusal::NoMemory) => Err(Status::NoMemory),
+    }
+}
+
+/// The generated script of the number, or where there is none the script that the source spells,
+/// which is read to its end.
+///
+/// # Errors
+/// The status of a run that has no script.
+pub(crate) fn take_script<S: Source>(
+    alloc: Global,
+    number: Option<u32>,
+    source: &mut S,
+) -> Result<Script, Status>
+    ensures ok { IfOk result (λ s. IsOf (λ t. t ≡ s) number (S.left source.old) (S.left source.new)) }
+    ensures script { (line : ℕ) (cause : Cause) → IsErrOf result (Status.Script line cause) → IsRefused (record { line = line; cause = cause }) number (S.left source.old) (S.left source.new) }
+    ensures too_long { IsErrOf result Status.TooLong → ConsumesMore LIMIT (S.left source.old) (S.left source.new) }
+    ensures within_limit { result ≢ Err Status.TooLong → ConsumesAtMost LIMIT (S.left source.old) (S.left source.new) }
+    ensures read_fault { IsErrOf result Status.ReadFault → Rose (S.faults source.old) (S.faults source.new) }
+    ensures statuses { IfErr result (λ status. is_of_script status ≡ true) }
+    ensures left { is_some number ≡ true → S.left source.new ≡ S.left source.old }
+    ensures faults { is_some number ≡ true → S.faults source.new ≡ S.faults source.old }
+{
+    match number {
+        Some(number) => match script_of(alloc, number) {
+            Ok(script) => Ok(script),
+            Err(_) => Err(Status::NoMemory),
+        },
+        None => read_script(alloc, source),
+    }
+}
