@@ -1,1 +1,5 @@
-
+pub mod Filled
+pub mod Devices
+pub mod Lain
+pub mod Sets
+pub mod Exchanged
