@@ -1,5 +1,5 @@
 -- A document as its tree and devices.
-use Rattle.std.proofs.Common.{◌≡◌, ℕ, ◌+◌, ◌≤◌, List, [], ◌∷◌, Bool, true, false, ◌||◌, ◌&&◌, not, cond, Option, Some, None, is_some, Result, Ok, Err, refl, sym, ap, ◌∙◌, subst, arith, eqb, inl, inr}
+use Rattle.std.proofs.Common.{◌≡◌, ℕ, ◌+◌, List, [], ◌∷◌, Bool, true, false, ◌||◌, ◌&&◌, not, cond, Option, Some, None, is_some, Result, Ok, Err, refl, sym, ap, ◌∙◌, arith, eqb}
 use Rattle.std.proofs.lemmas.Bool.Decides.{nat_tests}
 use Rattle.std.specs.Prelude.{IsSome, IfSome, IfNone, OnOk, OnErr}
 use Rattle.std.specs.Borrow.{Bor}
@@ -10,13 +10,12 @@ use Rattle.std.specs.BTreeMap as btree
 use Rattle.std.specs.BTreeMap.{is_at}
 use Rattle.std.specs.Map.{lookup}
 use Rattle.std.specs.Cmp.{unsigned_tied}
-use Rattle.pixel_core.specs.Rgba.{Rgba, clear}
+use Rattle.pixel_core.specs.Rgba.{Rgba}
 use Rattle.geom_core.specs.declared.NoMemory.{NoMemory}
 use Rattle.geom_core.specs.Grid.{key_cmp, key_of}
 use Rattle.tile_core.specs.Pixels.{pixel_or}
-use Rattle.geom_core.proofs.Tests.{true_or_false, taken, kept, none_left, none_right, or_left, or_right, and_left, and_right}
+use Rattle.geom_core.proofs.Tests.{taken, kept}
 use Rattle.doc_model.specs.Layers.{Layer, plain, layer_ext, at-plain, default-plain}
-use Rattle.doc_model.specs.declared.tree.Look.{Look}
 use Rattle.doc_model.specs.declared.tree.Change.{Change}
 use Rattle.doc_model.specs.declared.tree.Change.TheVariants as change
 use Rattle.doc_model.specs.declared.tree.TreeFault.{TreeFault}
@@ -37,13 +36,13 @@ use Rattle.desk_steps.specs.declared.reach.TreeRefusal.{TreeRefusal}
 use Rattle.desk_steps.specs.declared.reach.TreeRefusal.TheVariants.{Tree}
 use Rattle.desk_steps.proofs.Filled.{each_same, count_each, height_each, content_by, content_each, with_content_each, adjusted_each, after, with_contents, changed_each, sets_in, content_before}
 
-false-true : {P : Type 0} → false ≡ true → P
+pub false-true : {P : Type 0} → false ≡ true → P
 false-true e = absurd (no e)
   where
     no : false ≡ true → ⊥
     no e = cc
 
-some_is : {A : Type 0} (o : Option A) → is_some o ≡ true → (x : A) × (o ≡ Some x)
+pub some_is : {A : Type 0} (o : Option A) → is_some o ≡ true → (x : A) × (o ≡ Some x)
 some_is None e = false-true e
 some_is (Some x) e = (x, refl)
 
@@ -324,3 +323,7 @@ written_adjusts m n id f was device there through is = record {
   where
     some_there : (o : Option Sheet) (s : Sheet) → o ≡ Some s → IsSome o
     some_there o s e = ap is_some e
+
+pub both_ok : {A E : Type 0} (r : Result A E) {P Q R : Type 0} → (P → Q → R) → OnOk r P → OnOk r Q → OnOk r R
+both_ok (Ok x) f h k = f h k
+both_ok (Err x) f h k = tt

@@ -1,39 +1,24 @@
 -- Entries that are laid on documents.
-use Rattle.std.proofs.Common.{◌≡◌, ℕ, zero, suc, Bool, true, false, cond, Option, Some, None, is_some, List, [], ◌∷◌, take, drop, refl, sym, ap, ◌∙◌, subst}
-use Rattle.std.specs.FinSet as set
-use Rattle.std.specs.FinSet.{FinSet, contains-empty}
-use Rattle.geom_core.specs.Grid.{Key, key_cmp, key_of, same_key, key_cmp_total}
-use Rattle.geom_core.specs.Points.{Point}
-use Rattle.geom_core.proofs.Tests.{none_left, none_right, kept}
+use Rattle.std.proofs.Common.{◌≡◌, ℕ, zero, suc, true, false, Some, is_some, List, [], ◌∷◌, take, refl, sym, ap, ◌∙◌, eqb, ◌||◌}
+use Rattle.std.specs.FinSet.{FinSet}
+use Rattle.geom_core.specs.Grid.{key_cmp}
 use Rattle.geom_core.specs.declared.Touched.{Touched}
-use Rattle.doc_model.specs.Layers.{Layer, at, at-painted, default-painted}
-use Rattle.doc_model.specs.Jobs.{published, in_tile}
-use Rattle.doc_model.specs.Forest.{Forest, none, paint, group, has, content, with_content, adjusted, parent}
+use Rattle.doc_model.specs.Layers.{Layer}
+use Rattle.doc_model.specs.Forest.{Forest, has, content, with_content, parent}
+use Rattle.doc_model.specs.Changes.{there}
 use Rattle.doc_model.specs.Picture.{Doc}
-use Rattle.doc_model.specs.Laws.{IsDocument}
-use Rattle.doc_model.proofs.Contents.{content_replaced, replaced_by, content-with_content, with_content-with_content}
-use Rattle.doc_model.proofs.SameContent.{content_has, with_same, adjusted_is}
-use Rattle.doc_model.proofs.Weights.{tree_distinct}
-use Rattle.machine_model.specs.State.{Reach, Whole, Part}
-use Rattle.machine_model.specs.Reached.{DifferWithin, ReachesOneLayer, Reaches, PastReaches, FutureReaches}
-use Rattle.job_core.specs.Paints.{Paint}
-use Rattle.paint_device.specs.Sheets.{Sheet}
+use Rattle.doc_model.proofs.Contents.{content-with_content}
+use Rattle.doc_model.proofs.SameContent.{content_has}
+use Rattle.machine_model.specs.State.{Reach, Part}
+use Rattle.machine_model.specs.Reached.{Reaches, PastReaches}
 use Rattle.paint_device.specs.Seen.{layer_of}
-use Rattle.history_core.specs.Stacks.{Stack, IsUndone, IsRedone}
 use Rattle.desk_steps.specs.declared.reach.Reach.TheVariants as tells
 use Rattle.desk_steps.specs.declared.entry.Entry.{Entry}
 use Rattle.desk_steps.specs.declared.entry.Entry.TheVariants as entry
-use Rattle.desk_steps.specs.declared.entry.Way.{Way}
-use Rattle.desk_steps.specs.Archives.{Archive, IsArchive, HasTouched, TellsReach, TellsFirst, shape, undone, redone}
-use Rattle.desk_steps.specs.Entries.{doc_of, reach_in, FitsOn, laid, base_of, way_of, archive_of, IsKept}
+use Rattle.desk_steps.specs.Archives.{HasTouched, TellsReach, shape}
+use Rattle.desk_steps.specs.Entries.{doc_of, reach_in, FitsOn, laid}
 use Rattle.desk_steps.proofs.Filled.{has_each, parent_each}
-use Rattle.desk_steps.proofs.Devices.{some_is}
-
-false-true : {P : Type 0} → false ≡ true → P
-false-true e = absurd (no e)
-  where
-    no : false ≡ true → ⊥
-    no e = cc
+use Rattle.desk_steps.proofs.Devices.{some_is, false-true}
 
 -- a layer of a document stands in its tree
 pub stands : (id : ℕ) (doc : Doc) (t : Forest (Unit {0})) → t ≡ shape doc → is_some (content id doc) ≡ true → has id t ≡ false → ⊥
@@ -41,16 +26,15 @@ stands id doc t e is absent =
     let c = some_is (content id doc) is in
     false-true (sym absent ∙ ap (has id) e ∙ has_each (λ id layer. tt) id doc ∙ content_has id c.0 doc c.1)
 
+pub there_shape : (id : ℕ) (doc : Doc) (t : Forest (Unit {0})) → t ≡ shape doc → there id t ≡ there id doc
+there_shape id doc t e = ap (there id) e ∙ ap (λ b. eqb id 0 || b) (has_each (λ id layer. tt) id doc)
+
 pub told_part : (id : ℕ) (keys : FinSet key_cmp) (doc : Doc) (t : Forest (Unit {0})) (g : ℕ) (touched : Touched) → t ≡ shape doc → Some g ≡ parent id 0 t → HasTouched keys touched → TellsReach (Part id keys) doc (tells.Part g touched)
 told_part id keys doc t g touched e p h = (g, touched, refl, sym (p ∙ ap (parent id 0) e ∙ parent_each (λ id layer. tt) id 0 doc), h)
 
 -- the other content is there
 pub still_there : (id : ℕ) (x : Layer) (old new : Doc) → new ≡ with_content id x old → is_some (content id old) ≡ true → is_some (content id new) ≡ true
-still_there id x old new e is = ap (λ d. is_some (content id d)) e ∙ ap is_some (content_replaced id x old) ∙ by (content id old) is
-  where
-    by : (o : Option Layer) → is_some o ≡ true → is_some (replaced_by x o) ≡ true
-    by None e = false-true e
-    by (Some y) e = refl
+still_there id x old new e is = let c = some_is (content id old) is in ap (λ d. is_some (content id d)) e ∙ ap is_some (content-with_content id x c.0 old c.1)
 
 -- a reach between two documents lets the entry be laid on either
 pub fits_new : (now : Doc) (e : Entry) → Reaches (reach_in e) (doc_of now e) now → FitsOn now e

@@ -1,15 +1,15 @@
 -- Changes of a tree are natural in the contents of its paint nodes.
-use Rattle.std.proofs.Common.{◌≡◌, ℕ, suc, zero, ◌+◌, Bool, true, false, ◌||◌, ◌&&◌, not, cond, Option, Some, None, is_some, Result, Ok, Err, List, [], ◌∷◌, refl, sym, ap, ◌∙◌, subst, arith, eqb, ltb, max, inl, inr}
+use Rattle.std.proofs.Common.{◌≡◌, ℕ, suc, zero, ◌+◌, Bool, true, false, ◌||◌, not, cond, Option, Some, None, is_some, Result, Ok, Err, [], ◌∷◌, refl, sym, ap, ◌∙◌, arith, eqb, ltb, max, inl, inr}
 use Rattle.std.proofs.lemmas.Bool.Decides.{nat_tests}
 use Rattle.pixel_core.specs.Rgba.{Rgba}
-use Rattle.geom_core.proofs.Tests.{or_left, or_right, none_left, none_right, true_or_false, taken, kept}
+use Rattle.geom_core.proofs.Tests.{none_right, true_or_false, kept}
 use Rattle.doc_model.specs.declared.tree.Look.{Look}
 use Rattle.doc_model.specs.declared.tree.Change.{Change}
 use Rattle.doc_model.specs.declared.tree.Change.TheVariants as change
 use Rattle.doc_model.specs.declared.tree.TreeFault.{TreeFault}
 use Rattle.doc_model.specs.declared.tree.TreeFault.TheVariants.{Taken, NoNode, NotGroup, IntoItself, TreeFull, TooDeep, BadPlace}
 use Rattle.doc_model.specs.Forest.{Forest, none, paint, group, count, width, height, has, is_group, join, lower, upper, inserted, within, without, only, children, depth, with_look, content, with_content, adjusted, parent, or_else, each}
-use Rattle.doc_model.specs.Changes.{changed, answer, first_of_faults, no_new, no_place, no_node, there, takes, child_count, set_in, new_look}
+use Rattle.doc_model.specs.Changes.{changed, answer, first_of_faults, no_new, no_place, no_node, child_count, set_in, new_look}
 use Rattle.doc_model.proofs.SameContent.{content_has}
 use Rattle.doc_model.proofs.TreeChanges.{new_may}
 

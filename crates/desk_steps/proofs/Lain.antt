@@ -1,14 +1,14 @@
 -- What was painted of a tile, laid on the tile.
-use Rattle.std.proofs.Common.{◌≡◌, ℕ, suc, zero, ◌+◌, Bool, true, false, ◌&&◌, ◌||◌, cond, Option, Some, None, List, [], ◌∷◌, length, take, is_some, refl, sym, ap, ◌∙◌, subst, arith, inl, inr, map, replicate}
+use Rattle.std.proofs.Common.{◌≡◌, ℕ, suc, zero, ◌+◌, Bool, true, false, ◌&&◌, ◌||◌, cond, Some, None, List, [], ◌∷◌, length, take, is_some, refl, sym, ap, ◌∙◌, subst, arith, inl, inr, map, replicate}
 use Rattle.std.specs.Prelude.{All, slice_get}
 use Rattle.std.specs.FinMap as fin
 use Rattle.std.proofs.lemmas.Option.{slice_get_cases}
 use Rattle.std.proofs.Math.Seq.{take-length}
 use Rattle.pixel_core.specs.Rgba.{Rgba}
 use Rattle.geom_core.specs.Points.{Point}
-use Rattle.geom_core.specs.Areas.{Area, holds, any_holds}
+use Rattle.geom_core.specs.Areas.{holds, any_holds}
 use Rattle.geom_core.specs.Grid.{Key, key_of, same_key, tile, key_cmp_total}
-use Rattle.geom_core.proofs.Tests.{true_or_false, taken, kept}
+use Rattle.geom_core.proofs.Tests.{taken, kept}
 use Rattle.geom_core.proofs.Tiles.{own_tile, key_same, key_is}
 use Rattle.tile_core.specs.Pixels.{Pixels, pixel_at, pixel_or}
 use Rattle.tile_core.specs.Blocks.{Piece, piece_at, LaysBlock}
@@ -119,11 +119,11 @@ ready_default s k = go (fin.contains_key s.tiles k)
 pub ready_layer : (s : Sheet) (k : Key) → layer_of (readied s k) ≡ layer_of s
 ready_layer s k = layer_ext _ _ (default-layer_of (readied s k) ∙ ready_default s k ∙ sym (default-layer_of s)) (λ p. at-layer_of (readied s k) p ∙ ready_keeps_pixels s k p ∙ sym (at-layer_of s p))
 
-default_published : (w : Paint) (l : Layer) → (published w.job (paints.layer_of w.shot) w.key l).default_pixel ≡ l.default_pixel
+pub default_published : (w : Paint) (l : Layer) → (published w.job (paints.layer_of w.shot) w.key l).default_pixel ≡ l.default_pixel
 unfolding published
 default_published w l = default-painted _ _ _ l
 
-at_published : (w : Paint) (l : Layer) (p : Point) → at (published w.job (paints.layer_of w.shot) w.key l) p ≡ cond (any_holds (writes w.job) p && in_tile w.key p) (made w p) (at l p)
+pub at_published : (w : Paint) (l : Layer) (p : Point) → at (published w.job (paints.layer_of w.shot) w.key l) p ≡ cond (any_holds (writes w.job) p && in_tile w.key p) (made w p) (at l p)
 unfolding published
 at_published w l p = at-painted _ _ _ l p
 

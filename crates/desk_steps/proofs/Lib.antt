@@ -3,3 +3,4 @@ pub mod Devices
 pub mod Lain
 pub mod Sets
 pub mod Exchanged
+pub mod Archived

@@ -1,20 +1,19 @@
 -- Sets of tiles as lists in order.
-use Rattle.std.proofs.Common.{◌≡◌, ℕ, ◌+◌, ◌<◌, ◌≤◌, Bool, true, false, ◌&&◌, ◌||◌, cond, Option, Some, None, is_some, List, [], ◌∷◌, length, refl, sym, ap, ◌∙◌, subst, arith, inl, inr}
-use Rattle.std.specs.Prelude.{All, if◌then◌else◌, ◌^◌, ◌-◌}
+use Rattle.std.proofs.Common.{◌≡◌, ℕ, ◌+◌, ◌<◌, ◌≤◌, Bool, true, false, ◌&&◌, ◌||◌, cond, Option, Some, None, is_some, List, [], ◌∷◌, length, refl, sym, ap, ◌∙◌, arith, inl, inr}
+use Rattle.std.specs.Prelude.{if◌then◌else◌, ◌^◌, ◌-◌}
 use Rattle.std.specs.Ordering.{eq_by_cmp, is_eq}
 use Rattle.std.specs.List.{AllByRecursion, list_any, list_all}
 use Rattle.std.specs.List.Sorted.{IsStrictlySortedBy}
 use Rattle.std.specs.declared.cmp.Ordering.TheVariants.{Less}
 use Rattle.std.specs.FinSet as set
-use Rattle.std.specs.FinSet.{FinSet}
 use Rattle.std.specs.BTreeSet as bset
 use Rattle.std.specs.BTreeSet.{BTreeSet}
 use Rattle.std.proofs.lemmas.Cmp.{eq_by_cmp_equiv}
 use Rattle.std.specs.Prelude.{ℤ, pos, ◌+ℤ◌, int_le}
 use borrow.Author.Differences.{ints}
-use Rattle.geom_core.proofs.Tests.{true_or_false, and_left, and_right, both_true, or_cases, or_left, or_right}
+use Rattle.geom_core.proofs.Tests.{and_left, and_right, both_true, or_cases, or_left, or_right}
 use Rattle.geom_core.proofs.Tiles.{key_same, key_is}
-use Rattle.geom_core.specs.Areas.{Area, area, bound, lies_in, right, bottom}
+use Rattle.geom_core.specs.Areas.{Area, area, lies_in}
 use Rattle.geom_core.specs.Grid.{Key, key_cmp, same_key, key_cmp_total, key_cmp-IsAntisymmetric, tile}
 use Rattle.paint_device.specs.Extents.{lies_if}
 use Rattle.paint_device.proofs.Extents.{bound_in}

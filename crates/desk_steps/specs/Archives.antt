@@ -1,15 +1,14 @@
 -- A store as contracts see it: documents with their history, and the stroke under way.
-use Rattle.std.specs.Prelude.{◌≡◌, ◌≤◌, ℕ, Bool, true, false, Option, Some, None, List, [], ◌∷◌, refl}
-use Rattle.std.specs.Option.{unwrap_or}
+use Rattle.std.specs.Prelude.{◌≡◌, ℕ, Bool, false, Option, Some, None, List, [], ◌∷◌, refl}
 use Rattle.std.specs.FinSet as set
 use Rattle.std.specs.FinSet.{FinSet}
 use Rattle.std.specs.Coded.{Coded, code_by, coded×, coded_ℕ, coded_bool, coded_list, coded_option}
 use Rattle.pixel_core.specs.Rgba.{clear}
-use Rattle.geom_core.specs.Grid.{Key, key_cmp, key_code}
+use Rattle.geom_core.specs.Grid.{key_cmp, key_code}
 use Rattle.geom_core.specs.declared.Touched.{Touched}
 use Rattle.doc_model.specs.Layers.{Layer, plain}
 use Rattle.doc_model.specs.Jobs.{published}
-use Rattle.doc_model.specs.Forest.{Forest, none, each, content, adjusted, parent}
+use Rattle.doc_model.specs.Forest.{Forest, none, each, adjusted, parent}
 use Rattle.doc_model.specs.Changes.{changed}
 use Rattle.doc_model.specs.Codes.{doc_code}
 use Rattle.doc_model.specs.Laws.{IsDocument}

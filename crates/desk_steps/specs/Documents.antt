@@ -6,7 +6,7 @@ use Rattle.std.specs.BTreeMap as tree
 use Rattle.std.specs.BTreeMap.{BTreeMap}
 use Rattle.pixel_core.specs.Rgba.{clear}
 use Rattle.doc_model.specs.Layers.{Layer, plain}
-use Rattle.doc_model.specs.Forest.{Forest, each, content, with_content}
+use Rattle.doc_model.specs.Forest.{Forest, each, content}
 use Rattle.doc_model.specs.Picture.{Doc}
 use Rattle.doc_model.specs.declared.tree.Change.{Change}
 use Rattle.doc_model.specs.declared.tree.Change.TheVariants as change

@@ -1,5 +1,5 @@
 -- Sets of tiles as lists in order.
-use Rattle.std.specs.Prelude.{◌≡◌, ◌≤◌, ◌^◌, ◌-◌, Option, Some, None, List, length, All}
+use Rattle.std.specs.Prelude.{◌≤◌, ◌^◌, ◌-◌, Option, Some, None, List, length, All}
 use Rattle.geom_core.specs.Areas.{Area, bound}
 use Rattle.geom_core.specs.Grid.{Key, IsWorldKey}
 

@@ -1,5 +1,4 @@
-use Rattle.std.proofs.Common.{◌≡◌, Bool, true, false, ◌&&◌, not, is_some, ap, sym, ◌∙◌}
-use Rattle.doc_model.specs.Forest.{content}
+use Rattle.std.proofs.Common.{◌≡◌, true, false, ◌&&◌, not, ap, sym, ◌∙◌}
 use Rattle.doc_model.specs.Changes.{there, takes}
 use Rattle.desk_steps.proofs.Devices.{paints_is}
 use Rattle.desk_steps.proofs.document.is_paint.Goals as goal

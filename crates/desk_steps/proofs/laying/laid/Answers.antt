@@ -1,4 +1,4 @@
-use Rattle.std.proofs.Common.{◌≡◌, length, rules, arith}
+use Rattle.std.proofs.Common.{◌≡◌, length, arith}
 use Rattle.desk_steps.proofs.Lain.{none_laid, one_laid, all_laid}
 use Rattle.desk_steps.proofs.laying.laid.Goals as goal
 

@@ -1,4 +1,4 @@
-use Rattle.std.proofs.Common.{◌≡◌, true, Some, sym, ap, ◌∙◌}
+use Rattle.std.proofs.Common.{◌≡◌, Some, ap, ◌∙◌}
 use Rattle.std.specs.FinMap as map
 use Rattle.paint_device.specs.Seen.{layer_of}
 use Rattle.paint_device.specs.Sheets.{Sheet, with_under, readied}

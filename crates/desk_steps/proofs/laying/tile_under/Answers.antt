@@ -1,7 +1,6 @@
 use Rattle.std.proofs.Common.{◌≡◌, None, sym, ap, ◌∙◌, replicate}
 use Rattle.std.specs.Option.{option_copied}
 use Rattle.std.proofs.lemmas.Result.{IfOk-weaker}
-use Rattle.geom_core.specs.Points.{Point}
 use Rattle.memento_core.specs.Planes.{tile_under}
 use Rattle.tile_core.specs.Pixels.{pixel_at}
 use Rattle.desk_steps.proofs.Lain.{plain_at}

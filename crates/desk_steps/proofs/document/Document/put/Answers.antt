@@ -1,4 +1,4 @@
-use Rattle.std.proofs.Common.{sym, ap, ◌∙◌}
+use Rattle.std.proofs.Common.{ap, ◌∙◌}
 use Rattle.doc_model.specs.Forest.{adjusted}
 use Rattle.doc_model.specs.Jobs.{published}
 use Rattle.job_core.specs.Paints as paints

@@ -1,4 +1,4 @@
-use Rattle.std.proofs.Common.{sym, ap, ◌∙◌}
+use Rattle.std.proofs.Common.{ap, ◌∙◌}
 use Rattle.doc_model.specs.Forest.{with_content}
 use Rattle.paint_device.specs.Seen.{layer_of}
 use Rattle.desk_steps.proofs.Devices.{has_device, layer_some, puts_kept, filled_put, filled_back}

@@ -1,4 +1,4 @@
-use Rattle.std.proofs.Common.{◌≡◌, ◌<◌, length, rules, subst, sym, ap, ◌∙◌, arith}
+use Rattle.std.proofs.Common.{◌<◌, length, subst, sym, ap, ◌∙◌, arith}
 use Rattle.std.specs.Prelude.{All, ◌^◌, ◌-◌}
 use Rattle.std.specs.FinSet as set
 use Rattle.std.proofs.lemmas.Map.Views.{All-insert_key}
