@@ -11,11 +11,11 @@ ghost use Rattle.job_core.specs.Due.{IsDue};
 ghost use Rattle.job_core.specs.Made.{dabbed as dabbed_at};
 ghost use Rattle.job_core.specs.Dabs.{DabsRow, DabsRows};
 
-use crate::ink::Ink;
+use crate::ink::{Ink, laid_on};
 use crate::part::part_in;
 use brush_mask::mask;
 use geom_core::{NoMemory, Rect, TileKey};
-use pixel_core::{Pixel, compose, mul};
+use pixel_core::{Pixel, mul};
 use std::alloc::Global;
 use tile_core::{Block, Shot};
 
@@ -107,6 +107,6 @@ fn lay_dab_row(row: &mut [Pixel], dx: i16, dy: i16, brush: &Brush, ink: &Ink)
 {
     for i in 0..row.len() {
         let strength = mul(mask(brush.r, brush.soft, dx + i as i16, dy), ink.strength);
-        row[i] = compose(ink.op, ink.colour, row[i], strength);
+        row[i] = laid_on(row[i], ink, strength);
     }
 }

@@ -26,6 +26,18 @@ pub fn lay_on_all(pixels: &mut [Pixel], ink: &Ink)
     }
 }
 
+/// The ink laid on a pixel, with a strength in place of the ink's own.
+#[inline]
+pub fn laid_on(old: Pixel, ink: &Ink, strength: u8) -> Pixel
+    ensures { result ≡ composed ink.now.op ink.now.colour old strength }
+{
+    if strength == 255 && hides(ink) {
+        hidden_by(old, ink.colour)
+    } else {
+        compose(ink.op, ink.colour, old, strength)
+    }
+}
+
 /// Whether nothing shows through the ink.
 fn hides(ink: &Ink) -> bool
     ensures op { result ≡ true → ink.now.op ≡ Over }
