@@ -158,8 +158,8 @@ put_within : (keys : FinSet key_cmp) (w : Paint) (before after : Layer) → Diff
 put_within keys w before after d = record {
   default_pixel = d.default_pixel ∙ sym (default_published w after);
   pixels = λ p out.
-    let e : (same_key (key_of p) w.key || set.contains keys (key_of p)) ≡ false = sym (set.contains-insert key_cmp_total keys w.key (key_of p)) ∙ out in
-    d.pixels p (none_right (same_key (key_of p) w.key) _ e) ∙ sym (at_published w after p ∙ kept (any_holds (writes w.job) p && in_tile w.key p) _ _ (no_tile (any_holds (writes w.job) p) (in_tile w.key p) (none_left (same_key (key_of p) w.key) _ e)));
+      let e : (same_key (key_of p) w.key || set.contains keys (key_of p)) ≡ false = sym (set.contains-insert key_cmp_total keys w.key (key_of p)) ∙ out in
+      d.pixels p (none_right (same_key (key_of p) w.key) _ e) ∙ sym (at_published w after p ∙ kept (any_holds (writes w.job) p && in_tile w.key p) _ _ (no_tile (any_holds (writes w.job) p) (in_tile w.key p) (none_left (same_key (key_of p) w.key) _ e)));
 }
   where
     no_tile : (a b : Bool) → b ≡ false → (a && b) ≡ false

@@ -10,3 +10,6 @@ mod store;
 
 pub use reach::{Begun, Reach, TreeRefusal};
 pub use store::Store;
+
+#[cfg(test)]
+mod tests;

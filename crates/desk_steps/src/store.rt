@@ -35,6 +35,9 @@ use tile_core::{Shot, Tile};
 use tree_core::Tree;
 
 /// A document of layers and groups, what can be undone and redone, and the stroke under way.
+///
+/// A stroke notes its layer's device from before it, a change of the tree the whole document, both
+/// with their tiles shared. To undo or redo is to exchange them, so no tile is ever copied back.
 #[derive(Drop)]
 pub struct Store {
     alloc: Global,
@@ -127,7 +130,7 @@ impl Store {
     {
         match &mut self.way {
             Some(way) => self.doc.put(alloc, way.id, &mut way.keys, painted),
-            None => Ok(()),
+            None => unreachable!(),
         }
     }
 
@@ -137,17 +140,19 @@ impl Store {
         requires room { self.old.room ≡ true }
         ensures { self.new ≡ finished self.old.way self.old }
     {
-        if let Some(way) = self.way.take() {
-            self.history.commit(Entry::Layer {
-                id: way.id,
-                keys: way.keys,
-                device: way.before,
-            });
-            self.room = false;
-        }
+        let Some(way) = self.way.take() else {
+            unreachable!();
+        };
+        self.history.commit(Entry::Layer {
+            id: way.id,
+            keys: way.keys,
+            device: way.before,
+        });
+        self.room = false;
     }
 
     /// Takes the stroke back, as if it had never begun. It tells the tiles that were put back. No memory.
+    /// The layer's device is exchanged as a whole, so it takes none of the steps that it may.
     pub fn revert<L: Ledger>(&mut self, steps: &mut Steps<L>) -> Touched
         requires { is_some self.old.way ≡ true }
         ensures new { self.new ≡ reverted self.old }
@@ -183,6 +188,7 @@ impl Store {
     }
 
     /// Undoes the newest change. None exactly where there is none. No memory.
+    /// The document, or a layer's device, is exchanged as a whole, so it takes none of the steps that it may.
     pub fn undo<L: Ledger>(&mut self, steps: &mut Steps<L>) -> Option<Reach>
         requires { self.old.way ≡ None }
         ensures none { IsNone result ↔ (self.old.past ≡ []) }
@@ -195,6 +201,7 @@ impl Store {
     }
 
     /// Redoes the change that was undone last. None exactly where there is none. No memory.
+    /// The document, or a layer's device, is exchanged as a whole, so it takes none of the steps that it may.
     pub fn redo<L: Ledger>(&mut self, steps: &mut Steps<L>) -> Option<Reach>
         requires { self.old.way ≡ None }
         ensures none { IsNone result ↔ (self.old.future ≡ []) }
