@@ -1,5 +1,8 @@
 -- What is told of a document that is painted entry by entry.
 use Rattle.std.specs.Prelude.{◌≡◌, true, Bool, None, List, [], ◌∷◌, ◌++◌, map, take, length, All}
+use Rattle.std.specs.List.{list_all}
+use Rattle.doc_model.specs.declared.job.Job.{Job}
+use Rattle.doc_model.specs.declared.job.Kind.{Kind}
 use Rattle.doc_model.specs.declared.command.Command.{Command}
 use Rattle.doc_model.specs.declared.command.Outcome.{Outcome}
 use Rattle.doc_model.specs.declared.command.Outcome.TheVariants.{Done}
@@ -7,7 +10,7 @@ use Rattle.doc_model.specs.Canvases.{IsOfLimits}
 use Rattle.doc_model.specs.Picture.{Doc}
 use Rattle.doc_model.specs.Strokes as doc
 use Rattle.doc_model.specs.Strokes.{entries}
-use Rattle.doc_model.specs.Lawful.{is_closed_entry}
+use Rattle.doc_model.specs.Lawful.{is_closed_entry, within_limits}
 use Rattle.doc_model.specs.Meaning.{Story, told, meaning}
 use Rattle.machine_model.specs.State.{Reach}
 use Rattle.ppm_out.specs.Pictures.{colours_of}
@@ -15,10 +18,6 @@ use Rattle.entry_queue.specs.declared.entry.Entry.{Entry}
 use Rattle.entry_queue.specs.declared.entry.Entry.TheVariants.{Waiting, Whole, Other}
 use Rattle.entry_queue.specs.Pushed.{Pending, StandsFor, queued}
 use Rattle.solo_run.specs.declared.solo.Solo.{Solo}
-use Rattle.doc_model.specs.Lawful.{within_limits}
-use Rattle.doc_model.specs.declared.job.Job.{Job}
-use Rattle.doc_model.specs.declared.job.Kind.{Kind}
-use Rattle.std.specs.List.{list_all}
 use Rattle.solo_run.specs.Shows.{HasSides}
 
 -- the documents without the reaches between them
@@ -35,7 +34,7 @@ story_of s outcomes = record {
   outcomes = outcomes;
 }
 
--- no stroke is under way, and the frames have the canvas's sides
+-- between two entries: no stroke is under way, the frames have the canvas's sides, and the canvas is one of the limits
 pub record Rests (s : Solo) : Type 0 where
   pub canvas : IsOfLimits s.canvas
   pub no_way : s.store.way ≡ None
@@ -65,7 +64,7 @@ pub record IsReady (x : Entry) : Type 0 where
   pub closed : is_closed_entry entry ≡ true
   pub fit : fits x ≡ true
 
--- nothing or the one, by whether there is something to take back
+-- Done where there is something, and the other outcome where there is nothing
 abbrev pub done_or : {A : Type 0} → Outcome → List A → Outcome
 done_or o [] = o
 done_or o (x ∷ xs) = Done
