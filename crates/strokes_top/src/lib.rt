@@ -10,6 +10,7 @@ mod transfer;
 mod words;
 mod writing;
 
+pub use choice::{Choice, Emit, UnknownEmit};
 pub use command::run;
 pub use status::Status;
 pub use words::Words;

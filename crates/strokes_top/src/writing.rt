@@ -28,6 +28,7 @@ fn write_pictures<K: Sink>(frames: &[Frame], out: &mut K) -> Result<(), Failed>
     let mut row = [0u8; ROW];
     for i in 0..frames.len() {
         let frame = &frames[i];
+        // It has at most 2048 columns.
         let _width = frame.width();
         write_frame(frame, &mut row, out)?;
     }
