@@ -5,5 +5,7 @@ mod run;
 mod solo;
 mod steps;
 mod strokes;
+#[cfg(test)]
+mod tests;
 
 pub use run::{Shown, run_solo};
