@@ -1,7 +1,7 @@
 -- What a painted script shows is what is written of it.
-use Rattle.std.proofs.Common.{◌≡◌, ◌∙◌, ◌+◌, ℕ, suc, List, [], ◌∷◌, ◌++◌, length, map, Option, Result, OnOk, refl, ap, ap₂, subst, arith}
+use Rattle.std.proofs.Common.{◌≡◌, ◌≤◌, ◌∙◌, ◌+◌, ◌*◌, ℕ, suc, List, [], ◌∷◌, ◌++◌, length, map, Option, Result, OnOk, refl, ap, ap₂, subst, arith}
 use Rattle.std.specs.List.{All, flat_map}
-use Rattle.std.proofs.lemmas.List.Elements.{All-head, All-tail}
+use Rattle.std.proofs.lemmas.List.Elements.{All-nil, All-cons, All-head, All-tail}
 use Rattle.std.specs.Io.KnownBytes.{Appends}
 use Rattle.io_edge.specs.declared.outside.Failed.{Failed}
 use Rattle.doc_model.specs.declared.canvas.Canvas.{Canvas}
@@ -10,12 +10,12 @@ use Rattle.doc_model.specs.Strokes.{Entry, entries}
 use Rattle.doc_model.specs.Meaning.{Story, start, told, told_all}
 use Rattle.machine_model.proofs.Stories.{one_outcome}
 use Rattle.tile_core.specs.Frames.{Scene}
-use Rattle.ppm_out.specs.Pictures.{colours_of, frame_bytes}
+use Rattle.ppm_out.specs.Pictures.{colours_of, frame_bytes, scene_bytes}
 use Rattle.log_out.specs.Summary.{Sheet, sheet_of, sum_text}
 use Rattle.log_out.specs.Log.{log_text}
 use Rattle.script_text.specs.Script.{Contents}
 use Rattle.solo_run.specs.Shows.{HasSides, Shows, meaning_of}
-use Rattle.strokes_top.specs.Output.{pixmap, pictures, log, summary, sheet}
+use Rattle.strokes_top.specs.Output.{pictures, log, summary, sheet}
 
 -- one outcome an entry
 outcomes_all : (canvas : Canvas) (es : List Entry) (s : Story) → length (told_all canvas s es).outcomes ≡ length s.outcomes + length es
@@ -32,11 +32,11 @@ one_each script scenes outcomes h =
     let none : length start.outcomes ≡ 0 = refl in
     omega arith
 
-pixmaps_are : (canvas : Canvas) (scenes : List Scene) → All (HasSides canvas) scenes → flat_map pixmap scenes ≡ flat_map (frame_bytes canvas.w canvas.h) (map colours_of scenes)
+pixmaps_are : (canvas : Canvas) (scenes : List Scene) → All (HasSides canvas) scenes → flat_map scene_bytes scenes ≡ flat_map (frame_bytes canvas.w canvas.h) (map colours_of scenes)
 pixmaps_are canvas [] h = refl
 pixmaps_are canvas (s ∷ scenes) h =
     let sides : HasSides canvas s = All-head (HasSides canvas) s scenes h in
-    let one : pixmap s ≡ frame_bytes canvas.w canvas.h (colours_of s) = rw (sides.width, sides.height) refl in
+    let one : scene_bytes s ≡ frame_bytes canvas.w canvas.h (colours_of s) = rw (sides.width, sides.height) refl in
     ap₂ (λ (a b : List ℕ). a ++ b) one (pixmaps_are canvas scenes (All-tail (HasSides canvas) s scenes h))
 
 sheets_are : (canvas : Canvas) (scenes : List Scene) → All (HasSides canvas) scenes → map sheet_of scenes ≡ map (sheet canvas) (map colours_of scenes)
@@ -46,8 +46,16 @@ sheets_are canvas (s ∷ scenes) h =
     let one : sheet_of s ≡ sheet canvas (colours_of s) = rw (sides.width, sides.height) refl in
     ap₂ (λ (x : Sheet) (l : List Sheet). x ∷ l) one (sheets_are canvas scenes (All-tail (HasSides canvas) s scenes h))
 
-pub pictures_are : (script : Contents) (scenes : List Scene) (outcomes : List Outcome) → Shows script scenes outcomes → flat_map pixmap scenes ≡ pictures script
+pub pictures_are : (script : Contents) (scenes : List Scene) (outcomes : List Outcome) → Shows script scenes outcomes → flat_map scene_bytes scenes ≡ pictures script
 pictures_are script scenes outcomes h = pixmaps_are script.canvas scenes h.sides ∙ ap (flat_map (frame_bytes script.canvas.w script.canvas.h)) h.colours
+
+-- room for a picture of the canvas's sides is room for each frame
+pub room_each : (canvas : Canvas) (n : ℕ) (scenes : List Scene) → 3 * (canvas.w * canvas.h) ≤ n → All (HasSides canvas) scenes → All (λ (f : Scene). 3 * (f.width * f.height) ≤ n) scenes
+room_each canvas n [] h sides = All-nil (λ (f : Scene). 3 * (f.width * f.height) ≤ n)
+room_each canvas n (s ∷ scenes) h sides =
+    let these : HasSides canvas s = All-head (HasSides canvas) s scenes sides in
+    let one : 3 * (s.width * s.height) ≤ n = rw (these.width, these.height) h in
+    All-cons (λ (f : Scene). 3 * (f.width * f.height) ≤ n) s scenes one (room_each canvas n scenes h (All-tail (HasSides canvas) s scenes sides))
 
 pub log_is : (script : Contents) (scenes : List Scene) (outcomes : List Outcome) → Shows script scenes outcomes → log_text (entries script.commands) outcomes ≡ log script
 log_is script scenes outcomes h = ap (log_text (entries script.commands)) h.outcomes_are

@@ -1,5 +1,5 @@
 -- What a run writes of a script.
-use Rattle.std.specs.Prelude.{◌≡◌, ℕ, Bool, List, map}
+use Rattle.std.specs.Prelude.{◌≡◌, ◌≤◌, ◌*◌, ℕ, Bool, List, length, map}
 use Rattle.std.specs.List.{flat_map}
 use Rattle.std.specs.declared.option.Option.{Option}
 use Rattle.std.specs.Io.KnownBytes.{Appends}
@@ -8,8 +8,7 @@ use Rattle.doc_model.specs.declared.canvas.Canvas.{Canvas}
 use Rattle.doc_model.specs.Outcomes.{some_refused}
 use Rattle.doc_model.specs.Picture.{Frame}
 use Rattle.doc_model.specs.Strokes.{entries}
-use Rattle.tile_core.specs.Frames.{Scene}
-use Rattle.ppm_out.specs.Pictures.{colours_of, frame_bytes}
+use Rattle.ppm_out.specs.Pictures.{frame_bytes}
 use Rattle.log_out.specs.Log.{log_text}
 use Rattle.log_out.specs.Summary.{Sheet, sum_text}
 use Rattle.script_text.specs.Script.{Contents}
@@ -17,9 +16,11 @@ use Rattle.solo_run.specs.Shows.{meaning_of}
 use Rattle.strokes_top.specs.declared.choice.Emit.{Emit}
 use Rattle.strokes_top.specs.declared.choice.Emit.TheVariants.{Picture, Log, Sum}
 
--- what a frame of tiles shows, as a pixmap
-abbrev pub pixmap : Scene → List ℕ
-pixmap s = frame_bytes s.width s.height (colours_of s)
+-- where pictures are written there is room for the colours of one
+abbrev pub HasRoom : Emit → Canvas → List ℕ → Type 0
+HasRoom Picture canvas room = 3 * (canvas.w * canvas.h) ≤ length room
+HasRoom Log canvas room = Unit {0}
+HasRoom Sum canvas room = Unit {0}
 
 -- a frame with the canvas's columns and rows
 abbrev pub sheet : Canvas → Frame → Sheet

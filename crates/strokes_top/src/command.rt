@@ -18,7 +18,7 @@ use crate::source::take_script;
 use crate::status::Status;
 use crate::transfer::LIMIT;
 use crate::words::Words;
-use crate::writing::write_output;
+use crate::writing::{room_for, write_output};
 use doc_model::Outcome;
 use io_edge::{Failed, Gate, Sink, Source};
 use script_text::Script;
@@ -47,8 +47,11 @@ fn paint<K: Sink>(alloc: Global, emit: Emit, script: &Script, out: &mut K) -> St
     let Ok(shown) = run_solo(alloc, script) else {
         return Status::NoMemory;
     };
+    let Ok(mut room) = room_for(alloc, emit, script.canvas()) else {
+        return Status::NoMemory;
+    };
     let refused = some_refused(&shown.outcomes);
-    match write_output(emit, script, &shown, out) {
+    match write_output(emit, script, &shown, &mut room, out) {
         Ok(()) if refused => Status::DoneWithRefusals,
         Ok(()) => Status::Done,
         Err(Failed) => Status::WriteFault,

@@ -1,41 +1,32 @@
 //! Writing what is asked for of a painted script.
 
-ghost use Rattle.std.specs.Prelude.{OnOk, OnErr};
-ghost use Rattle.std.specs.List.{flat_map};
+ghost use Rattle.std.specs.Prelude.{IfOk, OnOk, OnErr};
 ghost use Rattle.std.specs.Io.KnownBytes.{Appends};
 ghost use Rattle.io_edge.specs.Bytes.{AppendsPrefix};
 ghost use Rattle.io_edge.specs.Faults.{HasCause};
 ghost use Rattle.solo_run.specs.Shows.{Shows};
-ghost use Rattle.strokes_top.specs.Output.{output, pixmap};
+ghost use Rattle.strokes_top.specs.Output.{output, HasRoom};
 
 use crate::choice::Emit;
+use doc_model::Canvas;
 use io_edge::{Failed, Sink};
 use log_out::{write_log, write_sum};
-use ppm_out::write_frame;
+use ppm_out::write_frames;
 use script_text::Script;
 use solo_run::Shown;
-use tile_core::Frame;
+use std::alloc::{AllocError, Global};
 
-/// The bytes of a row of the most columns, three a column.
-const ROW: usize = 3 * 2048;
-
-/// Writes a pixmap for each frame, in their order. It takes no memory.
-fn write_pictures<K: Sink>(frames: &[Frame], out: &mut K) -> Result<(), Failed>
-    ensures ok { OnOk result (Appends (K.taken out.old) (K.taken out.new) (flat_map pixmap frames.now)) }
-    ensures err { OnErr result (AppendsPrefix (K.taken out.old) (K.taken out.new) (flat_map pixmap frames.now)) }
-    ensures cause { HasCause (K.faults out.old) (K.faults out.new) result }
+/// Room for what has to be kept while the output is written: for pictures, the colours of one frame.
+pub(crate) fn room_for(alloc: Global, emit: Emit, canvas: Canvas) -> Result<Vec<u8>, AllocError>
+    ensures { IfOk result (λ v. HasRoom emit canvas v.items) }
 {
-    let mut row = [0u8; ROW];
-    for i in 0..frames.len() {
-        let frame = &frames[i];
-        // It has at most 2048 columns.
-        let _width = frame.width();
-        write_frame(frame, &mut row, out)?;
+    match emit {
+        Emit::Picture => vec![in alloc; 0; 3 * (canvas.w as usize * canvas.h as usize)],
+        Emit::Log | Emit::Sum => Ok(Vec::new(alloc)),
     }
-    Ok(())
 }
 
-/// Writes what is asked for of a script that was painted. It takes no memory.
+/// Writes what is asked for of a script that was painted, with that room. It takes no memory.
 ///
 /// # Errors
 /// `Failed` only where the sink's count of faults rose. The sink then took the first of the bytes.
@@ -43,15 +34,17 @@ pub(crate) fn write_output<K: Sink>(
     emit: Emit,
     script: &Script,
     shown: &Shown,
+    room: &mut [u8],
     out: &mut K,
 ) -> Result<(), Failed>
-    requires { Shows script.now shown.now.frames.items shown.now.outcomes.items }
+    requires shows { Shows script.now shown.now.frames.items shown.now.outcomes.items }
+    requires room { HasRoom emit script.now.canvas room.old }
     ensures ok { OnOk result (Appends (K.taken out.old) (K.taken out.new) (output emit script.now)) }
     ensures err { OnErr result (AppendsPrefix (K.taken out.old) (K.taken out.new) (output emit script.now)) }
     ensures cause { HasCause (K.faults out.old) (K.faults out.new) result }
 {
     match emit {
-        Emit::Picture => write_pictures(&shown.frames, out),
+        Emit::Picture => write_frames(&shown.frames, room, out),
         Emit::Log => write_log(script, &shown.outcomes, out),
         Emit::Sum => write_sum(&shown.frames, &shown.outcomes, out),
     }
