@@ -8,9 +8,6 @@ use std::sync::Wait;
 use std::test::*;
 use std::thread::Threads;
 
-/// Whether scripts are painted. So far `run_solo` only answers that memory ran out.
-const PAINTS: bool = false;
-
 const GOOD: &[u8] =
     b"canvas 1 1\nlayer 1 0 0\nstroke 1 1\nfill 1 seq 0 0 1 1 ff000080 over 255\nend 1\nexport\n";
 
@@ -105,11 +102,7 @@ fn gives<R: Threads + Wait + Sync>(
     out: &[u8],
 ) -> Result<bool, Fail> {
     let got = ran(rt, alloc, list, source_of(alloc, script, 0)?, 0)?;
-    if PAINTS {
-        Ok(got.code == code && got.out.as_slice() == out)
-    } else {
-        Ok(got.code == 6 && got.out.is_empty())
-    }
+    Ok(got.code == code && got.out.as_slice() == out)
 }
 
 #[test]
@@ -154,8 +147,8 @@ fn painted(rt: HostRuntime) -> Result<(), Fail> {
 fn generated(rt: HostRuntime) -> Result<(), Fail> {
     let source = source_of(rt.alloc(), GOOD, 1)?;
     let got = ran(&rt, rt.alloc(), &["--demo", "1"], source, 0)?;
-    assert_eq!(rt; got.code, if PAINTS { 5 } else { 6 });
-    assert_eq!(rt; got.out.starts_with(b"P6\n800 600\n255\n"), PAINTS);
+    assert_eq!(rt; got.code, 5);
+    assert!(rt; got.out.starts_with(b"P6\n800 600\n255\n"));
     Ok(())
 }
 
@@ -222,14 +215,7 @@ fn faults(rt: HostRuntime) -> Result<(), Fail> {
     assert_eq!(rt; got.code, 4);
     assert_eq!(rt; got.out.as_slice(), b"".as_slice());
     let got = ran(&rt, rt.alloc(), &[], source_of(rt.alloc(), GOOD, 0)?, 2)?;
-    assert_eq!(rt; got.code, if PAINTS { 5 } else { 6 });
-    assert_eq!(rt;
-        got.out.as_slice(),
-        if PAINTS {
-            b"P6\n".as_slice()
-        } else {
-            b"".as_slice()
-        }
-    );
+    assert_eq!(rt; got.code, 5);
+    assert_eq!(rt; got.out.as_slice(), b"P6\n".as_slice());
     Ok(())
 }
