@@ -4,21 +4,21 @@ use Rattle.std.specs.Prelude.{All, slice_get}
 use Rattle.std.specs.FinMap as fin
 use Rattle.std.proofs.lemmas.Option.{slice_get_cases}
 use Rattle.std.proofs.Math.Seq.{take-length}
-use Rattle.pixel_core.specs.Rgba.{Rgba}
 use Rattle.geom_core.specs.Points.{Point}
 use Rattle.geom_core.specs.Areas.{holds, any_holds}
 use Rattle.geom_core.specs.Grid.{Key, key_of, same_key, tile, key_cmp_total}
 use Rattle.geom_core.proofs.Tests.{taken, kept}
 use Rattle.geom_core.proofs.Tiles.{own_tile, key_same, key_is}
 use Rattle.tile_core.specs.Pixels.{Pixels, pixel_at, pixel_or}
-use Rattle.tile_core.specs.Blocks.{Piece, piece_at, LaysBlock}
+use Rattle.tile_core.specs.Blocks.{Piece, piece_at, LaysBlock, IsLaidBy}
 use Rattle.memento_core.specs.Planes.{tile_under}
 use Rattle.doc_model.specs.Layers.{Layer, at, at-painted, default-painted, layer_ext}
-use Rattle.doc_model.specs.Jobs.{writes, apply, published, in_tile}
+use Rattle.doc_model.specs.Jobs.{writes, published, in_tile}
 use Rattle.job_core.specs.Paints as paints
 use Rattle.job_core.specs.Paints.{Paint, IsPainted, HasValue}
 use Rattle.paint_device.specs.Seen.{layer_of}
-use Rattle.paint_device.specs.Sheets.{Sheet, sheet_at, with_under, readied}
+use Rattle.paint_device.specs.Sheets.{Sheet, sheet_at, tile_or, with_under, readied}
+use Rattle.desk_steps.specs.Tiles.{made, IsLaid}
 use Rattle.paint_device.proofs.Shown.{at-layer_of, default-layer_of}
 use Rattle.paint_device.proofs.Writes.{pixel_or-tile_or, seen_after_exchange, ready_keeps_pixels}
 
@@ -29,10 +29,6 @@ plain_at s k p h none = sym (pixel_or-tile_or None s.default_pixel p) ∙ ap (λ
 -- and the tile that stands there has them
 pub tile_at : (s : Sheet) (k : Key) (t : Pixels) (p : Point) → in_tile k p ≡ true → Some t ≡ tile_under s.tiles k → pixel_at t p ≡ sheet_at s p
 tile_at s k t p h there = ap (λ o. pixel_or o s.default_pixel p) (there ∙ ap (tile_under s.tiles) (sym (key_same (key_of p) k h)))
-
--- what the job makes of the shot
-abbrev pub made : Paint → Point → Rgba
-made w p = at (apply w.job (paints.layer_of w.shot)) p
 
 some_same : {A : Type 0} (x y : A) → Some x ≡ Some y → x ≡ y
 some_same x y e = cc
@@ -89,9 +85,6 @@ one_laid w s t new i b is e lays so p h =
     go false held value = so p h ∙ ap (λ c. cond c (made w p) (sheet_at s p)) (or_end (any_holds (map (λ (b : Piece). b.rect) (take i w.blocks)) p) ∙ ap (λ c. any_holds (map (λ (b : Piece). b.rect) (take i w.blocks)) p || c) (sym held))
 
 -- the tile with all of the blocks
-abbrev pub IsLaid : Paint → Sheet → Pixels → Type 0
-IsLaid w s t = (p : Point) → in_tile w.key p ≡ true → pixel_at t p ≡ cond (any_holds (writes w.job) p) (made w p) (sheet_at s p)
-
 pub all_laid : (w : Paint) (s : Sheet) (t : Pixels) (n : ℕ) → n ≡ length w.blocks → IsPainted w → LaidSoFar w s t (take n w.blocks) → IsLaid w s t
 unfolding LaidSoFar
 all_laid w s t n e is so p h = so p h ∙ ap (λ bs. cond (any_holds (map (λ (b : Piece). b.rect) bs) p) (made w p) (sheet_at s p)) (ap (λ n. take n w.blocks) e ∙ take-length w.blocks)
@@ -100,6 +93,15 @@ all_laid w s t n e is so p h = so p h ∙ ap (λ bs. cond (any_holds (map (λ (b
     and_true : (a : Bool) → (a && true) ≡ a
     and_true true = refl
     and_true false = refl
+
+-- what the one block makes of any tile is the tile with all of the blocks
+pub one_block_laid : (w : Paint) (s : Sheet) (t : Pixels) (b : Piece) → IsPainted w → length w.blocks ≡ 1 → Some b ≡ slice_get w.blocks 0 → IsLaidBy t b → IsLaid w s t
+one_block_laid w s t b is one e by =
+    let old : Pixels = tile_or (tile_under s.tiles w.key) s.default_pixel in
+    all_laid w s t 1 (sym one) is (one_laid w s old t 0 b is e (by old) (none_laid w s old w.key refl (old_at w.key)))
+  where
+    old_at : (k : Key) (p : Point) → in_tile k p ≡ true → pixel_at (tile_or (tile_under s.tiles k) s.default_pixel) p ≡ sheet_at s p
+    old_at k p h = sym (pixel_or-tile_or (tile_under s.tiles k) s.default_pixel p) ∙ ap (λ m. pixel_or (tile_under s.tiles m) s.default_pixel p) (sym (key_same (key_of p) k h))
 
 pub ready_there : (s : Sheet) (k : Key) → fin.contains_key (readied s k).tiles k ≡ true
 ready_there s k = go (fin.contains_key s.tiles k) refl

@@ -2,3 +2,4 @@ pub mod Archives
 pub mod KeySets
 pub mod Documents
 pub mod Entries
+pub mod Tiles

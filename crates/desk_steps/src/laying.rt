@@ -1,15 +1,16 @@
 //! Laying what was painted on a device.
 
-ghost use Rattle.std.specs.Prelude.{◌≡◌, true, cond, IfOk, OnOk, OnErr};
+ghost use Rattle.std.specs.Prelude.{◌≡◌, true, IfOk, IfSome, OnOk, OnErr};
+ghost use Rattle.std.specs.Option.{option_copied};
 ghost use Rattle.std.specs.FinSet as set;
-ghost use Rattle.geom_core.specs.Areas.{any_holds};
+ghost use Rattle.geom_core.specs.Grid.{IsWorldKey};
 ghost use Rattle.geom_core.specs.Points.{Point};
 ghost use Rattle.tile_core.specs.Pixels.{pixel_at};
-ghost use Rattle.doc_model.specs.Jobs.{writes, apply, published, in_tile};
-ghost use Rattle.doc_model.specs.Layers.{at};
+ghost use Rattle.doc_model.specs.Jobs.{published, in_tile};
 ghost use Rattle.job_core.specs.Paints as paints;
 ghost use Rattle.paint_device.specs.Seen.{layer_of};
 ghost use Rattle.paint_device.specs.Sheets.{sheet_at};
+ghost use Rattle.desk_steps.specs.Tiles.{IsLaid, beside};
 
 use crate::keys::KeySet;
 use geom_core::{NoMemory, TileKey};
@@ -39,9 +40,49 @@ pub fn lay(
     Ok(())
 }
 
-/// The tile under the painted key, with the painted pixels.
+/// The tile under the painted key, with the painted pixels. Where a neighbour has just these, its
+/// tile is shared.
 fn laid(alloc: Global, device: &Device, painted: &Painted<'_>) -> Result<Tile, NoMemory>
-    ensures { IfOk result (λ t. (p : Point) → in_tile painted.now.key p ≡ true → pixel_at t p ≡ cond (any_holds (writes painted.now.job) p) (at (apply painted.now.job (paints.layer_of painted.now.shot)) p) (sheet_at device.now p)) }
+    ensures { IfOk result (IsLaid painted.now device.now) }
+{
+    match shared_neighbour(device, painted) {
+        Some(tile) => tile.share(),
+        None => laid_anew(alloc, device, painted),
+    }
+}
+
+/// A neighbour's tile, where it is the tile under the painted key with the painted pixels.
+fn shared_neighbour<'a>(device: &'a Device, painted: &Painted<'_>) -> Option<&'a Tile>
+    ensures { IfSome result (λ t. IsLaid painted.now device.now t.now) }
+{
+    match neighbour(device, painted.key()) {
+        Some(tile) if painted.block_count() == 1 && tile.is_laid_by(painted.block(0)) => Some(tile),
+        _ => None,
+    }
+}
+
+/// The tile to the left of the key, or else the one above.
+fn neighbour(device: &Device, key: TileKey) -> Option<&Tile>
+    requires { IsWorldKey key }
+    ensures { option_copied result ≡ beside device.now key }
+{
+    let left = device.tile(TileKey {
+        row: key.row,
+        col: key.col - 1,
+    });
+    let above = TileKey {
+        row: key.row - 1,
+        col: key.col,
+    };
+    match left {
+        Some(tile) => Some(tile),
+        None => device.tile(above),
+    }
+}
+
+/// The tile under the painted key, with one painted block laid on it after another.
+fn laid_anew(alloc: Global, device: &Device, painted: &Painted<'_>) -> Result<Tile, NoMemory>
+    ensures { IfOk result (IsLaid painted.now device.now) }
 {
     let key = painted.key();
     let mut tile = tile_under(alloc, device, key)?;

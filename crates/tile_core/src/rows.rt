@@ -3,6 +3,7 @@
 ghost use Rattle.std.specs.Prelude.{◌^◌, IfOk, vec_len, ◌≡◌, ℕ, ◌+◌, ◌*◌, ◌<◌, ◌≤◌, ◌↔◌, IsTrue, length, take, drop, ◌++◌};
 ghost use Rattle.std.specs.Int.{to_le_bytes, w32};
 ghost use Rattle.pixel_core.specs.Rgba.{bytes_of};
+ghost use Rattle.tile_core.specs.Pixels.{Pixels};
 ghost use Rattle.tile_core.specs.Parts.{LaysPart, TakesPart, LaysTile, SamePart};
 
 use pixel_core::Pixel;
@@ -116,6 +117,27 @@ pub fn same_tiles(tile: &[Pixel], other: &[Pixel]) -> bool
         same = same & (word(tile[i]) == word(other[i]));
     }
     same
+}
+
+/// Whether the part is the whole tile, and the tile has just these pixels. Where the first or the
+/// last pixels differ it looks no further.
+pub fn has_laid(tile: &[Pixel], part: Part, src: &[Pixel]) -> bool
+    requires whole { length tile.now ≡ 4096 }
+    requires across { part.left + part.w ≤ 64 }
+    requires down { part.top + part.h ≤ 64 }
+    requires pixels { length src.now ≡ part.h * part.w }
+    ensures { IsTrue result → (old : Pixels) → length old ≡ 4096 → LaysPart old tile.now part.left part.top part.w part.h src.now }
+{
+    part.w == 64 && part.h == 64 && same_ends(tile, src) && same_tiles(tile, src)
+}
+
+/// Whether the first pixels are the same, and the last ones.
+#[inline]
+fn same_ends(tile: &[Pixel], other: &[Pixel]) -> bool
+    requires whole { length tile.now ≡ 4096 }
+    requires other_whole { length other.now ≡ 4096 }
+{
+    tile[0] == other[0] && tile[4095] == other[4095]
 }
 
 /// The four bytes of a pixel as one number.

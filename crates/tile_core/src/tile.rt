@@ -4,13 +4,13 @@ ghost use Rattle.std.specs.Prelude.{vec_len, ◌≡◌, ℕ, ◌+◌, ◌*◌, �
 ghost use Rattle.tile_core.specs.Pixels.{pixel_of, pixel_at, whole_tile, SameOn, HasPixels};
 ghost use Rattle.tile_core.specs.Parts.{IsPartOf};
 ghost use Rattle.geom_core.specs.Grid.{IsWorldKey, tile};
-ghost use Rattle.tile_core.specs.Blocks.{LaysBlock};
+ghost use Rattle.tile_core.specs.Blocks.{LaysBlock, IsLaidBy};
 ghost use Rattle.geom_core.specs.Areas.{IsWithin, holds, world};
 ghost use Rattle.geom_core.specs.Points.{point};
 ghost use Rattle.pixel_core.specs.Rgba.{clear};
 
 use crate::Block;
-use crate::rows::{Part, part_of, same_part, same_tiles, with_part};
+use crate::rows::{Part, has_laid, part_of, same_part, same_tiles, with_part};
 use geom_core::{NoMemory, Rect, TileKey};
 use pixel_core::Pixel;
 use std::alloc::Global;
@@ -101,6 +101,15 @@ impl Tile {
         let rect = block.rect();
         let pixels = with_part(alloc, self.pixels(), part_in_tile(&rect), block.pixels())?;
         Tile::from_pixels(alloc, pixels)
+    }
+
+    /// Whether the block covers its whole tile, and has just this tile's pixels: then this is what
+    /// the block makes of any tile. It may say no where no pixel would change.
+    pub fn is_laid_by(&self, block: &Block) -> bool
+        ensures { IsTrue result → IsLaidBy self.now block.now }
+    {
+        let rect = block.rect();
+        has_laid(self.pixels(), part_in_tile(&rect), block.pixels())
     }
 
     /// Whether both tiles have the same pixels on a rectangle of a tile whose corner is (0, 0).
