@@ -1,7 +1,7 @@
 -- The queue keeps the entries of all commands but for those with an outcome.
-use Rattle.std.proofs.Common.{◌≡◌, ℕ, suc, zero, ◌≤◌, Bool, true, false, ◌&&◌, ◌||◌, List, [], ◌∷◌, ◌++◌, map, length, drop, Option, Some, None, refl, sym, ap, ◌∙◌, arith, subst, eqb, inl, inr}
-use Rattle.std.specs.List.{AllByRecursion, list_any}
-use Rattle.geom_core.proofs.Tests.{and_left, and_right, or_cases, or_left, or_right, true_or_false, taken, kept}
+use Rattle.std.proofs.Common.{◌≡◌, ℕ, suc, zero, ◌≤◌, Bool, true, false, ◌&&◌, ◌||◌, List, [], ◌∷◌, ◌++◌, map, not, length, drop, take, Option, Some, None, refl, sym, ap, ◌∙◌, arith, subst, eqb, inl, inr}
+use Rattle.std.specs.List.{AllByRecursion, list_any, list_all}
+use Rattle.geom_core.proofs.Tests.{and_left, and_right, both_true, or_cases, or_left, or_right, true_or_false, taken, kept}
 use Rattle.doc_model.specs.declared.job.Job.{Job}
 use Rattle.doc_model.specs.declared.job.Kind.{Kind}
 use Rattle.doc_model.specs.declared.command.Command.{Command}
@@ -9,8 +9,8 @@ use Rattle.doc_model.specs.declared.command.Command.TheVariants as command
 use Rattle.doc_model.specs.declared.command.Outcome.{Outcome}
 use Rattle.doc_model.specs.Strokes as doc
 use Rattle.doc_model.specs.Strokes.{Fate, Open, Ended, Cancelled, Stroke, entries, all_fed, fed, conflict}
-use Rattle.doc_model.specs.Lawful.{is_stroke, is_open, is_open_stroke, may_follow, lawful_after, lawful, checks, within_limits}
-use Rattle.doc_model.proofs.Feeding.{NumbersDiffer, lawful_differ, entries_last, length_fed}
+use Rattle.doc_model.specs.Lawful.{is_closed_entry, is_stroke, is_open, is_open_stroke, may_follow, lawful_after, lawful, checks, within_limits}
+use Rattle.doc_model.proofs.Feeding.{NumbersDiffer, lawful_differ, entries_last, length_fed, take_fed}
 use Rattle.stroke_core.specs.Fed as stroke
 use Rattle.stroke_core.specs.Fed.{Fed, found}
 use Rattle.stroke_core.proofs.MoreJobs.{conflict_nil, found_stands, stands_added, stands_refused}
@@ -47,13 +47,13 @@ length_more [] x = refl
 length_more (y ∷ xs) x = ap suc (length_more xs x)
 
 -- what may be fed last, and what was fed before
-lawful_split : (es : List doc.Entry) (cs : List Command) (c : Command) → lawful_after es (cs ++ c ∷ []) ≡ true → (lawful_after es cs ≡ true) × (may_follow (all_fed es cs) c ≡ true)
+pub lawful_split : (es : List doc.Entry) (cs : List Command) (c : Command) → lawful_after es (cs ++ c ∷ []) ≡ true → (lawful_after es cs ≡ true) × (may_follow (all_fed es cs) c ≡ true)
 lawful_split es [] c h = (refl, and_left (may_follow es c) _ h)
 lawful_split es (d ∷ cs) c h =
     let rest : (lawful_after (fed es d) cs ≡ true) × (may_follow (all_fed (fed es d) cs) c ≡ true) = lawful_split (fed es d) cs c (and_right (may_follow es d) _ h) in
     ((λ i. and_left (may_follow es d) _ h i && rest.0 i), rest.1)
 
-open_is_stroke : (n : ℕ) (e : doc.Entry) → is_open_stroke n e ≡ true → is_stroke n e ≡ true
+pub open_is_stroke : (n : ℕ) (e : doc.Entry) → is_open_stroke n e ≡ true → is_stroke n e ≡ true
 open_is_stroke n (doc.Strokes s) h = and_left (eqb s.no n) _ h
 open_is_stroke n (doc.Changes c) h = h
 open_is_stroke n doc.Undoes h = h
@@ -61,7 +61,7 @@ open_is_stroke n doc.Redoes h = h
 open_is_stroke n (doc.Purges k) h = h
 open_is_stroke n doc.Exports h = h
 
-any_open_is_stroke : (n : ℕ) (es : List doc.Entry) → list_any (is_open_stroke n) es ≡ true → list_any (is_stroke n) es ≡ true
+pub any_open_is_stroke : (n : ℕ) (es : List doc.Entry) → list_any (is_open_stroke n) es ≡ true → list_any (is_stroke n) es ≡ true
 any_open_is_stroke n [] h = h
 any_open_is_stroke n (e ∷ es) h = elim (or_cases (is_open_stroke n e) _ h) [
   | inl k ↦ or_left _ _ (open_is_stroke n e k)
@@ -179,6 +179,7 @@ stands_pushed before c q l h =
     record {
       left_is = left_pushed (length q.outcomes) (entries before) c q.left (lawful_differ before both.0) both.1 h.few h.left_is ∙ sym (ap (λ es. map queued (drop (length q.outcomes) es)) (entries_last before c));
       few = subst (λ es. length q.outcomes ≤ length es) (sym (entries_last before c)) all;
+      closed = rw (entries_last before c, take_fed (entries before) c (length q.outcomes) both.1 (lawful_differ before both.0) h.few h.closed) h.closed;
     }
 
 some_left : (k : ℕ) (es : List doc.Entry) → may_leave (map queued (drop k es)) ≡ true → suc k ≤ length es
@@ -187,9 +188,30 @@ some_left zero (e ∷ es) h = omega arith
 some_left (suc k) [] h = cc
 some_left (suc k) (e ∷ es) h = let r : suc k ≤ length es = some_left k es h in omega arith
 
+leaves_closed : (e : doc.Entry) (es : List Entry) → may_leave (queued e ∷ es) ≡ true → is_closed_entry e ≡ true
+leaves_closed (doc.Strokes s) es h = go s.fate h
+  where
+    go : (f : Fate) → may_leave (stroke_of f (kept_of s) ∷ es) ≡ true → not (is_open f) ≡ true
+    go Open h = h
+    go Ended h = refl
+    go Cancelled h = refl
+leaves_closed (doc.Changes c) es h = refl
+leaves_closed doc.Undoes es h = refl
+leaves_closed doc.Redoes es h = refl
+leaves_closed (doc.Purges k) es h = refl
+leaves_closed doc.Exports es h = refl
+
+-- the entry that may leave is closed, as those that left before it
+closed_more : (k : ℕ) (es : List doc.Entry) → may_leave (map queued (drop k es)) ≡ true → list_all is_closed_entry (take k es) ≡ true → list_all is_closed_entry (take (suc k) es) ≡ true
+closed_more zero [] m h = refl
+closed_more zero (e ∷ es) m h = both_true _ _ (leaves_closed e (map queued es) m) refl
+closed_more (suc k) [] m h = refl
+closed_more (suc k) (e ∷ es) m h = both_true _ _ (and_left (is_closed_entry e) _ h) (closed_more k es m (and_right (is_closed_entry e) _ h))
+
 -- one more outcome
 pub stands_popped : (before : List Command) (q : Pending) (o : Outcome) → may_leave q.left ≡ true → StandsFor before q → StandsFor before (record { left = drop 1 q.left; outcomes = q.outcomes ++ o ∷ [] })
 stands_popped before q o m h = record {
   left_is = ap (drop 1) h.left_is ∙ drop_map queued 1 (drop (length q.outcomes) (entries before)) ∙ ap (map queued) (drop_one (length q.outcomes) (entries before)) ∙ sym (ap (λ n. map queued (drop n (entries before))) (length_more q.outcomes o));
   few = subst (λ n. n ≤ length (entries before)) (sym (length_more q.outcomes o)) (some_left (length q.outcomes) (entries before) (subst (λ es. may_leave es ≡ true) h.left_is m));
+  closed = ap (λ n. list_all is_closed_entry (take n (entries before))) (length_more q.outcomes o) ∙ closed_more (length q.outcomes) (entries before) (subst (λ es. may_leave es ≡ true) h.left_is m) h.closed;
 }

@@ -1,12 +1,12 @@
 -- The entries that are left, and what a command does to them.
-use Rattle.std.specs.Prelude.{◌≡◌, ℕ, ◌==◌, ◌≤◌, nat_lt, Bool, true, false, ◌&&◌, not, if◌then◌else◌, Option, Some, None, List, [], ◌∷◌, ◌++◌, map, length, drop}
-use Rattle.std.specs.List.{list_any}
+use Rattle.std.specs.Prelude.{◌≡◌, ℕ, ◌==◌, ◌≤◌, nat_lt, Bool, true, false, ◌&&◌, not, if◌then◌else◌, Option, Some, None, List, [], ◌∷◌, ◌++◌, map, length, drop, take}
+use Rattle.std.specs.List.{list_any, list_all}
 use Rattle.doc_model.specs.declared.job.Job.{Job}
 use Rattle.doc_model.specs.declared.job.Kind.{Kind}
 use Rattle.doc_model.specs.declared.command.Command.{Command}
 use Rattle.doc_model.specs.declared.command.Command.TheVariants as command
 use Rattle.doc_model.specs.declared.command.Outcome.{Outcome}
-use Rattle.doc_model.specs.Lawful.{checks}
+use Rattle.doc_model.specs.Lawful.{checks, is_closed_entry}
 use Rattle.doc_model.specs.Strokes as doc
 use Rattle.doc_model.specs.Strokes.{Fate, Open, Ended, Cancelled, Stroke, Jobs, conflict, kept, entries}
 use Rattle.stroke_core.specs.Fed.{Fed, found}
@@ -98,7 +98,8 @@ queued doc.Redoes = Other command.Redo
 queued (doc.Purges keep) = Other (command.Purge keep)
 queued doc.Exports = Other command.Export
 
--- the queue has the entries of the commands but for those with an outcome, a stroke with what is kept of its jobs and their conflict
+-- the queue has the entries of the commands but for those with an outcome, which are closed; a stroke has what is kept of its jobs, and their conflict
 pub record StandsFor (commands : List Command) (q : Pending) : Type 0 where
   pub left_is : q.left ≡ map queued (drop (length q.outcomes) (entries commands))
   pub few : length q.outcomes ≤ length (entries commands)
+  pub closed : list_all is_closed_entry (take (length q.outcomes) (entries commands)) ≡ true

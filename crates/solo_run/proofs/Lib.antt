@@ -1,1 +1,4 @@
-
+pub mod Fronts
+pub mod Published
+pub mod Scripts
+pub mod Stories

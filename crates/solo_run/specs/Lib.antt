@@ -1,1 +1,3 @@
 pub mod Shows
+pub mod Painting
+pub mod Told

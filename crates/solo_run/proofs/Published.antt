@@ -1,0 +1,190 @@
+-- A job that is painted tile by tile leaves what it leaves of the whole layer.
+use Rattle.std.proofs.Common.{◌≡◌, ℕ, suc, zero, ◌+◌, Bool, true, false, ◌&&◌, ◌||◌, cond, Option, Some, None, is_some, List, [], ◌∷◌, ◌++◌, take, refl, sym, ap, ◌∙◌, subst, arith}
+use Rattle.std.specs.Prelude.{slice_get, int_le, ℤ, pos, ◌+ℤ◌}
+use Rattle.std.specs.List.{list_any, list_all}
+use Rattle.std.specs.FinSet as set
+use Rattle.std.specs.FinSet.{FinSet}
+use Rattle.std.proofs.lemmas.List.Folds.{list_any-append}
+use borrow.Author.Differences.{ints}
+use Rattle.pixel_core.specs.Rgba.{Rgba}
+use Rattle.geom_core.specs.Points.{Point}
+use Rattle.geom_core.specs.Areas.{Area, any_holds, lies_in}
+use Rattle.geom_core.specs.Grid.{Key, key_of, same_key, keys_of, all_keys_of}
+use Rattle.geom_core.proofs.Tests.{and_left, and_right, both_true, or_left, or_right}
+use Rattle.geom_core.proofs.Keys.{key_of_any_held}
+use Rattle.geom_core.proofs.Tiles.{key_is}
+use Rattle.doc_model.specs.declared.job.Job.{Job}
+use Rattle.doc_model.specs.declared.job.Kind.{Kind}
+use Rattle.doc_model.specs.Layers.{Layer, at, layer_ext}
+use Rattle.doc_model.specs.Jobs.{reads, writes, apply, apply_all, shot_of, published, in_tile}
+use Rattle.doc_model.specs.Forest.{content, with_content, adjusted}
+use Rattle.doc_model.specs.Strokes.{Jobs}
+use Rattle.doc_model.proofs.Contents.{adjusted-with_content, content-with_content}
+use Rattle.doc_model.proofs.JobLaws.{laws_of_jobs}
+use Rattle.doc_model.proofs.Shots.{at-published, default-published, shot_same}
+use Rattle.tile_core.specs.Shots.{Sight}
+use Rattle.machine_model.specs.Effects.{layer_in}
+use Rattle.job_core.specs.Paints.{Paint, layer_of}
+use Rattle.desk_steps.specs.Archives.{Archive, Way, layer_under_way, with_put}
+use Rattle.solo_run.proofs.Fronts.{take_more}
+use Rattle.solo_run.specs.Painting.{Paints, PaintsOn, published_in, jobs_only}
+
+and_none : (b : Bool) → (b && false) ≡ false
+and_none true = refl
+and_none false = refl
+
+either : (w t u : Bool) (v x : Rgba) → cond (w && u) v (cond (w && t) v x) ≡ cond (w && (t || u)) v x
+either true true true v x = refl
+either true true false v x = refl
+either true false u v x = refl
+either false t u v x = refl
+
+at_published_in : (job : Job) (shot : Layer) (ks : List Key) (layer : Layer) (p : Point) → at (published_in job shot ks layer) p ≡ cond (any_holds (writes job) p && list_any (same_key (key_of p)) ks) (at (apply job shot) p) (at layer p)
+at_published_in job shot [] layer p = sym (ap (λ b. cond b (at (apply job shot) p) (at layer p)) (and_none (any_holds (writes job) p)))
+at_published_in job shot (k ∷ ks) layer p =
+    at_published_in job shot ks (published job shot k layer) p
+    ∙ ap (cond (any_holds (writes job) p && list_any (same_key (key_of p)) ks) (at (apply job shot) p)) (at-published job shot k layer p)
+    ∙ either (any_holds (writes job) p) (in_tile k p) (list_any (same_key (key_of p)) ks) _ _
+
+default_published_in : (job : Job) (shot : Layer) (ks : List Key) (layer : Layer) → (published_in job shot ks layer).default_pixel ≡ layer.default_pixel
+default_published_in job shot [] layer = refl
+default_published_in job shot (k ∷ ks) layer = default_published_in job shot ks (published job shot k layer) ∙ default-published job shot k layer
+
+-- in all tiles of its writes, from a shot of its reads
+pub published_all : (job : Job) (layer : Layer) → published_in job (shot_of (reads job) layer) (all_keys_of (writes job)) layer ≡ apply job layer
+published_all job layer = layer_ext _ _
+    (default_published_in job (shot_of (reads job) layer) (all_keys_of (writes job)) layer ∙ sym (laws_of_jobs.default_pixel job layer))
+    (λ p. at_published_in job (shot_of (reads job) layer) (all_keys_of (writes job)) layer p ∙ go p (any_holds (writes job) p) refl)
+  where
+    go : (p : Point) (b : Bool) → any_holds (writes job) p ≡ b → cond (b && list_any (same_key (key_of p)) (all_keys_of (writes job))) (at (apply job (shot_of (reads job) layer)) p) (at layer p) ≡ at (apply job layer) p
+    go p true h = ap (λ b. cond b (at (apply job (shot_of (reads job) layer)) p) (at layer p)) (key_of_any_held (writes job) p h) ∙ laws_of_jobs.inside job (shot_of (reads job) layer) layer p (shot_same (reads job) layer) h
+    go p false h = sym (laws_of_jobs.outside job layer p h)
+
+published_in-append : (job : Job) (shot : Layer) (ks ls : List Key) (layer : Layer) → published_in job shot (ks ++ ls) layer ≡ published_in job shot ls (published_in job shot ks layer)
+published_in-append job shot [] ls layer = refl
+published_in-append job shot (k ∷ ks) ls layer = published_in-append job shot ks ls (published job shot k layer)
+
+apply_all-last : (jobs : List Job) (job : Job) (layer : Layer) → apply_all (jobs ++ job ∷ []) layer ≡ apply job (apply_all jobs layer)
+apply_all-last [] job layer = refl
+apply_all-last (j ∷ jobs) job layer = apply_all-last jobs job (apply j layer)
+
+all_keys-last : (rects : List Area) (r : Area) → all_keys_of (rects ++ r ∷ []) ≡ all_keys_of rects ++ keys_of r
+all_keys-last [] r = no_more (keys_of r)
+  where
+    no_more : (ks : List Key) → ks ++ [] ≡ ks
+    no_more [] = refl
+    no_more (k ∷ ks) = ap (λ ls. k ∷ ls) (no_more ks)
+all_keys-last (a ∷ rects) r = ap (λ ks. keys_of a ++ ks) (all_keys-last rects r) ∙ sym (assoc (keys_of a) (all_keys_of rects) (keys_of r))
+  where
+    assoc : (ks ls ms : List Key) → (ks ++ ls) ++ ms ≡ ks ++ (ls ++ ms)
+    assoc [] ls ms = refl
+    assoc (k ∷ ks) ls ms = ap (λ ns. k ∷ ns) (assoc ks ls ms)
+
+jobs_only-last : (jobs : Jobs) (j : Kind × Job) → jobs_only (jobs ++ j ∷ []) ≡ jobs_only jobs ++ j.1 ∷ []
+jobs_only-last [] j = refl
+jobs_only-last (i ∷ jobs) j = ap (λ js. i.1 ∷ js) (jobs_only-last jobs j)
+
+-- nothing is painted yet
+pub paints_none : (a : Archive) → is_some a.way ≡ true → PaintsOn (λ layer. layer) a a
+paints_none a h = record { keeps = refl; under_way = h; painted = λ id layer p. p }
+
+-- one painting after another
+pub paints_then : (f g : Layer → Layer) (a b c : Archive) → PaintsOn f a b → PaintsOn g b c → PaintsOn (λ layer. g (f layer)) a c
+paints_then f g a b c one two = record {
+  keeps = two.keeps ∙ ap (λ (s : Archive). record s { present = c.present; way = c.way }) one.keeps;
+  under_way = two.under_way;
+  painted = λ id layer p. two.painted id (f layer) (one.painted id layer p);
+}
+
+-- the same changes of a layer
+pub paints_as : (f g : Layer → Layer) (a b : Archive) → ((id : ℕ) (layer : Layer) → Paints id layer a → f layer ≡ g layer) → PaintsOn f a b → PaintsOn g a b
+paints_as f g a b same on = record {
+  keeps = on.keeps;
+  under_way = on.under_way;
+  painted = λ id layer p. subst (λ l. Paints id l b) (same id layer p) (on.painted id layer p);
+}
+
+-- a tile
+pub put_paints : (w : Paint) (a : Archive) → is_some a.way ≡ true → PaintsOn (published w.job (layer_of w.shot) w.key) a (with_put a.way w a)
+put_paints w a h = record {
+  keeps = keeps a.way h;
+  under_way = there a.way h;
+  painted = λ id layer p. subst (λ o. Paints id (published w.job (layer_of w.shot) w.key layer) (with_put o w a)) (sym p.on) (record {
+    keys = set.insert p.keys w.key;
+    on = refl;
+    there = p.there;
+    now = ap (adjusted id (published w.job (layer_of w.shot) w.key)) p.now ∙ adjusted-with_content id (published w.job (layer_of w.shot) w.key) layer a.base;
+  });
+}
+  where
+    keeps : (o : Way) → is_some o ≡ true → with_put o w a ≡ record a { present = (with_put o w a).present; way = (with_put o w a).way }
+    keeps None e = cc
+    keeps (Some way) e = refl
+
+    there : (o : Way) → is_some o ≡ true → is_some (with_put o w a).way ≡ true
+    there None e = cc
+    there (Some way) e = refl
+
+-- one tile more
+pub tile_more : (job : Job) (shot : Layer) (ks : List Key) (i : ℕ) (k : Key) (a b c : Archive) → slice_get ks i ≡ Some k → PaintsOn (published_in job shot (take i ks)) a b → PaintsOn (published job shot k) b c → PaintsOn (published_in job shot (take (i + 1) ks)) a c
+tile_more job shot ks i k a b c e one two = paints_as (λ layer. published job shot k (published_in job shot (take i ks) layer)) (published_in job shot (take (i + 1) ks)) a c
+    (λ id layer p. sym (ap (λ ls. published_in job shot ls layer) (take_more ks i k e) ∙ published_in-append job shot (take i ks) (k ∷ []) layer))
+    (paints_then (published_in job shot (take i ks)) (published job shot k) a b c one two)
+
+-- one rectangle more
+pub rect_more : (job : Job) (shot : Layer) (rects : List Area) (i : ℕ) (r : Area) (a b c : Archive) → slice_get rects i ≡ Some r → PaintsOn (published_in job shot (all_keys_of (take i rects))) a b → PaintsOn (published_in job shot (keys_of r)) b c → PaintsOn (published_in job shot (all_keys_of (take (i + 1) rects))) a c
+rect_more job shot rects i r a b c e one two = paints_as (λ layer. published_in job shot (keys_of r) (published_in job shot (all_keys_of (take i rects)) layer)) (published_in job shot (all_keys_of (take (i + 1) rects))) a c
+    (λ id layer p. sym (ap (λ ks. published_in job shot ks layer) (ap all_keys_of (take_more rects i r e) ∙ all_keys-last (take i rects) r) ∙ published_in-append job shot (all_keys_of (take i rects)) (keys_of r) layer))
+    (paints_then (published_in job shot (all_keys_of (take i rects))) (published_in job shot (keys_of r)) a b c one two)
+
+-- one job more
+pub job_more : (jobs : Jobs) (i : ℕ) (j : Kind × Job) (a b c : Archive) → slice_get jobs i ≡ Some j → PaintsOn (apply_all (jobs_only (take i jobs))) a b → PaintsOn (apply j.1) b c → PaintsOn (apply_all (jobs_only (take (i + 1) jobs))) a c
+job_more jobs i j a b c e one two = paints_as (λ layer. apply j.1 (apply_all (jobs_only (take i jobs)) layer)) (apply_all (jobs_only (take (i + 1) jobs))) a c
+    (λ id layer p. sym (ap (λ js. apply_all js layer) (ap jobs_only (take_more jobs i j e) ∙ jobs_only-last (take i jobs) j) ∙ apply_all-last (jobs_only (take i jobs)) j.1 layer))
+    (paints_then (apply_all (jobs_only (take i jobs))) (apply j.1) a b c one two)
+
+-- the layer of the stroke under way
+pub seen_layer : (id : ℕ) (layer : Layer) (a : Archive) → Paints id layer a → layer_under_way a.way a.present ≡ layer
+seen_layer id layer a p = ap (λ o. layer_under_way o a.present) p.on ∙ ap (layer_in id) p.now ∙ go (content id a.base) refl p.there
+  where
+    go : (o : Option Layer) → content id a.base ≡ o → is_some o ≡ true → layer_in id (with_content id layer a.base) ≡ layer
+    go None e h = cc
+    go (Some old) e h = ap (λ o. Rattle.std.specs.Option.unwrap_or o (Rattle.doc_model.specs.Layers.plain Rattle.pixel_core.specs.Rgba.clear)) (content-with_content id layer old a.base e)
+
+-- a whole job
+pub job_done : (job : Job) (shot : Layer) (a b : Archive) → shot ≡ shot_of (reads job) (layer_under_way a.way a.present) → PaintsOn (published_in job shot (all_keys_of (writes job))) a b → PaintsOn (apply job) a b
+job_done job shot a b e on = paints_as (published_in job shot (all_keys_of (writes job))) (apply job) a b
+    (λ id layer p. ap (λ s. published_in job s (all_keys_of (writes job)) layer) (e ∙ ap (shot_of (reads job)) (seen_layer id layer a p)) ∙ published_all job layer) on
+
+-- a tile of a rectangle is one of those of all rectangles
+pub key_met : (rects : List Area) (i j : ℕ) (r : Area) (k : Key) → slice_get rects i ≡ Some r → slice_get (keys_of r) j ≡ Some k → list_any (same_key k) (all_keys_of rects) ≡ true
+key_met [] i j r k e h = cc
+key_met (a ∷ rects) zero j r k e h =
+    let same : a ≡ r = cc in
+    list_any-append (same_key k) (keys_of a) (all_keys_of rects) ∙ or_left _ _ (ap (λ b. list_any (same_key k) (keys_of b)) same ∙ found (keys_of r) j h)
+  where
+    found : (ks : List Key) (j : ℕ) → slice_get ks j ≡ Some k → list_any (same_key k) ks ≡ true
+    found [] j h = cc
+    found (l ∷ ks) zero h = let same : l ≡ k = cc in or_left _ _ (key_is k l (sym same))
+    found (l ∷ ks) (suc j) h = or_right (same_key k l) _ (found ks j h)
+key_met (a ∷ rects) (suc i) j r k e h = list_any-append (same_key k) (keys_of a) (all_keys_of rects) ∙ or_right (list_any (same_key k) (keys_of a)) _ (key_met rects i j r k e h)
+
+lies_itself : (a : Area) → lies_in a a ≡ true
+lies_itself a = both_true _ _ (at_itself a.x a.w) (at_itself a.y a.h)
+  where
+    at_itself : (x : ℤ) (n : ℕ) → (int_le x x && int_le (x +ℤ pos n) (x +ℤ pos n)) ≡ true
+    at_itself x n = grind (arith, ints)
+
+seen_more : (r : Area) (rects areas : List Area) → list_all (λ a. list_any (lies_in a) rects) areas ≡ true → list_all (λ a. list_any (lies_in a) (r ∷ rects)) areas ≡ true
+seen_more r rects [] h = refl
+seen_more r rects (a ∷ areas) h = both_true _ _ (or_right (lies_in a r) _ (and_left (list_any (lies_in a) rects) _ h)) (seen_more r rects areas (and_right (list_any (lies_in a) rects) _ h))
+
+-- rectangles lie among themselves
+pub all_seen : (rects : List Area) → list_all (λ a. list_any (lies_in a) rects) rects ≡ true
+all_seen [] = refl
+all_seen (r ∷ rects) = both_true _ _ (or_left _ _ (lies_itself r)) (seen_more r rects rects (all_seen rects))
+
+-- what was painted and put
+pub put_on : (job : Job) (shot : Sight) (k : Key) (w : Paint) (old new : Archive) → is_some old.way ≡ true → w.job ≡ job → w.shot ≡ shot → w.key ≡ k → new ≡ with_put old.way w old → PaintsOn (published job (layer_of shot) k) old new
+put_on job shot k w old new h j s e is = subst (λ a. PaintsOn (published job (layer_of shot) k) old a) (sym is)
+    (paints_as (published w.job (layer_of w.shot) w.key) (published job (layer_of shot) k) old (with_put old.way w old) (λ id layer p i. published (j i) (layer_of (s i)) (e i) layer) (put_paints w old h))

@@ -1,0 +1,304 @@
+-- What the entries of a queue mean, and what becomes of the story.
+use Rattle.std.proofs.Common.{◌≡◌, ℕ, suc, zero, ◌+◌, ◌<◌, Bool, true, false, not, Option, Some, None, is_some, List, [], ◌∷◌, ◌++◌, map, length, drop, take, cond, refl, sym, ap, ◌∙◌, subst, arith}
+use Rattle.std.specs.Prelude.{slice_get, All, Result, Ok, Err, IfOk}
+use Rattle.std.specs.List.{list_all, AllByRecursion}
+use Rattle.std.specs.FinSet as set
+use Rattle.std.specs.FinSet.{FinSet}
+use Rattle.geom_core.specs.Grid.{key_cmp}
+use Rattle.geom_core.proofs.Tests.{and_left, and_right, or_right}
+use Rattle.doc_model.specs.declared.canvas.Canvas.{Canvas}
+use Rattle.doc_model.specs.declared.command.Command.{Command}
+use Rattle.doc_model.specs.declared.command.Outcome.{Outcome}
+use Rattle.doc_model.specs.declared.command.Outcome.TheVariants as outcome
+use Rattle.doc_model.specs.Layers.{Layer}
+use Rattle.doc_model.specs.Jobs.{apply_all}
+use Rattle.doc_model.specs.Forest.{content, with_content}
+use Rattle.doc_model.specs.Changes.{there}
+use Rattle.doc_model.specs.Picture.{Doc}
+use Rattle.doc_model.specs.Laws.{IsDocument, EachDoc}
+use Rattle.doc_model.specs.Lawful.{is_closed_entry, is_open, lawful}
+use Rattle.doc_model.specs.Meaning.{Story, start, told, told_all, told_stroke, closed_stroke, laid_stroke, meaning, ends_with}
+use Rattle.doc_model.specs.Strokes as doc
+use Rattle.doc_model.specs.Strokes.{Fate, Open, Ended, Cancelled, Stroke, Jobs, conflict, entries, fed}
+use Rattle.doc_model.proofs.Limits.{meaning_keeps_limits}
+use Rattle.doc_model.proofs.SameContent.{content_has, with_same}
+use Rattle.doc_model.proofs.Weights.{tree_distinct}
+use Rattle.machine_model.specs.State.{Reach, Part}
+use Rattle.stroke_core.specs.Fed.{Closed}
+use Rattle.entry_queue.specs.declared.entry.Entry.{Entry}
+use Rattle.entry_queue.specs.declared.entry.Entry.TheVariants.{Waiting, Whole, Other}
+use Rattle.entry_queue.specs.Pushed.{Pending, StandsFor, kept_of, may_leave, queued, stroke_of}
+use Rattle.entry_queue.proofs.Taking.{Fits, kept_fit, lawful_fits}
+use Rattle.desk_steps.specs.Archives.{Archive, finished}
+use Rattle.solo_run.proofs.Fronts.{take_more}
+use Rattle.solo_run.specs.declared.solo.Solo.{Solo}
+use Rattle.solo_run.specs.Painting.{Paints, PaintsOn, jobs_only}
+use Rattle.script_text.specs.Script.{Contents}
+use Rattle.solo_run.specs.Shows.{HasSides, Shows}
+use Rattle.solo_run.specs.Told.{Ends, GoesOn, HasCome, IsReady, Rests, docs, fits, story_of}
+
+abbrev pub fate_of : Bool → Fate
+fate_of true = Cancelled
+fate_of false = Ended
+
+-- a closed stroke of the queue as one of the document's
+abbrev pub as_stroke : Closed → Stroke
+as_stroke c = record { no = c.stroke.no; layer = c.stroke.layer; exclusive = c.stroke.exclusive; jobs = c.stroke.jobs; fate = fate_of c.cancelled }
+
+same_laid : (story : Story) (s : Stroke) (o : Option Layer) (js : Jobs) (f : Fate) → s.jobs ≡ js → laid_stroke story s o ≡ laid_stroke story (record s { jobs = js; fate = f }) o
+same_laid story s None js f e = refl
+same_laid story s (Some layer) js f e = ap (λ j. laid_stroke story (record s { jobs = j; fate = f }) (Some layer)) e
+
+same_closed : (story : Story) (s : Stroke) (js : Jobs) (f : Fate) → s.fate ≡ f → is_open f ≡ false → s.jobs ≡ js → closed_stroke story s s.fate ≡ closed_stroke story (record s { jobs = js; fate = f }) f
+same_closed story s js Open e o h = cc
+same_closed story s js Ended e o h = ap (closed_stroke story s) e ∙ same_laid story s (content s.layer story.document) js Ended h
+same_closed story s js Cancelled e o h = ap (closed_stroke story s) e
+
+same_told : (story : Story) (s : Stroke) (f : Fate) (o : Option (ℕ × ℕ)) → conflict s.jobs ≡ o → s.fate ≡ f → is_open f ≡ false → told_stroke story s o ≡ told_stroke story (record s { jobs = doc.kept s.jobs; fate = f }) o
+same_told story s f (Some pair) c e n = refl
+same_told story s f None c e n = same_closed story s (doc.kept s.jobs) f e n (sym (ap (doc.up_to s.jobs) c))
+
+-- what a closed stroke means
+pub told_whole : (canvas : Canvas) (story : Story) (e : doc.Entry) (c : Closed) → queued e ≡ Whole c → told canvas story e ≡ told_stroke story (as_stroke c) c.stroke.overlap
+told_whole canvas story (doc.Strokes s) c h = go s.fate refl h
+  where
+    go : (f : Fate) → s.fate ≡ f → stroke_of f (kept_of s) ≡ Whole c → told_stroke story s (conflict s.jobs) ≡ told_stroke story (as_stroke c) c.stroke.overlap
+    go Open e h = cc
+    go Ended e h = let same : record { stroke = kept_of s; cancelled = false } ≡ c = cc in same_told story s Ended (conflict s.jobs) refl e refl ∙ ap (λ (d : Closed). told_stroke story (as_stroke d) d.stroke.overlap) same
+    go Cancelled e h = let same : record { stroke = kept_of s; cancelled = true } ≡ c = cc in same_told story s Cancelled (conflict s.jobs) refl e refl ∙ ap (λ (d : Closed). told_stroke story (as_stroke d) d.stroke.overlap) same
+told_whole canvas story (doc.Changes change) c h = cc
+told_whole canvas story doc.Undoes c h = cc
+told_whole canvas story doc.Redoes c h = cc
+told_whole canvas story (doc.Purges k) c h = cc
+told_whole canvas story doc.Exports c h = cc
+
+goes_as : (one other : Story → Story) (old new : Solo) (o : Outcome) → ((story : Story) → one story ≡ other story) → GoesOn one old new o → GoesOn other old new o
+goes_as one other old new o same g = record { rests = g.rests; canvas = g.canvas; story = λ outcomes. g.story outcomes ∙ same (story_of old outcomes) }
+
+if_goes : {E : Type 0} (one other : Story → Story) (old new : Solo) (r : Result Outcome E) → ((story : Story) → one story ≡ other story) → IfOk r (GoesOn one old new) → IfOk r (GoesOn other old new)
+if_goes one other old new (Ok o) same g = goes_as one other old new o same g
+if_goes one other old new (Err e) same g = tt
+
+-- a stroke that was laid
+pub laid_goes : {E : Type 0} (old new : Solo) (e : doc.Entry) (c : Closed) (r : Result Outcome E) → queued e ≡ Whole c → c.stroke.overlap ≡ None → c.cancelled ≡ false
+    → ((s : Stroke) → s.layer ≡ c.stroke.layer → s.jobs ≡ c.stroke.jobs → IfOk r (GoesOn (λ story. laid_stroke story s (content s.layer story.document)) old new)) → IfOk r (Ends e old new)
+laid_goes old new e c r h o k g = if_goes (λ story. laid_stroke story (as_stroke c) (content c.stroke.layer story.document)) (λ story. told old.canvas story e) old new r
+    (λ story. sym (told_whole old.canvas story e c h ∙ ap (told_stroke story (as_stroke c)) o ∙ ap (λ b. closed_stroke story (record (as_stroke c) { fate = fate_of b }) (fate_of b)) k))
+    (g (as_stroke c) refl refl)
+
+absent : (id : ℕ) (doc : Doc) → there id doc ≡ false → content id doc ≡ None
+absent id doc h = go (content id doc) refl
+  where
+    go : (o : Option Layer) → content id doc ≡ o → o ≡ None
+    go None e = refl
+    go (Some x) e = let t : there id doc ≡ true = or_right _ _ (content_has id x doc e) in cc
+
+-- room was taken, and nothing but an outcome was added
+roomy : (s : Solo) (a : Archive) → a ≡ record s.store { room = true } → (next : Story → Story) (o : Outcome) → Rests s → ((outcomes : List Outcome) → next (story_of s outcomes) ≡ ends_with (story_of s outcomes) o) → GoesOn next s (record s { store = a }) o
+roomy s a is next o r e = subst (λ b. GoesOn next s (record s { store = b }) o) (sym is) (record {
+  rests = record { canvas = r.canvas; no_way = r.no_way; present = r.present; sides = r.sides };
+  canvas = refl;
+  story = λ outcomes. sym (e outcomes);
+})
+
+-- a stroke whose layer isn't there
+pub no_layer_goes : (s : Solo) (a : Archive) (layer : ℕ) (stroke : Stroke) → Rests s → a ≡ record s.store { room = true } → there layer a.present ≡ false → stroke.layer ≡ layer → GoesOn (λ story. laid_stroke story stroke (content stroke.layer story.document)) s (record s { store = a }) (outcome.NoLayer layer)
+no_layer_goes s a layer stroke r is t same = roomy s a is (λ story. laid_stroke story stroke (content stroke.layer story.document)) (outcome.NoLayer layer) r (λ outcomes.
+    ap (laid_stroke (story_of s outcomes) stroke) none ∙ ap (λ b. ends_with (story_of s outcomes) (cond b (outcome.NotPaint stroke.layer) (outcome.NoLayer stroke.layer))) not_there ∙ ap (λ n. ends_with (story_of s outcomes) (outcome.NoLayer n)) same)
+  where
+    not_there : there stroke.layer s.store.base ≡ false
+    not_there = ap (λ n. there n s.store.base) same ∙ ap (there layer) (sym (ap (λ (b : Archive). b.present) is ∙ r.present)) ∙ t
+
+    none : content stroke.layer s.store.base ≡ None
+    none = absent stroke.layer s.store.base not_there
+
+-- the store after a stroke, by what it painted
+abbrev after : Archive → ℕ → FinSet key_cmp → Doc → Archive
+after a id keys new = record { past = (a.base, Part id keys) ∷ a.past; base = new; present = new; future = []; way = None; room = false }
+
+-- a stroke that was painted
+pub painted_goes : (s : Solo) (begun done new : Archive) (layer : ℕ) (jobs : Jobs) (stroke : Stroke) → Rests s → IsDocument s.store.base
+    → is_some (content layer s.store.present) ≡ true → begun ≡ record s.store { room = true; way = Some (layer, set.empty) } → PaintsOn (apply_all (jobs_only jobs)) begun done → new ≡ finished done.way done → stroke.layer ≡ layer → stroke.jobs ≡ jobs
+    → GoesOn (λ story. laid_stroke story stroke (content stroke.layer story.document)) s (record s { store = new }) outcome.Done
+painted_goes s begun done new layer jobs stroke r document h b on n sl sj = go (content layer s.store.base) refl (ap (λ d. is_some (content layer d)) (sym r.present) ∙ h)
+  where
+    a : Archive
+    a = s.store
+
+    go : (o : Option Layer) → content layer s.store.base ≡ o → is_some o ≡ true → GoesOn (λ story. laid_stroke story stroke (content stroke.layer story.document)) s (record s { store = new }) outcome.Done
+    go None e k = cc
+    go (Some x) e k = subst (λ st. GoesOn (λ story. laid_stroke story stroke (content stroke.layer story.document)) s (record s { store = st }) outcome.Done) (sym is) (record {
+      rests = record { canvas = r.canvas; no_way = refl; present = refl; sides = r.sides };
+      canvas = refl;
+      story = λ outcomes. sym (ap (laid_stroke (story_of s outcomes) stroke) ((λ i. content (sl i) s.store.base) ∙ e) ∙ (λ i. laid_stroke (story_of s outcomes) (record stroke { layer = sl i; jobs = sj i }) (Some x)));
+    })
+      where
+        begins : Paints layer x begun
+        begins = subst (Paints layer x) (sym b) (record { keys = set.empty; on = refl; there = ap is_some e; now = r.present ∙ sym (with_same layer x s.store.base (tree_distinct s.store.base document.tree) e) })
+
+        paints : Paints layer (apply_all (jobs_only jobs) x) done
+        paints = on.painted layer x begins
+
+        base : done.base ≡ s.store.base
+        base = ap (λ (q : Archive). q.base) on.keeps ∙ ap (λ (q : Archive). q.base) b
+
+        past : done.past ≡ s.store.past
+        past = ap (λ (q : Archive). q.past) on.keeps ∙ ap (λ (q : Archive). q.past) b
+
+        doc_is : done.present ≡ with_content layer (apply_all (jobs_only jobs) x) s.store.base
+        doc_is = paints.now ∙ ap (with_content layer (apply_all (jobs_only jobs) x)) base
+
+        is : new ≡ after s.store layer paints.keys (with_content layer (apply_all (jobs_only jobs) x) s.store.base)
+        is = n ∙ ap (λ o. finished o done) paints.on ∙ (λ i. record { past = (base i, Part layer paints.keys) ∷ past i; base = doc_is i; present = doc_is i; future = []; way = None; room = false })
+
+docs_take : (n : ℕ) (history : List (Doc × Reach)) → docs (take n history) ≡ take n (docs history)
+docs_take zero history = refl
+docs_take (suc n) [] = refl
+docs_take (suc n) (e ∷ history) = ap (λ ds. e.0 ∷ ds) (docs_take n history)
+
+-- a purge
+pub purge_goes : (s : Solo) (keep : ℕ) (new : Archive) → Rests s → new ≡ record s.store { past = take keep s.store.past } → Ends (doc.Purges keep) s (record s { store = new }) outcome.Done
+purge_goes s keep new r e = subst (λ a. Ends (doc.Purges keep) s (record s { store = a }) outcome.Done) (sym e) (record {
+  rests = record { canvas = r.canvas; no_way = r.no_way; present = r.present; sides = r.sides };
+  canvas = refl;
+  story = λ outcomes i. record (story_of s (outcomes ++ outcome.Done ∷ [])) { past = docs_take keep s.store.past i };
+})
+
+told_all-last : (canvas : Canvas) (s : Story) (es : List doc.Entry) (e : doc.Entry) → told_all canvas s (es ++ e ∷ []) ≡ told canvas (told_all canvas s es) e
+told_all-last canvas s [] e = refl
+told_all-last canvas s (x ∷ es) e = told_all-last canvas (told canvas s x) es e
+
+-- the first entry that is left, as the document has it
+pub record IsNext (es : List doc.Entry) (n : ℕ) (x : Entry) : Type 0 where
+  pub entry : doc.Entry
+  pub at : slice_get es n ≡ Some entry
+  pub is : queued entry ≡ x
+
+pub next_left : (es : List doc.Entry) (n : ℕ) (x : Entry) → slice_get (map queued (drop n es)) 0 ≡ Some x → IsNext es n x
+next_left [] zero x h = cc
+next_left (e ∷ es) zero x h = record { entry = e; at = refl; is = (let same : queued e ≡ x = cc in same) }
+next_left [] (suc n) x h = cc
+next_left (e ∷ es) (suc n) x h = let more : IsNext es n x = next_left es n x h in record { entry = more.entry; at = more.at; is = more.is }
+
+closed_at : (es : List doc.Entry) (n : ℕ) (e : doc.Entry) → slice_get es n ≡ Some e → list_all is_closed_entry es ≡ true → is_closed_entry e ≡ true
+closed_at [] n e h all = cc
+closed_at (x ∷ es) zero e h all = let same : x ≡ e = cc in ap is_closed_entry (sym same) ∙ and_left (is_closed_entry x) _ all
+closed_at (x ∷ es) (suc n) e h all = closed_at es n e h (and_right (is_closed_entry x) _ all)
+
+fits_at : (es : List doc.Entry) (n : ℕ) (e : doc.Entry) → slice_get es n ≡ Some e → AllByRecursion Fits es → Fits e
+fits_at [] n e h all = cc
+fits_at (x ∷ es) zero e h all = let same : x ≡ e = cc in subst Fits same all.0
+fits_at (x ∷ es) (suc n) e h all = fits_at es n e h all.1
+
+queued_fits : (e : doc.Entry) → Fits e → fits (queued e) ≡ true
+queued_fits (doc.Strokes s) h = go s.fate
+  where
+    go : (f : Fate) → fits (stroke_of f (kept_of s)) ≡ true
+    go Open = kept_fit s.jobs h
+    go Ended = kept_fit s.jobs h
+    go Cancelled = kept_fit s.jobs h
+queued_fits (doc.Changes c) h = refl
+queued_fits doc.Undoes h = refl
+queued_fits doc.Redoes h = refl
+queued_fits (doc.Purges k) h = refl
+queued_fits doc.Exports h = refl
+
+next_entry : (commands : List Command) (s : Solo) (q : Pending) (x : Entry) → HasCome commands s q → Some x ≡ slice_get q.left 0 → IsNext (entries commands) (length q.outcomes) x
+next_entry commands s q x h e = next_left (entries commands) (length q.outcomes) x (ap (λ left. slice_get left 0) (sym h.queue.left_is) ∙ sym e)
+
+-- the first entry is ready
+pub next_ready : (commands : List Command) (s : Solo) (q : Pending) (x : Entry) → lawful commands ≡ true → list_all is_closed_entry (entries commands) ≡ true → HasCome commands s q → Some x ≡ slice_get q.left 0 → IsReady x
+next_ready commands s q x l all h e =
+    let next : IsNext (entries commands) (length q.outcomes) x = next_entry commands s q x h e in
+    record {
+      entry = next.entry;
+      is = next.is;
+      closed = closed_at (entries commands) (length q.outcomes) next.entry next.at all;
+      fit = ap fits (sym next.is) ∙ queued_fits next.entry (fits_at (entries commands) (length q.outcomes) next.entry next.at (lawful_fits commands l));
+    }
+
+-- and may leave
+pub ready_leaves : (q : Pending) (x : Entry) → Some x ≡ slice_get q.left 0 → IsReady x → may_leave q.left ≡ true
+ready_leaves q x e r = go q.left e (leaves r.entry r.closed r.is)
+  where
+    leaves : (d : doc.Entry) → is_closed_entry d ≡ true → queued d ≡ x → may_leave (x ∷ []) ≡ true
+    leaves (doc.Strokes s) c is = closed s.fate c is
+      where
+        closed : (f : Fate) → not (is_open f) ≡ true → stroke_of f (kept_of s) ≡ x → may_leave (x ∷ []) ≡ true
+        closed Open c is = cc
+        closed Ended c is = ap (λ y. may_leave (y ∷ [])) (sym is)
+        closed Cancelled c is = ap (λ y. may_leave (y ∷ [])) (sym is)
+    leaves (doc.Changes change) c is = ap (λ y. may_leave (y ∷ [])) (sym is)
+    leaves doc.Undoes c is = ap (λ y. may_leave (y ∷ [])) (sym is)
+    leaves doc.Redoes c is = ap (λ y. may_leave (y ∷ [])) (sym is)
+    leaves (doc.Purges k) c is = ap (λ y. may_leave (y ∷ [])) (sym is)
+    leaves doc.Exports c is = ap (λ y. may_leave (y ∷ [])) (sym is)
+
+    alone : (y : Entry) (left : List Entry) → may_leave (y ∷ left) ≡ may_leave (y ∷ [])
+    alone (Waiting s) left = refl
+    alone (Whole c) left = refl
+    alone (Other c) left = refl
+
+    go : (left : List Entry) → Some x ≡ slice_get left 0 → may_leave (x ∷ []) ≡ true → may_leave left ≡ true
+    go [] e m = cc
+    go (y ∷ left) e m = let same : x ≡ y = cc in alone y left ∙ ap (λ z. may_leave (z ∷ [])) (sym same) ∙ m
+
+-- the document between entries is within the limits
+pub document_right : (commands : List Command) (s : Solo) (q : Pending) → HasCome commands s q → IsDocument s.store.base
+document_right commands s q h =
+    let each : EachDoc (IsDocument {A = Layer}) (meaning s.canvas (take (length q.outcomes) (entries commands))) = meaning_keeps_limits s.canvas (take (length q.outcomes) (entries commands)) in
+    subst (λ (t : Story). IsDocument t.document) (sym h.story) each.document
+
+length_last : {A : Type 0} (xs : List A) (x : A) → length (xs ++ x ∷ []) ≡ length xs + 1
+length_last [] x = refl
+length_last (y ∷ xs) x = let h : length (xs ++ x ∷ []) ≡ length xs + 1 = length_last xs x in omega arith
+
+-- one entry more
+pub come_further : (commands : List Command) (old new : Solo) (q r : Pending) (x : Entry) (o : Outcome) → HasCome commands old q → Some x ≡ slice_get q.left 0
+    → ((e : doc.Entry) → queued e ≡ x → Ends e old new o) → r.outcomes ≡ q.outcomes ++ o ∷ [] → StandsFor commands r → HasCome commands new r
+come_further commands old new q r x o h e ends outcomes stands =
+    let next : IsNext (entries commands) (length q.outcomes) x = next_entry commands old q x h e in
+    let on : Ends next.entry old new o = ends next.entry next.is in
+    record {
+      rests = on.rests;
+      queue = stands;
+      story =
+          ap (story_of new) outcomes
+          ∙ on.story q.outcomes
+          ∙ ap (λ t. told old.canvas t next.entry) h.story
+          ∙ sym (told_all-last old.canvas start (take (length q.outcomes) (entries commands)) next.entry)
+          ∙ ap (told_all old.canvas start) (sym (take_more (entries commands) (length q.outcomes) next.entry next.at) ∙ ap (λ n. take n (entries commands)) (sym (ap length outcomes ∙ length_last q.outcomes o)))
+          ∙ ap (λ c. meaning c (take (length r.outcomes) (entries commands))) (sym on.canvas);
+    }
+
+none_left_over : (n : ℕ) (es : List doc.Entry) → map queued (drop n es) ≡ [] → take n es ≡ es
+none_left_over zero [] h = refl
+none_left_over zero (e ∷ es) h = cc
+none_left_over (suc n) [] h = refl
+none_left_over (suc n) (e ∷ es) h = ap (λ ds. e ∷ ds) (none_left_over n es h)
+
+-- all entries
+pub come_all : (commands : List Command) (s : Solo) (q : Pending) → HasCome commands s q → q.left ≡ [] → story_of s q.outcomes ≡ meaning s.canvas (entries commands)
+come_all commands s q h e = h.story ∙ ap (meaning s.canvas) (none_left_over (length q.outcomes) (entries commands) (sym h.queue.left_is ∙ e))
+
+-- no entry yet
+pub come_none : (fed commands : List Command) (s : Solo) (q : Pending) → fed ≡ commands → Rests s → StandsFor fed q → q.outcomes ≡ [] → story_of s [] ≡ start → HasCome commands s q
+come_none fed commands s q same r stands none begins = record {
+  rests = r;
+  queue = subst (λ cs. StandsFor cs q) same stands;
+  story = ap (story_of s) none ∙ begins ∙ sym (ap (λ os. meaning s.canvas (take (length os) (entries commands))) none);
+}
+
+-- the frames and the outcomes after all entries
+pub come_shows : (script : Contents) (s : Solo) (q : Pending) → HasCome script.commands s q → s.canvas ≡ script.canvas → q.left ≡ [] → Shows script s.frames.items q.outcomes
+come_shows script s q h c e =
+    let told : story_of s q.outcomes ≡ meaning script.canvas (entries script.commands) = come_all script.commands s q h e ∙ ap (λ d. meaning d (entries script.commands)) c in
+    record {
+      sides = subst (λ d. All (HasSides d) s.frames.items) c h.rests.sides;
+      colours = ap (λ (t : Story). t.frames) told;
+      outcomes_are = ap (λ (t : Story). t.outcomes) told;
+    }
+
+pub shorter : (left new : List Entry) → may_leave left ≡ true → new ≡ drop 1 left → length new < length left
+shorter [] new m e = cc
+shorter (x ∷ left) new m e = let same : length new ≡ length left = ap length e in omega arith

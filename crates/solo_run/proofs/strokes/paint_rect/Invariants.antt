@@ -1,0 +1,8 @@
+use Rattle.std.proofs.Common.{take}
+use Rattle.geom_core.specs.Grid.{keys_of}
+use Rattle.job_core.specs.Paints.{layer_of}
+use Rattle.solo_run.specs.Painting.{PaintsOn, published_in}
+use Rattle.solo_run.proofs.strokes.paint_rect.Given as goal
+
+abbrev pub invariant-loop-i : goal.invariant-loop-i
+invariant-loop-i l = PaintsOn (published_in l.job (layer_of l.shot) (take l.i (keys_of l.rect))) l.initial.store l.store

@@ -1,0 +1,77 @@
+-- What is told of a document that is painted entry by entry.
+use Rattle.std.specs.Prelude.{◌≡◌, true, Bool, None, List, [], ◌∷◌, ◌++◌, map, take, length, All}
+use Rattle.doc_model.specs.declared.command.Command.{Command}
+use Rattle.doc_model.specs.declared.command.Outcome.{Outcome}
+use Rattle.doc_model.specs.declared.command.Outcome.TheVariants.{Done}
+use Rattle.doc_model.specs.Canvases.{IsOfLimits}
+use Rattle.doc_model.specs.Picture.{Doc}
+use Rattle.doc_model.specs.Strokes as doc
+use Rattle.doc_model.specs.Strokes.{entries}
+use Rattle.doc_model.specs.Lawful.{is_closed_entry}
+use Rattle.doc_model.specs.Meaning.{Story, told, meaning}
+use Rattle.machine_model.specs.State.{Reach}
+use Rattle.ppm_out.specs.Pictures.{colours_of}
+use Rattle.entry_queue.specs.declared.entry.Entry.{Entry}
+use Rattle.entry_queue.specs.declared.entry.Entry.TheVariants.{Waiting, Whole, Other}
+use Rattle.entry_queue.specs.Pushed.{Pending, StandsFor, queued}
+use Rattle.solo_run.specs.declared.solo.Solo.{Solo}
+use Rattle.doc_model.specs.Lawful.{within_limits}
+use Rattle.doc_model.specs.declared.job.Job.{Job}
+use Rattle.doc_model.specs.declared.job.Kind.{Kind}
+use Rattle.std.specs.List.{list_all}
+use Rattle.solo_run.specs.Shows.{HasSides}
+
+-- the documents without the reaches between them
+abbrev pub docs : List (Doc × Reach) → List Doc
+docs history = map (λ (e : Doc × Reach). e.0) history
+
+-- the story that a document, its frames and these outcomes tell
+abbrev pub story_of : Solo → List Outcome → Story
+story_of s outcomes = record {
+  past = docs s.store.past;
+  document = s.store.base;
+  future = docs s.store.future;
+  frames = map colours_of s.frames.items;
+  outcomes = outcomes;
+}
+
+-- no stroke is under way, and the frames have the canvas's sides
+pub record Rests (s : Solo) : Type 0 where
+  pub canvas : IsOfLimits s.canvas
+  pub no_way : s.store.way ≡ None
+  pub present : s.store.present ≡ s.store.base
+  pub sides : All (HasSides s.canvas) s.frames.items
+
+-- an entry ended with that outcome, and the story went on as told
+pub record GoesOn (next : Story → Story) (old new : Solo) (o : Outcome) : Type 0 where
+  pub rests : Rests new
+  pub canvas : new.canvas ≡ old.canvas
+  pub story : (outcomes : List Outcome) → story_of new (outcomes ++ o ∷ []) ≡ next (story_of old outcomes)
+
+-- it went on as the entry means
+abbrev pub Ends : doc.Entry → Solo → Solo → Outcome → Type 0
+Ends e old new o = GoesOn (λ s. told old.canvas s e) old new o
+
+-- whether the jobs of an entry are within the limits
+abbrev pub fits : Entry → Bool
+fits (Waiting s) = list_all (λ (j : Kind × Job). within_limits j.1) s.jobs
+fits (Whole c) = list_all (λ (j : Kind × Job). within_limits j.1) c.stroke.jobs
+fits (Other c) = true
+
+-- the entry of the queue is a closed one of a script, with jobs within the limits
+pub record IsReady (x : Entry) : Type 0 where
+  pub entry : doc.Entry
+  pub is : queued entry ≡ x
+  pub closed : is_closed_entry entry ≡ true
+  pub fit : fits x ≡ true
+
+-- nothing or the one, by whether there is something to take back
+abbrev pub done_or : {A : Type 0} → Outcome → List A → Outcome
+done_or o [] = o
+done_or o (x ∷ xs) = Done
+
+-- the entries with an outcome were carried out one after another from an empty document, and the others wait in the queue
+pub record HasCome (commands : List Command) (s : Solo) (q : Pending) : Type 0 where
+  pub rests : Rests s
+  pub queue : StandsFor commands q
+  pub story : story_of s q.outcomes ≡ meaning s.canvas (take (length q.outcomes) (entries commands))
