@@ -1,1 +1,4 @@
-
+pub mod Summing
+pub mod SoFar
+pub mod ColumnSums
+pub mod Squares

@@ -1,1 +1,3 @@
-pub mod Blurs
+pub mod Sums
+pub mod Rows
+pub mod Blur

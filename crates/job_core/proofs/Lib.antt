@@ -1,1 +1,10 @@
-
+pub mod Values
+pub mod InkedRows
+pub mod Hiding
+pub mod FillValues
+pub mod RowLaws
+pub mod DabRows
+pub mod DabValues
+pub mod MoveValues
+pub mod BlurValues
+pub mod FirstTiles

@@ -1,6 +1,17 @@
 //! Painting a tile of a job.
 #![tactic(auto)]
 
+mod blocks;
+mod blurs;
+mod dabs;
+mod fills;
+mod ink;
+mod moves;
 mod painted;
+mod part;
+mod rows;
 
 pub use painted::{Painted, paint_tile};
+
+#[cfg(test)]
+mod tests;

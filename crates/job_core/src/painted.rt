@@ -1,21 +1,25 @@
 //! What a job leaves in one tile.
 
-ghost use Rattle.std.specs.Prelude.{◌≡◌, true, IfOk, IfSome, IfNone, slice_get, length, ◌<◌, option_copied, Some};
+ghost use Rattle.std.specs.Prelude.{◌≡◌, true, IfOk, IfSome, IfNone, slice_get, length, ◌<◌, Some, ◌∷◌, option_to_list};
 ghost use Rattle.std.specs.List.{list_any, list_all};
 ghost use Rattle.geom_core.specs.Grid.{same_key, all_keys_of};
 ghost use Rattle.geom_core.specs.Areas.{lies_in};
 ghost use Rattle.doc_model.specs.Jobs.{reads, writes};
 ghost use Rattle.doc_model.specs.Lawful.{checks, within_limits};
-ghost use Rattle.job_core.specs.Paints.{IsPainted};
+ghost use Rattle.job_core.specs.Paints.{paint, IsPainted};
+ghost use Rattle.job_core.specs.Due.{IsDue};
 
+use crate::blocks::{Blocks, alone};
+use crate::blurs::blurred;
+use crate::dabs::{Brush, dabbed};
+use crate::fills::filled;
+use crate::ink::Ink;
+use crate::moves::moved;
 use doc_model::Job;
-use geom_core::{NoMemory, TileKey};
+use geom_core::{NoMemory, Rect, TileKey};
 use std::alloc::Global;
 use std::marker::Model;
 use tile_core::{Block, Shot};
-
-#[derive(Clone, Copy)]
-enum Never {}
 
 /// The blocks that a job leaves in one tile. They cover the points of the job's writes in the tile,
 /// and no others, and hold what the job makes of the shot.
@@ -26,7 +30,6 @@ pub struct Painted<'a> {
     key: TileKey,
     first: Block,
     second: Option<Block>,
-    never: Never,
 }
 
 impl<'a> Model for Painted<'a> {
@@ -62,14 +65,17 @@ impl<'a> Painted<'a> {
         ensures value { result ≡ self.now.key }
         ensures known { IsPainted self.now }
     {
-        match self.never {}
+        self.key
     }
 
     /// How many blocks there are: one or two.
     pub fn block_count(&self) -> usize
         ensures { result ≡ length self.now.blocks }
     {
-        match self.never {}
+        match self.second {
+            None => 1,
+            Some(_) => 2,
+        }
     }
 
     /// The block with that index, which counts from 0.
@@ -77,7 +83,10 @@ impl<'a> Painted<'a> {
         requires { i < length self.now.blocks }
         ensures { Some result.now ≡ slice_get self.now.blocks i }
     {
-        match self.never {}
+        match &self.second {
+            Some(second) if i == 1 => second,
+            _ => &self.first,
+        }
     }
 }
 
@@ -96,5 +105,67 @@ pub fn paint_tile<'a>(
     ensures shot { IfOk result (λ w. w.shot ≡ shot.now) }
     ensures key { IfOk result (λ w. w.key ≡ key) }
 {
-    Err(NoMemory)
+    let Blocks { first, second } = blocks_of(alloc, job, shot, key)?;
+    Ok(Painted {
+        job,
+        shot,
+        key,
+        first,
+        second,
+    })
+}
+
+/// The blocks that the job leaves in the key's tile.
+fn blocks_of(alloc: Global, job: &Job, shot: &Shot, key: TileKey) -> Result<Blocks, NoMemory>
+    requires { IsDue job.now shot.now key }
+    ensures { IfOk result (λ bs. IsPainted (paint job.now shot.now key (bs.first ∷ option_to_list bs.second))) }
+{
+    match *job {
+        Job::Fill {
+            rect,
+            colour,
+            op,
+            strength,
+        } => {
+            let ink = Ink {
+                colour,
+                op,
+                strength,
+            };
+            let block = filled(alloc, shot, key, &rect, &ink)?;
+            Ok(alone(block))
+        }
+        Job::Dab {
+            x,
+            y,
+            r,
+            soft,
+            colour,
+            op,
+            strength,
+        } => {
+            let brush = Brush { x, y, r, soft };
+            let ink = Ink {
+                colour,
+                op,
+                strength,
+            };
+            let block = dabbed(alloc, shot, key, &written(job, 0), &brush, &ink)?;
+            Ok(alone(block))
+        }
+        Job::Move { rect, dx, dy } => moved(alloc, shot, key, &rect, &written(job, 1), dx, dy),
+        Job::Blur { rect, r } => {
+            let block = blurred(alloc, shot, key, &rect, r)?;
+            Ok(alone(block))
+        }
+    }
+}
+
+/// The rectangle with that index, from 0, of those that the job may change.
+fn written(job: &Job, i: usize) -> Rect
+    requires checked { checks job.now ≡ true }
+    requires there { i < length (writes job.now) }
+    ensures { slice_get (writes job.now) i ≡ Some result }
+{
+    job.writes()[i]
 }

@@ -1,0 +1,89 @@
+-- What a dab leaves.
+use Rattle.std.proofs.Common.{◌≡◌, ℕ, ◌+◌, ◌*◌, ◌<◌, ◌≤◌, Bool, true, ◌&&◌, List, [], ◌∷◌, length, get_or, refl, sym, ap, ◌∙◌, subst, arith}
+use Rattle.std.specs.Prelude.{ℤ, pos, ◌+ℤ◌, ◌-ℤ◌, ◌≤ℤ◌, int_le, int_lt, nat_abs}
+use borrow.Author.Differences.{ints}
+use Rattle.pixel_core.specs.declared.blending.Op.{Op}
+use Rattle.pixel_core.specs.Rgba.{Rgba, clear}
+use Rattle.pixel_core.specs.Bytes.{mul}
+use Rattle.pixel_core.specs.Compose.{compose}
+use Rattle.brush_mask.specs.Mask.{mask}
+use Rattle.geom_core.specs.Points.{Point}
+use Rattle.geom_core.specs.Areas.{Area, holds, right, bottom, lies_in, meets, place_in, world, IsWithin, IsShared}
+use Rattle.geom_core.specs.Grid.{Key, tile, IsWorldKey}
+use Rattle.geom_core.proofs.Tests.{and_left, and_right}
+use Rattle.tile_core.specs.Blocks.{Piece}
+use Rattle.tile_core.specs.Shots.{Sight, sight_at}
+use Rattle.tile_core.specs.Pixels.{HasPixels}
+use Rattle.doc_model.specs.declared.job.Job.TheVariants.{Dab}
+use Rattle.doc_model.specs.Jobs.{square}
+use Rattle.job_core.specs.declared.ink.Ink.{Ink}
+use Rattle.job_core.specs.declared.dabs.Brush.{Brush}
+use Rattle.job_core.specs.Paints.{paint, IsPainted}
+use Rattle.job_core.specs.Due.{IsDue}
+use Rattle.job_core.specs.Dabs.{brushed, DabsRows}
+use Rattle.job_core.specs.Made.{IsBlock, dabbed}
+use Rattle.job_core.proofs.Values.{one_met, world_key, seen_at, painted_once}
+
+-- a point of a rectangle by its column or row
+record Steps (a x b d : ℤ) (n : ℕ) : Type 0 where
+  small : nat_abs (x -ℤ a) < n
+  at : (d +ℤ pos (nat_abs (x -ℤ a))) ≡ (x -ℤ b)
+
+steps : (a x b d : ℤ) (n : ℕ) → d ≡ (a -ℤ b) → (int_le a x && int_lt x (a +ℤ pos n)) ≡ true → Steps a x b d n
+steps a x b d n e h = record { small = small a x n h; at = at a x b d n e h }
+  where
+    small : (a x : ℤ) (n : ℕ) → (int_le a x && int_lt x (a +ℤ pos n)) ≡ true → nat_abs (x -ℤ a) < n
+    small a x n h = grind (arith, ints)
+
+    back : (a x : ℤ) (n : ℕ) → (int_le a x && int_lt x (a +ℤ pos n)) ≡ true → pos (nat_abs (x -ℤ a)) ≡ (x -ℤ a)
+    back a x n h = grind (arith, ints)
+
+    sum : (a x b d y : ℤ) → d ≡ (a -ℤ b) → y ≡ (x -ℤ a) → (d +ℤ y) ≡ (x -ℤ b)
+    sum a x b d y e f = omega (arith, ints)
+
+    at : (a x b d : ℤ) (n : ℕ) → d ≡ (a -ℤ b) → (int_le a x && int_lt x (a +ℤ pos n)) ≡ true → (d +ℤ pos (nat_abs (x -ℤ a))) ≡ (x -ℤ b)
+    at a x b d n e h = sum a x b d (pos (nat_abs (x -ℤ a))) e (back a x n h)
+
+-- rows of a dab are its pixels on a rectangle
+pub dabbed_pixels : (brush : Brush) (ink : Ink) (a : Area) (s : Sight) (dx dy : ℤ) (w h : ℕ) (old old' new : List Rgba) → old ≡ old' → w ≡ a.w → h ≡ a.h → dx ≡ (a.x -ℤ brush.x) → dy ≡ (a.y -ℤ brush.y)
+    → HasPixels a (sight_at s) old' → DabsRows brush ink dx dy w h old new → HasPixels a (dabbed s brush ink) new
+dabbed_pixels brush ink a s dx dy w h old old' new eo ew eh ex ey has laid p held =
+    let i : Steps a.x p.x brush.x dx a.w = steps a.x p.x brush.x dx a.w ex (and_left _ _ held) in
+    let j : Steps a.y p.y brush.y dy a.h = steps a.y p.y brush.y dy a.h ey (and_right _ _ held) in
+    let rows : DabsRows brush ink dx dy a.w a.h old new = rw (← ew, ← eh) laid in
+    rows (nat_abs (p.x -ℤ a.x)) (nat_abs (p.y -ℤ a.y)) i.small j.small
+    ∙ (λ k. brushed brush ink (i.at k) (j.at k) ((ap (λ ps. get_or ps (place_in a p) clear) eo ∙ has p held) k))
+
+square_some : (x y : ℤ) (r : ℕ) → (1 ≤ (square x y r).w) × (1 ≤ (square x y r).h)
+square_some x y r = (some r, some r)
+  where
+    some : (r : ℕ) → 1 ≤ 2 * r + 1
+    some r = omega arith
+
+low : (b x : ℤ) → int_le b x ≡ true → b ≤ℤ x
+low b x h = grind (arith, ints)
+
+pub lying : (a b : Area) → lies_in a b ≡ true → IsWithin a b
+lying a b h =
+    let down = and_right (int_le b.x a.x && int_le (right a) (right b)) _ h in
+    record {
+      left = low _ _ (and_left _ _ (and_left _ _ h));
+      right = low _ _ (and_right (int_le b.x a.x) _ (and_left _ _ h));
+      top = low _ _ (and_left _ _ down);
+      bottom = low _ _ (and_right (int_le b.y a.y) _ down);
+    }
+
+module _ (x y : ℤ) (r : ℕ) (soft : Bool) (colour : Rgba) (op : Op) (m : ℕ) (s : Sight) (key : Key) where
+  pub dab_met : (a : Area) → a ≡ square x y r → IsDue (Dab x y r soft colour op m) s key → meets a (tile key) ≡ true
+  dab_met a e due = ap (λ (b : Area). meets b (tile key)) e ∙ one_met (square x y r) key (square_some x y r) due.met
+
+  pub dab_key : IsDue (Dab x y r soft colour op m) s key → IsWorldKey key
+  dab_key due = world_key (square x y r) key (and_left _ _ due.checked) (dab_met (square x y r) refl due)
+
+  pub dab_in_world : IsDue (Dab x y r soft colour op m) s key → IsWithin (square x y r) world
+  dab_in_world due = lying (square x y r) world (and_left _ _ due.checked)
+
+  pub dab_painted : (a part : Area) (b : Piece) → a ≡ square x y r → IsDue (Dab x y r soft colour op m) s key → IsShared a (tile key) part
+      → IsBlock key part (λ p. compose op colour (sight_at s p) (mul (mask r soft (p.x -ℤ x) (p.y -ℤ y)) m)) b → IsPainted (paint (Dab x y r soft colour op m) s key (b ∷ []))
+  dab_painted a part b e due shared is = painted_once (Dab x y r soft colour op m) s key (square x y r) part _ b refl (dab_key due) (subst (λ (c : Area). IsShared c (tile key) part) e shared) is
+      (λ p h. ap (λ q. compose op colour q (mul (mask r soft (p.x -ℤ x) (p.y -ℤ y)) m)) (sym (seen_at s (square x y r) p (and_left _ _ due.seen) h)))

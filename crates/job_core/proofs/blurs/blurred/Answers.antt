@@ -1,0 +1,17 @@
+use Rattle.job_core.proofs.BlurValues.{blur_met, blur_key, blur_around, blur_result}
+use Rattle.job_core.proofs.blurs.blurred.Goals as goal
+
+pub part_in-part-requires-clause-key : goal.part_in-part-requires-clause-key
+part_in-part-requires-clause-key c = blur_key _ _ _ _ c.requires
+
+pub part_in-part-requires-clause-met : goal.part_in-part-requires-clause-met
+part_in-part-requires-clause-met c = blur_met _ _ _ _ c.requires
+
+pub blur_block-requires-clause-key : goal.blur_block-requires-clause-key
+blur_block-requires-clause-key c = blur_key _ _ _ _ c.requires
+
+pub blur_block-requires-clause-in_world : goal.blur_block-requires-clause-in_world
+blur_block-requires-clause-in_world c = blur_around _ _ _ _ c.part_in-part.result c.part_in-part.ensures.in_a c.requires
+
+pub returns : goal.returns
+returns c = blur_result _ _ _ _ c.part_in-part.result c.blur_block.result c.requires c.part_in-part.ensures c.blur_block.ensures.key c.blur_block.ensures.rect c.blur_block.ensures.pixels

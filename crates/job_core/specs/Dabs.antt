@@ -1,0 +1,19 @@
+-- Rows of a dab.
+use Rattle.std.specs.Prelude.{◌≡◌, ℕ, ◌+◌, ◌*◌, ◌<◌, ℤ, pos, ◌+ℤ◌, List, length, slice_index_or}
+use Rattle.pixel_core.specs.Rgba.{Rgba, clear}
+use Rattle.pixel_core.specs.Compose.{compose}
+use Rattle.job_core.specs.declared.ink.Ink.{Ink}
+use Rattle.job_core.specs.declared.dabs.Brush.{Brush}
+use Rattle.job_core.specs.Made.{strength_at}
+
+-- the ink on a pixel, with the dab's strength at a distance from the centre
+abbrev pub brushed : Brush → Ink → ℤ → ℤ → Rgba → Rgba
+brushed brush ink dx dy d = compose ink.op ink.colour d (strength_at brush ink dx dy)
+
+-- the dab lies on each pixel of a row, of which the first is (dx, dy) from the centre
+abbrev pub DabsRow : Brush → Ink → ℤ → ℤ → List Rgba → List Rgba → Type 0
+DabsRow brush ink dx dy old new = (k : ℕ) → k < length old → slice_index_or new k clear ≡ brushed brush ink (dx +ℤ pos k) dy (slice_index_or old k clear)
+
+-- the dab lies on each pixel of the first rows, which have w columns
+abbrev pub DabsRows : Brush → Ink → ℤ → ℤ → ℕ → ℕ → List Rgba → List Rgba → Type 0
+DabsRows brush ink dx dy w h old new = (col row : ℕ) → col < w → row < h → slice_index_or new (row * w + col) clear ≡ brushed brush ink (dx +ℤ pos col) (dy +ℤ pos row) (slice_index_or old (row * w + col) clear)

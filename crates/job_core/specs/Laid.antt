@@ -1,0 +1,16 @@
+-- Rows of pixels laid over others.
+use Rattle.std.specs.Prelude.{◌≡◌, ℕ, ◌+◌, ◌*◌, ◌<◌, true, if◌then◌else◌, List, slice_index_or}
+use Rattle.pixel_core.specs.Rgba.{Rgba, clear}
+use Rattle.geom_core.specs.Points.{Point}
+use Rattle.geom_core.specs.Areas.{Area, holds, place_in}
+use Rattle.tile_core.specs.Parts.{in_part, pixel_in}
+
+-- the new pixels, in rows of some width, have these ones on a part, and the old ones elsewhere
+abbrev pub LaysRows : ℕ → ℕ → ℕ → ℕ → ℕ → List Rgba → List Rgba → List Rgba → Type 0
+LaysRows width left top w h src old new = (col row : ℕ) → col < width
+    → slice_index_or new (row * width + col) clear ≡ (if in_part left top w h col row then pixel_in left top w src col row else slice_index_or old (row * width + col) clear)
+
+-- the new pixels of a rectangle have a part's pixels on the part, and the old ones elsewhere
+abbrev pub LaysOver : Area → Area → List Rgba → List Rgba → List Rgba → Type 0
+LaysOver a part src old new = (p : Point) → holds a p ≡ true
+    → slice_index_or new (place_in a p) clear ≡ (if holds part p then slice_index_or src (place_in part p) clear else slice_index_or old (place_in a p) clear)

@@ -1,0 +1,41 @@
+-- Blocks by what they have at each point.
+use Rattle.std.specs.Prelude.{◌≡◌, ℕ, ℤ, pos, negsuc, ◌-ℤ◌, ◌≤ℤ◌, Bool, if◌then◌else◌}
+use Rattle.pixel_core.specs.Rgba.{Rgba}
+use Rattle.pixel_core.specs.Bytes.{mul}
+use Rattle.pixel_core.specs.Compose.{compose}
+use Rattle.brush_mask.specs.Mask.{mask}
+use Rattle.geom_core.specs.Points.{Point, point}
+use Rattle.geom_core.specs.Areas.{Area, holds}
+use Rattle.geom_core.specs.Grid.{Key}
+use Rattle.tile_core.specs.Blocks.{Piece}
+use Rattle.tile_core.specs.Pixels.{HasPixels}
+use Rattle.tile_core.specs.Shots.{Sight, sight_at}
+use Rattle.job_core.specs.declared.ink.Ink.{Ink}
+use Rattle.job_core.specs.declared.dabs.Brush.{Brush}
+
+-- what f has of the points of a rectangle in a tile, as a block
+pub record IsBlock (key : Key) (part : Area) (f : Point → Rgba) (b : Piece) : Type 0 where
+  pub key_is : b.key ≡ key
+  pub rect_is : b.rect ≡ part
+  pub pixels : HasPixels part f b.pixels
+
+-- as far as two points of the world can lie apart
+pub record IsStep (dx dy : ℤ) : Type 0 where
+  pub across : (negsuc 32766 ≤ℤ dx) × (dx ≤ℤ pos 32767)
+  pub down : (negsuc 32766 ≤ℤ dy) × (dy ≤ℤ pos 32767)
+
+-- the pixel that a move brings to a point
+abbrev pub brought : Sight → ℤ → ℤ → Point → Rgba
+brought s dx dy p = sight_at s (point (p.x -ℤ dx) (p.y -ℤ dy))
+
+-- what a move to a rectangle leaves at a point: the pixel that it brings, or the default pixel
+abbrev pub left_at : Sight → Area → ℤ → ℤ → Point → Rgba
+left_at s to dx dy p = if holds to p then brought s dx dy p else s.default_pixel
+
+-- the strength of a dab at a distance from its centre
+abbrev pub strength_at : Brush → Ink → ℤ → ℤ → ℕ
+strength_at brush ink dx dy = mul (mask brush.r brush.soft dx dy) ink.strength
+
+-- what a dab leaves at a point
+abbrev pub dabbed : Sight → Brush → Ink → Point → Rgba
+dabbed s brush ink p = compose ink.op ink.colour (sight_at s p) (strength_at brush ink (p.x -ℤ brush.x) (p.y -ℤ brush.y))

@@ -1,0 +1,112 @@
+//! Dabs.
+
+ghost use Rattle.std.specs.Prelude.{◌≡◌, [], ◌∷◌, ◌+◌, ◌*◌, ◌≤◌, ◌<◌, ◌≤ℤ◌, ◌+ℤ◌, ℕ, negsuc, pos, true, IfOk, vec_len, length};
+ghost use Rattle.geom_core.specs.Areas.{IsWithin, world};
+ghost use Rattle.geom_core.specs.Grid.{IsWorldKey, tile};
+ghost use Rattle.tile_core.specs.Pixels.{HasPixels};
+ghost use Rattle.doc_model.specs.declared.job.Job.TheVariants.{Dab};
+ghost use Rattle.doc_model.specs.Jobs.{square as square_of};
+ghost use Rattle.job_core.specs.Paints.{paint, IsPainted};
+ghost use Rattle.job_core.specs.Due.{IsDue};
+ghost use Rattle.job_core.specs.Made.{dabbed as dabbed_at};
+ghost use Rattle.job_core.specs.Dabs.{DabsRow, DabsRows};
+
+use crate::ink::Ink;
+use crate::part::part_in;
+use brush_mask::mask;
+use geom_core::{NoMemory, Rect, TileKey};
+use pixel_core::{Pixel, compose, mul};
+use std::alloc::Global;
+use tile_core::{Block, Shot};
+
+/// A round brush at a point.
+#[derive(Clone, Copy)]
+pub struct Brush {
+    pub x: i32,
+    pub y: i32,
+    pub r: u8,
+    pub soft: bool,
+}
+
+/// What a dab leaves in the key's tile, where `square` is the square round it.
+pub fn dabbed(
+    alloc: Global,
+    shot: &Shot,
+    key: TileKey,
+    square: &Rect,
+    brush: &Brush,
+    ink: &Ink,
+) -> Result<Block, NoMemory>
+    requires due { IsDue (Dab brush.now.x brush.now.y brush.now.r brush.now.soft ink.now.colour ink.now.op ink.now.strength) shot.now key }
+    requires square { square.now ≡ square_of brush.now.x brush.now.y brush.now.r }
+    ensures { IfOk result (λ b. IsPainted (paint (Dab brush.now.x brush.now.y brush.now.r brush.now.soft ink.now.colour ink.now.op ink.now.strength) shot.now key (b ∷ []))) }
+{
+    let part = part_in(key, square);
+    let pixels = brushed(alloc, shot, key, &part, brush, ink)?;
+    Ok(Block::from_pixels(key, part, pixels))
+}
+
+/// The shot's pixels on a part of the dab's square, with the dab laid on them.
+fn brushed(
+    alloc: Global,
+    shot: &Shot,
+    key: TileKey,
+    part: &Rect,
+    brush: &Brush,
+    ink: &Ink,
+) -> Result<Vec<Pixel>, NoMemory>
+    requires key { IsWorldKey key }
+    requires inside { IsWithin part.now (tile key) }
+    requires radius { brush.now.r ≤ 128 }
+    requires round { IsWithin part.now (square_of brush.now.x brush.now.y brush.now.r) }
+    requires in_world { IsWithin (square_of brush.now.x brush.now.y brush.now.r) world }
+    ensures all { IfOk result (λ v. vec_len v ≡ part.now.h * part.now.w) }
+    ensures has { IfOk result (λ v. HasPixels part.now (dabbed_at shot.now brush.now ink.now) v.items) }
+{
+    let mut pixels = shot.read(alloc, key, part)?;
+    let dx = (part.x() - brush.x) as i16;
+    let dy = (part.y() - brush.y) as i16;
+    lay_dab(
+        &mut pixels,
+        part.w() as usize,
+        part.h() as usize,
+        dx,
+        dy,
+        brush,
+        ink,
+    );
+    Ok(pixels)
+}
+
+/// Lays a dab on `h` rows of `w` pixels, of which the first is (dx, dy) from the centre.
+fn lay_dab(pixels: &mut [Pixel], w: usize, h: usize, dx: i16, dy: i16, brush: &Brush, ink: &Ink)
+    requires all { length pixels.old ≡ h * w }
+    requires small { w ≤ 64 × h ≤ 64 }
+    requires radius { brush.now.r ≤ 128 }
+    requires left { negsuc 127 ≤ℤ dx }
+    requires right { (dx +ℤ pos w) ≤ℤ pos 129 }
+    requires top { negsuc 127 ≤ℤ dy }
+    requires bottom { (dy +ℤ pos h) ≤ℤ pos 129 }
+    ensures { DabsRows brush.now ink.now dx dy w h pixels.old pixels.new }
+{
+    let mut from = 0;
+    for row in 0..h {
+        lay_dab_row(&mut pixels[from..from + w], dx, dy + row as i16, brush, ink);
+        from += w;
+    }
+}
+
+/// Lays one row of a dab.
+fn lay_dab_row(row: &mut [Pixel], dx: i16, dy: i16, brush: &Brush, ink: &Ink)
+    requires radius { brush.now.r ≤ 128 }
+    requires left { negsuc 127 ≤ℤ dx }
+    requires right { (dx +ℤ pos (length row.old)) ≤ℤ pos 129 }
+    requires top { negsuc 127 ≤ℤ dy }
+    requires bottom { dy ≤ℤ pos 128 }
+    ensures { DabsRow brush.now ink.now dx dy row.old row.new }
+{
+    for i in 0..row.len() {
+        let strength = mul(mask(brush.r, brush.soft, dx + i as i16, dy), ink.strength);
+        row[i] = compose(ink.op, ink.colour, row[i], strength);
+    }
+}

@@ -1,0 +1,52 @@
+//! Fills.
+
+ghost use Rattle.std.specs.Prelude.{◌≡◌, [], ◌∷◌, ◌*◌, true, IfOk, vec_len};
+ghost use Rattle.geom_core.specs.Areas.{IsWithin};
+ghost use Rattle.geom_core.specs.Grid.{IsWorldKey, tile};
+ghost use Rattle.pixel_core.specs.Compose.{compose};
+ghost use Rattle.tile_core.specs.Pixels.{HasPixels};
+ghost use Rattle.tile_core.specs.Shots.{sight_at};
+ghost use Rattle.doc_model.specs.declared.job.Job.TheVariants.{Fill};
+ghost use Rattle.job_core.specs.Paints.{paint, IsPainted};
+ghost use Rattle.job_core.specs.Due.{IsDue};
+
+use crate::ink::{Ink, lay_on_all};
+use crate::part::part_in;
+use geom_core::{NoMemory, Rect, TileKey};
+use pixel_core::Pixel;
+use std::alloc::Global;
+use tile_core::{Block, Shot};
+
+/// What a fill leaves in the key's tile.
+pub fn filled(
+    alloc: Global,
+    shot: &Shot,
+    key: TileKey,
+    rect: &Rect,
+    ink: &Ink,
+) -> Result<Block, NoMemory>
+    requires { IsDue (Fill rect.now ink.now.colour ink.now.op ink.now.strength) shot.now key }
+    ensures { IfOk result (λ b. IsPainted (paint (Fill rect.now ink.now.colour ink.now.op ink.now.strength) shot.now key (b ∷ []))) }
+{
+    let part = part_in(key, rect);
+    let pixels = inked(alloc, shot, key, &part, ink)?;
+    Ok(Block::from_pixels(key, part, pixels))
+}
+
+/// The shot's pixels on a rectangle inside the key's tile, with the ink laid on each.
+fn inked(
+    alloc: Global,
+    shot: &Shot,
+    key: TileKey,
+    part: &Rect,
+    ink: &Ink,
+) -> Result<Vec<Pixel>, NoMemory>
+    requires key { IsWorldKey key }
+    requires inside { IsWithin part.now (tile key) }
+    ensures all { IfOk result (λ v. vec_len v ≡ part.now.h * part.now.w) }
+    ensures has { IfOk result (λ v. HasPixels part.now (λ p. compose ink.now.op ink.now.colour (sight_at shot.now p) ink.now.strength) v.items) }
+{
+    let mut pixels = shot.read(alloc, key, part)?;
+    lay_on_all(&mut pixels, ink);
+    Ok(pixels)
+}

@@ -1,0 +1,228 @@
+//! Worked values, and that each job's call can succeed.
+
+ghost use Rattle.std.specs.Prelude.{◌≡◌, true};
+ghost use Rattle.std.specs.List.{list_any, list_all};
+ghost use Rattle.geom_core.specs.Areas.{lies_in};
+ghost use Rattle.geom_core.specs.Grid.{same_key, all_keys_of};
+ghost use Rattle.doc_model.specs.Jobs.{writes};
+ghost use Rattle.doc_model.specs.Lawful.{checks};
+
+use super::*;
+use doc_model::Job;
+use geom_core::{NoMemory, Rect, TileKey};
+use pixel_core::{Op, Pixel};
+use std::alloc::Global;
+use std::process::Abort;
+use std::test::Fail;
+use tile_core::{Shot, Tile};
+
+/// The tile whose corner is (0, 0).
+const ORIGIN: TileKey = TileKey { row: 0, col: 0 };
+
+const RED: [u8; 4] = [255, 0, 0, 255];
+
+/// The pixel of the shot where nothing was painted.
+const GROUND: [u8; 4] = [1, 2, 3, 77];
+
+fn pixel(bytes: [u8; 4]) -> Pixel {
+    let [r, g, b, a] = bytes;
+    Pixel::new(r, g, b, a)
+}
+
+fn rect(x: i32, y: i32, w: u32, h: u32) -> Rect {
+    if w < 1 || w > 32768 || h < 1 || h > 32768 {
+        return Rect::default();
+    }
+    Rect::new(x, y, w, h).unwrap_or(Rect::default())
+}
+
+fn filling(rect: Rect, bytes: [u8; 4], strength: u8) -> Job {
+    Job::Fill {
+        rect,
+        colour: pixel(bytes),
+        op: Op::Over,
+        strength,
+    }
+}
+
+fn dab(x: i32, y: i32, r: u8, soft: bool) -> Job {
+    Job::Dab {
+        x,
+        y,
+        r,
+        soft,
+        colour: pixel(RED),
+        op: Op::Over,
+        strength: 255,
+    }
+}
+
+/// A shot of the world. It has a red pixel at (0, 0), and its ground elsewhere.
+fn red_corner(alloc: Global) -> Result<Shot, NoMemory> {
+    let mut pixels = vec![in alloc; pixel(GROUND); 4096]?;
+    pixels[0] = pixel(RED);
+    let mut shot = Shot::new(alloc, &[rect(-16384, -16384, 32768, 32768)], pixel(GROUND))?;
+    shot.put(ORIGIN, &Tile::from_pixels(alloc, pixels)?)?;
+    Ok(shot)
+}
+
+/// Whether the shot covers each of the rectangles.
+fn covers_all(shot: &Shot, rects: &[Rect]) -> bool
+    ensures { result ≡ list_all (λ a. list_any (lies_in a) shot.now.rects) rects.now }
+{
+    rects.iter().all(|a| shot.covers(a))
+}
+
+/// The first tile that the job writes in.
+fn first_tile(rt: &impl Abort, job: &Job) -> TileKey
+    requires { checks job.now ≡ true }
+    ensures { list_any (same_key result) (all_keys_of (writes job.now)) ≡ true }
+{
+    let rects = job.writes();
+    assert!(rt; rects.len() > 0);
+    let rect = rects[0];
+    assert!(rt; rect.tile_count() > 0);
+    rect.tile_at(0)
+}
+
+/// What the job leaves in its first tile.
+fn painted<'a>(
+    rt: &impl Abort,
+    alloc: Global,
+    job: &'a Job,
+    shot: &'a Shot,
+) -> Result<Painted<'a>, NoMemory> {
+    assert!(rt; job.check().is_ok());
+    assert!(rt; job.is_within_limits());
+    assert!(rt; covers_all(shot, &job.reads()));
+    let key = first_tile(rt, job);
+    assert_eq!(rt; key, ORIGIN);
+    paint_tile(alloc, job, shot, key)
+}
+
+/// The pixel of the block with that index at a point, or the clear pixel where it isn't there.
+fn pixel_of(painted: &Painted, i: usize, x: i32, y: i32) -> [u8; 4] {
+    if i >= painted.block_count() || !painted.block(i).rect().holds(x, y) {
+        return [0, 0, 0, 0];
+    }
+    painted.block(i).at(x, y).bytes()
+}
+
+/// The pixels that a job leaves, each in the block with an index, at a point.
+type Wanted = (usize, i32, i32, [u8; 4]);
+
+fn leaves(
+    rt: &impl Abort,
+    alloc: Global,
+    job: Job,
+    blocks: &[Rect],
+    wanted: &[Wanted],
+) -> Result<(), NoMemory> {
+    let shot = red_corner(alloc)?;
+    let work = painted(rt, alloc, &job, &shot)?;
+    assert_eq!(rt; work.key(), ORIGIN);
+    assert_eq!(rt; *work.job(), job);
+    assert_eq!(rt; work.shot().ground(), pixel(GROUND));
+    assert_eq!(rt; work.block_count(), blocks.len(), "{job:?}");
+    for i in 0..work.block_count() {
+        assert_eq!(rt; work.block(i).rect(), blocks[i], "{job:?}");
+    }
+    for (i, x, y, want) in wanted {
+        assert_eq!(rt; pixel_of(&work, *i, *x, *y), *want, "{job:?} at {x} {y}");
+    }
+    Ok(())
+}
+
+#[test]
+fn fills(rt: HostRuntime) -> Result<(), Fail> {
+    let alloc = rt.alloc();
+    let blue = [0, 0, 255, 255];
+    let one = rect(0, 0, 1, 1);
+    leaves(
+        &rt,
+        alloc,
+        filling(one, blue, 255),
+        &[one],
+        &[(0, 0, 0, blue)],
+    )?;
+    let clipped = rect(0, 0, 64, 1);
+    leaves(
+        &rt,
+        alloc,
+        filling(rect(0, 0, 65, 1), [0, 0, 255, 128], 255),
+        &[clipped],
+        &[(0, 0, 0, [127, 0, 128, 255])],
+    )?;
+    Ok(())
+}
+
+#[test]
+fn moves(rt: HostRuntime) -> Result<(), Fail> {
+    let alloc = rt.alloc();
+    let one = rect(0, 0, 1, 1);
+    let apart = Job::Move {
+        rect: one,
+        dx: 2,
+        dy: 0,
+    };
+    leaves(
+        &rt,
+        alloc,
+        apart,
+        &[rect(2, 0, 1, 1), one],
+        &[(0, 2, 0, RED), (1, 0, 0, GROUND)],
+    )?;
+    let overlapping = Job::Move {
+        rect: rect(0, 0, 65, 1),
+        dx: 1,
+        dy: 0,
+    };
+    leaves(
+        &rt,
+        alloc,
+        overlapping,
+        &[rect(1, 0, 63, 1), rect(0, 0, 64, 1)],
+        &[
+            (0, 1, 0, RED),
+            (0, 2, 0, GROUND),
+            (1, 0, 0, GROUND),
+            (1, 1, 0, RED),
+            (1, 2, 0, GROUND),
+        ],
+    )?;
+    Ok(())
+}
+
+#[test]
+fn dabs(rt: HostRuntime) -> Result<(), Fail> {
+    let alloc = rt.alloc();
+    let square = rect(1, 1, 3, 3);
+    leaves(
+        &rt,
+        alloc,
+        dab(2, 2, 1, false),
+        &[square],
+        &[
+            (0, 1, 1, GROUND),
+            (0, 2, 1, RED),
+            (0, 1, 2, RED),
+            (0, 2, 2, RED),
+        ],
+    )?;
+    let shot = Shot::new(alloc, &[rect(-16384, -16384, 32768, 32768)], Pixel::CLEAR)?;
+    let job = dab(1, 1, 1, true);
+    let work = painted(&rt, alloc, &job, &shot)?;
+    for (x, y, alpha) in [
+        (1, 1, 255),
+        (0, 1, 127),
+        (1, 0, 127),
+        (2, 1, 127),
+        (1, 2, 127),
+        (0, 0, 0),
+        (2, 2, 0),
+    ] {
+        let [_, _, _, a] = pixel_of(&work, 0, x, y);
+        assert_eq!(rt; a, alpha, "{x} {y}");
+    }
+    Ok(())
+}
