@@ -1,1 +1,6 @@
-
+pub mod Filled
+pub mod Devices
+pub mod Lain
+pub mod Sets
+pub mod Exchanged
+pub mod Archived

@@ -1,15 +1,14 @@
 -- A store as contracts see it: documents with their history, and the stroke under way.
-use Rattle.std.specs.Prelude.{◌≡◌, ◌≤◌, ℕ, Bool, true, false, Option, Some, None, List, [], ◌∷◌, length, refl}
-use Rattle.std.specs.Option.{unwrap_or}
+use Rattle.std.specs.Prelude.{◌≡◌, ℕ, Bool, false, Option, Some, None, List, [], ◌∷◌, refl}
 use Rattle.std.specs.FinSet as set
 use Rattle.std.specs.FinSet.{FinSet}
 use Rattle.std.specs.Coded.{Coded, code_by, coded×, coded_ℕ, coded_bool, coded_list, coded_option}
 use Rattle.pixel_core.specs.Rgba.{clear}
-use Rattle.geom_core.specs.Grid.{Key, key_cmp, key_code}
+use Rattle.geom_core.specs.Grid.{key_cmp, key_code}
 use Rattle.geom_core.specs.declared.Touched.{Touched}
 use Rattle.doc_model.specs.Layers.{Layer, plain}
 use Rattle.doc_model.specs.Jobs.{published}
-use Rattle.doc_model.specs.Forest.{Forest, none, each, content, adjusted, parent}
+use Rattle.doc_model.specs.Forest.{Forest, none, each, adjusted, parent}
 use Rattle.doc_model.specs.Changes.{changed}
 use Rattle.doc_model.specs.Codes.{doc_code}
 use Rattle.doc_model.specs.Laws.{IsDocument}
@@ -93,7 +92,7 @@ redone (e ∷ future) a = record a { past = (a.base, e.1) ∷ a.past; base = e.0
 
 -- how many tiles were exchanged, and the rectangle round them
 pub record HasTouched (keys : FinSet key_cmp) (touched : Touched) : Type 0 where
-  pub count : touched.count ≡ length (set.items keys)
+  pub count : touched.count ≡ set.len keys
   pub bound : touched.bound ≡ bound_of (set.items keys)
 
 -- what is told of a reach: for tiles of a layer the group round it and these tiles, for a tree change that it is the whole
@@ -109,7 +108,7 @@ TellsFirst (e ∷ rest) doc r = TellsReach e.1 doc r
 -- how many tiles there are in a reach
 abbrev pub tiles_in : Reach → ℕ
 tiles_in Whole = 0
-tiles_in (Part id keys) = length (set.items keys)
+tiles_in (Part id keys) = set.len keys
 
 -- how many there are in the first that can be undone or redone
 abbrev pub tiles_in_first : List (Doc × Reach) → ℕ

@@ -1,1 +1,4 @@
 pub mod Archives
+pub mod KeySets
+pub mod Documents
+pub mod Entries

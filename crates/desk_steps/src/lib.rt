@@ -1,6 +1,10 @@
 //! Documents with their history, and the stroke that is painted on them.
 #![tactic(auto)]
 
+mod document;
+mod entry;
+mod keys;
+mod laying;
 mod reach;
 mod store;
 

@@ -1,7 +1,9 @@
 //! What the calls of a store answer.
 
+ghost use Rattle.std.specs.Prelude.{◌≡◌};
+
 use doc_model::TreeFault;
-use geom_core::Touched;
+use geom_core::{NoMemory, Touched};
 
 /// How a stroke began.
 #[derive(Clone, Copy, Debug, PartialEq, Eq)]
@@ -30,4 +32,14 @@ pub enum TreeRefusal {
     Tree(TreeFault),
     /// No memory was left.
     NoMemory,
+}
+
+impl From<NoMemory> for TreeRefusal {
+    ghost use Rattle.desk_steps.specs.declared.reach.TreeRefusal.{TreeRefusal};
+
+    ghost from_gives = { λ _ e. e ≡ TreeRefusal.NoMemory };
+
+    fn from(_e: NoMemory) -> TreeRefusal {
+        TreeRefusal::NoMemory
+    }
 }

@@ -17,37 +17,44 @@ ghost use Rattle.desk_steps.specs.declared.reach.TreeRefusal.TheVariants as refu
 ghost use Rattle.desk_steps.specs.declared.reach.Begun.TheVariants.{Ready, NoLayer, NotPaint};
 ghost use Rattle.desk_steps.specs.Archives.{Archive, IsArchive, Changes, HasTouched, TellsFirst, empty_archive, layer_under_way, shape, with_put, finished, reverted, undone, redone, tiles_in_first};
 
+use crate::document::Document;
+use crate::entry::{Entry, Way};
+use crate::keys::KeySet;
 use crate::reach::{Begun, Reach, TreeRefusal};
 use doc_model::Change;
 use geom_core::{NoMemory, Rect, TileKey, Touched};
+use history_core::UndoStack;
 use job_core::Painted;
 use memento_core::Steps;
 use pixel_core::Pixel;
 use std::alloc::Global;
 use std::marker::Model;
+use std::mem;
 use std::sync::ledger::Ledger;
 use tile_core::{Shot, Tile};
 use tree_core::Tree;
 
-#[derive(Clone, Copy)]
-enum Never {}
-
 /// A document of layers and groups, what can be undone and redone, and the stroke under way.
 #[derive(Drop)]
 pub struct Store {
-    never: Never,
+    alloc: Global,
+    doc: Document,
+    history: UndoStack<Entry>,
+    way: Option<Way>,
+    room: bool,
 }
 
 impl Model for Store {
-    ghost use Rattle.desk_steps.specs.Archives.{Archive, IsArchive, empty_archive, archive_code};
+    ghost use Rattle.desk_steps.specs.Archives.{Archive, archive_code};
+    ghost use Rattle.desk_steps.specs.Entries.{archive_of, IsKept};
 
     ghost Value = { Archive };
 
     ghost coded = { archive_code };
 
-    ghost view = { λ s. empty_archive };
+    ghost view = { λ s. archive_of s.doc s.history s.way s.room };
 
-    ghost invariant = { λ s. Unit {0} };
+    ghost invariant = { λ s. IsKept s.doc s.history s.way s.room };
 }
 
 impl Store {
@@ -55,7 +62,13 @@ impl Store {
     pub fn new(alloc: Global) -> Result<Store, NoMemory>
         ensures { IfOk result (λ s. s ≡ empty_archive) }
     {
-        Err(NoMemory)
+        Ok(Store {
+            alloc,
+            doc: Document::new(alloc),
+            history: UndoStack::new(alloc),
+            way: None,
+            room: false,
+        })
     }
 
     /// Takes room for one more change. It stays until the next stroke is finished or change is made.
@@ -63,7 +76,9 @@ impl Store {
         ensures ok { OnOk result (self.new ≡ record self.old { room = true }) }
         ensures err { OnErr result (self.new ≡ self.old) }
     {
-        match self.never {}
+        self.history.reserve(1)?;
+        self.room = true;
+        Ok(())
     }
 
     /// Begins a stroke on a paint layer. Where the id is none, nothing begins.
@@ -74,7 +89,19 @@ impl Store {
         ensures not_paint { result ≡ Ok NotPaint → ((there layer self.old.present ≡ true) × (content layer self.old.present ≡ None)) × (self.new ≡ self.old) }
         ensures err { OnErr result (self.new ≡ self.old) }
     {
-        match self.never {}
+        match self.doc.layer(layer) {
+            Some(device) => {
+                let before = device.share(self.alloc)?;
+                self.way = Some(Way {
+                    id: layer,
+                    keys: KeySet::new(self.alloc),
+                    before,
+                });
+                Ok(Begun::Ready)
+            }
+            None if self.doc.tree().has(layer) => Ok(Begun::NotPaint),
+            None => Ok(Begun::NoLayer),
+        }
     }
 
     /// The pixels of the stroke's layer on these rectangles.
@@ -83,7 +110,13 @@ impl Store {
         ensures rects { IfOk result (λ s. s.rects ≡ rects.now) }
         ensures shot { IfOk result (λ s. layer_of s ≡ shot_of rects.now (layer_under_way self.now.way self.now.present)) }
     {
-        match self.never {}
+        let Some(way) = &self.way else {
+            unreachable!();
+        };
+        match self.doc.layer(way.id) {
+            Some(device) => device.grab(alloc, rects),
+            None => unreachable!(),
+        }
     }
 
     /// Lays what was painted on the stroke's layer. No other point changes.
@@ -92,7 +125,10 @@ impl Store {
         ensures ok { OnOk result (self.new ≡ with_put self.old.way painted.now self.old) }
         ensures err { OnErr result (self.new ≡ self.old) }
     {
-        match self.never {}
+        match &mut self.way {
+            Some(way) => self.doc.put(alloc, way.id, &mut way.keys, painted),
+            None => Ok(()),
+        }
     }
 
     /// Ends the stroke: it is the newest change, and nothing can be redone any more. No memory.
@@ -101,7 +137,14 @@ impl Store {
         requires room { self.old.room ≡ true }
         ensures { self.new ≡ finished self.old.way self.old }
     {
-        match self.never {}
+        if let Some(way) = self.way.take() {
+            self.history.commit(Entry::Layer {
+                id: way.id,
+                keys: way.keys,
+                device: way.before,
+            });
+            self.room = false;
+        }
     }
 
     /// Takes the stroke back, as if it had never begun. It tells the tiles that were put back. No memory.
@@ -111,7 +154,13 @@ impl Store {
         ensures touched { (layer : ℕ) (keys : set.FinSet _) → self.old.way ≡ Some (layer, keys) → HasTouched keys result }
         ensures counts { steps.new ≤ steps.old + result.count }
     {
-        match self.never {}
+        match self.way.take() {
+            Some(mut way) => {
+                self.doc.swap_layer(way.id, &mut way.before);
+                way.keys.touched()
+            }
+            None => unreachable!(),
+        }
     }
 
     /// Makes the change of the tree, which is then the newest one.
@@ -125,7 +174,12 @@ impl Store {
         ensures tree { (fault : TreeFault) → result ≡ Err (refusal.Tree fault) → changed plain change.now self.old.base ≡ Err fault }
         ensures err { OnErr result (self.new ≡ self.old) }
     {
-        match self.never {}
+        let next = self.doc.changed(alloc, change)?;
+        self.history.reserve(1)?;
+        let before = mem::replace(&mut self.doc, next);
+        self.history.commit(Entry::Whole(before));
+        self.room = false;
+        Ok(Reach::Whole)
     }
 
     /// Undoes the newest change. None exactly where there is none. No memory.
@@ -136,7 +190,8 @@ impl Store {
         ensures reach { IfSome result (TellsFirst self.old.past self.new.present) }
         ensures counts { steps.new ≤ steps.old + tiles_in_first self.old.past }
     {
-        match self.never {}
+        let entry = self.history.undo()?;
+        Some(entry.exchange(&mut self.doc))
     }
 
     /// Redoes the change that was undone last. None exactly where there is none. No memory.
@@ -147,7 +202,8 @@ impl Store {
         ensures reach { IfSome result (TellsFirst self.old.future self.new.present) }
         ensures counts { steps.new ≤ steps.old + tiles_in_first self.old.future }
     {
-        match self.never {}
+        let entry = self.history.redo()?;
+        Some(entry.exchange(&mut self.doc))
     }
 
     /// Forgets all changes that can be undone but the newest `keep`. No memory.
@@ -155,7 +211,7 @@ impl Store {
         requires { self.old.way ≡ None }
         ensures { self.new ≡ record self.old { past = take keep self.old.past } }
     {
-        match self.never {}
+        self.history.purge(keep);
     }
 
     /// The tree of the document.
@@ -163,7 +219,7 @@ impl Store {
         ensures value { result.now ≡ shape self.now.present }
         ensures known { IsArchive self.now }
     {
-        match self.never {}
+        self.doc.tree()
     }
 
     /// The tile of a layer under a key. None exactly where the id is no paint layer or no tile stands
@@ -173,7 +229,7 @@ impl Store {
         ensures held { IfSome result (λ t. (p : Point) → same_key (key_of p) key ≡ true → at (layer_in layer self.now.present) p ≡ pixel_at t.now p) }
         ensures plain { IfNone result ((p : Point) → same_key (key_of p) key ≡ true → is_some (content layer self.now.present) ≡ true → at (layer_in layer self.now.present) p ≡ (layer_in layer self.now.present).default_pixel) }
     {
-        match self.never {}
+        self.doc.layer(layer)?.tile(key)
     }
 
     /// The default pixel of a paint layer.
@@ -181,6 +237,9 @@ impl Store {
         requires { is_some (content layer self.now.present) ≡ true }
         ensures { result ≡ (layer_in layer self.now.present).default_pixel }
     {
-        match self.never {}
+        match self.doc.layer(layer) {
+            Some(device) => device.ground(),
+            None => Pixel::CLEAR,
+        }
     }
 }

@@ -1,0 +1,349 @@
+-- A store's invariant through its calls.
+use Rattle.std.proofs.Common.{◌≡◌, ℕ, suc, ◌≤◌, Bool, true, false, ◌&&◌, ◌||◌, cond, max, Option, Some, None, is_some, Result, Ok, Err, List, [], ◌∷◌, take, drop, refl, sym, ap, ◌∙◌, subst, arith, eqb}
+use Rattle.std.specs.Prelude.{◌≢◌, OnOk, OnErr, OnSome, IfOk, IfSome, IfNone}
+use Rattle.std.specs.Borrow.{Bor}
+use Rattle.std.specs.Option.{option_copied, unwrap_or}
+use Rattle.std.specs.FinSet as set
+use Rattle.std.specs.FinSet.{FinSet}
+use Rattle.pixel_core.specs.Rgba.{clear}
+use Rattle.geom_core.specs.Points.{Point}
+use Rattle.geom_core.specs.Areas.{Area, any_holds}
+use Rattle.geom_core.specs.Grid.{Key, key_cmp, key_of, same_key, key_cmp_total}
+use Rattle.geom_core.specs.declared.NoMemory.{NoMemory}
+use Rattle.geom_core.proofs.Tests.{none_left, none_right, kept}
+use Rattle.geom_core.proofs.Tiles.{key_same}
+use Rattle.tile_core.specs.Pixels.{Pixels, pixel_at, pixel_or}
+use Rattle.tile_core.specs.Shots.{Sight, sight_at}
+use Rattle.memento_core.specs.Planes.{tile_under}
+use Rattle.doc_model.specs.declared.tree.Change.{Change}
+use Rattle.doc_model.specs.Layers.{Layer, at, plain, layer_ext, at-painted, default-painted, at-plain, default-plain}
+use Rattle.doc_model.specs.Jobs.{published, in_tile, shot_of, writes}
+use Rattle.doc_model.specs.Changes.{changed}
+use Rattle.doc_model.specs.Forest.{Forest, none, paint, group, height, content, with_content, adjusted}
+use Rattle.doc_model.specs.Ids.{weight}
+use Rattle.doc_model.specs.Picture.{Doc}
+use Rattle.doc_model.specs.Laws.{IsDocument}
+use Rattle.doc_model.proofs.Contents.{content-with_content, adjusted-with_content}
+use Rattle.doc_model.proofs.SameContent.{with_same}
+use Rattle.doc_model.proofs.Weights.{tree_distinct, tree_with_content, weight_count, weight_with_content}
+use Rattle.doc_model.proofs.Limits.{changes_keep_limits}
+use Rattle.machine_model.specs.Effects.{layer_in}
+use Rattle.machine_model.specs.Reached.{DifferWithin, ReachesOneLayer, Reaches, PastReaches, FutureReaches}
+use Rattle.job_core.specs.Paints as paints
+use Rattle.job_core.specs.Paints.{Paint}
+use Rattle.paint_device.specs.Sheets.{Sheet, sheet_at}
+use Rattle.paint_device.specs.Seen.{layer_of}
+use Rattle.paint_device.proofs.Shown.{at-layer_of, default-layer_of}
+use Rattle.history_core.specs.Stacks.{Stack, IsUndone, IsRedone}
+use Rattle.desk_steps.specs.declared.entry.Entry.{Entry}
+use Rattle.desk_steps.specs.declared.entry.Entry.TheVariants as entry
+use Rattle.desk_steps.specs.declared.entry.Way.{Way}
+use Rattle.desk_steps.specs.Archives.{Archive, IsUnderWay, layer_under_way, undone, redone, with_put}
+use Rattle.desk_steps.specs.Entries.{doc_of, reach_in, FitsOn, laid, base_of, way_of, archive_of, IsKept}
+use Rattle.desk_steps.proofs.Devices.{false-true}
+use Rattle.desk_steps.proofs.Lain.{default_published, at_published}
+use Rattle.desk_steps.proofs.Exchanged.{fits_new, fits_old, laid_back, laid_take, past_take}
+
+-- another content keeps a document within the limits
+pub is_document_with : {A : Type 0} (q : ℕ) (x : A) (f : Forest A) → IsDocument f → IsDocument (with_content q x f)
+is_document_with {A = A} q x f d = record {
+  tree = tree_with_content q x f d.tree;
+  few = (let e : weight (λ _. 1) (with_content q x f) ≡ weight (λ _. 1) f = weight_with_content (λ _. 1) q x f in omega (arith, d.few, weight_count f, weight_count (with_content q x f)));
+  low = (let e : height (with_content q x f) ≡ height f = same f in omega (arith, d.low));
+}
+  where
+    same : (f : Forest A) → height (with_content q x f) ≡ height f
+    same none = refl
+    same (paint id look y rest) = ap (max 1) (same rest)
+    same (group id look nodes rest) = λ i. max (suc (same nodes i)) (same rest i)
+
+reached_some : (id : ℕ) (keys : FinSet key_cmp) (old new : Doc) → ReachesOneLayer id keys old new → is_some (content id new) ≡ true
+reached_some id keys old new r = ap (λ d. is_some (content id d)) r.changed ∙ ap is_some (content-with_content id r.after r.before old r.was)
+
+module _ (doc : Doc) (history : Stack Entry) (room : Bool) where
+  -- the layer of the stroke under way is there
+  pub way_there : (way : Option Way) (w : Way) → way ≡ Some w → IsKept doc history way room → is_some (content w.id doc) ≡ true
+  way_there way w e k = reached_some w.id w.keys (with_content w.id (layer_of w.before) doc) doc (subst (λ v. IsUnderWay (way_of v) (base_of v doc) doc) e k.archive.under_way)
+
+  present_document : (w : Way) → IsKept doc history (Some w) room → IsDocument doc
+  present_document w k =
+      let r = k.archive.under_way in
+      subst IsDocument (sym r.changed) (is_document_with w.id r.after (with_content w.id (layer_of w.before) doc) k.archive.limits)
+
+  -- a finished stroke is the newest change
+  pub finish_kept : (way after : Option Way) (w : Way) (new : Stack Entry) → way ≡ Some w → after ≡ None → new.past ≡ entry.Layer w.id w.keys w.before ∷ history.past → new.future ≡ []
+      → IsKept doc history way room → IsKept doc new after false
+  finish_kept way after w new is gone past future k =
+      let s : IsKept doc history (Some w) room = subst (λ v. IsKept doc history v room) is k in
+      subst (λ v. IsKept doc new v false) (sym gone) (record {
+        archive = record {
+          past_reaches = subst (λ es. PastReaches (laid doc es) doc) (sym past) (s.archive.under_way, s.archive.past_reaches);
+          future_reaches = subst (λ es. FutureReaches doc (laid doc es)) (sym future) tt;
+          under_way = refl;
+          limits = present_document w s;
+        };
+        spare = λ e. false-true e;
+      })
+
+  -- the oldest changes are forgotten
+  pub purge_kept : (way : Option Way) (n : ℕ) (new : Stack Entry) → new.past ≡ take n history.past → new.future ≡ history.future → history.spare ≤ new.spare → IsKept doc history way room → IsKept doc new way room
+  purge_kept way n new past future spare k = record {
+    archive = record {
+      past_reaches = subst (λ es. PastReaches es (base_of way doc)) (sym (ap (laid (base_of way doc)) past ∙ laid_take n (base_of way doc) history.past)) (past_take n _ _ k.archive.past_reaches);
+      future_reaches = subst (λ es. FutureReaches (base_of way doc) (laid (base_of way doc) es)) (sym future) k.archive.future_reaches;
+      under_way = k.archive.under_way;
+      limits = k.archive.limits;
+    };
+    spare = λ e. (let h = k.spare e in omega (arith, h, spare));
+  }
+
+  pub purged_is : (way : Option Way) (n : ℕ) (new : Stack Entry) (old : Archive) → new.past ≡ take n history.past → new.future ≡ history.future → archive_of doc history way room ≡ old → archive_of doc new way room ≡ record old { past = take n old.past }
+  purged_is way n new old past future view =
+      (λ i. record (archive_of doc history way room) { past = (ap (laid (base_of way doc)) past ∙ laid_take n (base_of way doc) history.past) i; future = laid (base_of way doc) (future i) })
+      ∙ ap (λ (a : Archive). record a { past = take n a.past }) view
+
+  -- a stroke begins on a layer
+  pub begin_kept : (way : Option Way) (id : ℕ) (keys : FinSet key_cmp) (device before : Sheet) → way_of way ≡ None → content id doc ≡ Some (layer_of device) → keys ≡ set.empty → before ≡ device
+      → IsKept doc history way room → IsKept doc history (Some (record { id = id; keys = keys; before = before })) room
+  begin_kept (Some w) id keys device before free is empty same k = absurd (no_way free)
+    where
+      no_way : {A : Type 0} {x : A} → Some x ≡ None → ⊥
+      no_way e = cc
+  begin_kept None id keys device before free is empty same k =
+      let base : with_content id (layer_of before) doc ≡ doc = ap (λ s. with_content id (layer_of s) doc) same ∙ with_same id (layer_of device) doc (tree_distinct doc k.archive.limits.tree) is in
+      record {
+        archive = record {
+          past_reaches = subst (λ d. PastReaches (laid d history.past) d) (sym base) k.archive.past_reaches;
+          future_reaches = subst (λ d. FutureReaches d (laid d history.future)) (sym base) k.archive.future_reaches;
+          under_way = subst (λ d. ReachesOneLayer id keys d doc) (sym base) (record {
+            before = layer_of device;
+            after = layer_of device;
+            was = is;
+            changed = sym (with_same id (layer_of device) doc (tree_distinct doc k.archive.limits.tree) is);
+            within = record { default_pixel = refl; pixels = λ p e. refl };
+          });
+          limits = subst IsDocument (sym base) k.archive.limits;
+        };
+        spare = k.spare;
+      }
+
+  pub begun_is : (way : Option Way) (id : ℕ) (keys : FinSet key_cmp) (device before : Sheet) (old : Archive) → old.way ≡ None → content id doc ≡ Some (layer_of device) → keys ≡ set.empty → before ≡ device
+      → IsKept doc history way room → archive_of doc history way room ≡ old → archive_of doc history (Some (record { id = id; keys = keys; before = before })) room ≡ record old { way = Some (id, set.empty) }
+  begun_is way id keys device before old free is empty same k view = go way k view (ap (λ (a : Archive). a.way) view ∙ free)
+    where
+      no_way : {A B : Type 0} {x : A} → Some x ≡ None → B
+      no_way e = absurd (never e)
+        where
+          never : {A : Type 0} {x : A} → Some x ≡ None → ⊥
+          never e = cc
+
+      go : (way : Option Way) → IsKept doc history way room → archive_of doc history way room ≡ old → way_of way ≡ None → archive_of doc history (Some (record { id = id; keys = keys; before = before })) room ≡ record old { way = Some (id, set.empty) }
+      go (Some w) k view e = no_way e
+      go None k view e =
+          let base : with_content id (layer_of before) doc ≡ doc = ap (λ s. with_content id (layer_of s) doc) same ∙ with_same id (layer_of device) doc (tree_distinct doc k.archive.limits.tree) is in
+          (λ i. record { past = laid (base i) history.past; base = base i; present = doc; future = laid (base i) history.future; way = Some (id, empty i); room = room })
+          ∙ ap (λ (a : Archive). record a { way = Some (id, set.empty) }) view
+
+-- what was put of the stroke under way is not in the document from before it
+with_adjusted : {A : Type 0} (q : ℕ) (x : A) (f : A → A) (t : Forest A) → with_content q x (adjusted q f t) ≡ with_content q x t
+with_adjusted q x f none = refl
+with_adjusted {A = A} q x f (paint id look y rest) = λ i. paint id look (again (eqb q id) (f y) i) (with_adjusted q x f rest i)
+  where
+    again : (b : Bool) (z : A) → cond b x (cond b z y) ≡ cond b x y
+    again true z = refl
+    again false z = refl
+with_adjusted q x f (group id look nodes rest) = λ i. group id look (with_adjusted q x f nodes i) (with_adjusted q x f rest i)
+
+put_within : (keys : FinSet key_cmp) (w : Paint) (before after : Layer) → DifferWithin keys before after → DifferWithin (set.insert keys w.key) before (published w.job (paints.layer_of w.shot) w.key after)
+put_within keys w before after d = record {
+  default_pixel = d.default_pixel ∙ sym (default_published w after);
+  pixels = λ p out.
+    let e : (same_key (key_of p) w.key || set.contains keys (key_of p)) ≡ false = sym (set.contains-insert key_cmp_total keys w.key (key_of p)) ∙ out in
+    d.pixels p (none_right (same_key (key_of p) w.key) _ e) ∙ sym (at_published w after p ∙ kept (any_holds (writes w.job) p && in_tile w.key p) _ _ (no_tile (any_holds (writes w.job) p) (in_tile w.key p) (none_left (same_key (key_of p) w.key) _ e)));
+}
+  where
+    no_tile : (a b : Bool) → b ≡ false → (a && b) ≡ false
+    no_tile true b e = e
+    no_tile false b e = refl
+
+-- the document with what was painted
+abbrev pub painted_doc : ℕ → Paint → Doc → Doc
+painted_doc id w doc = adjusted id (published w.job (paints.layer_of w.shot) w.key) doc
+
+module _ (doc new : Doc) (history : Stack Entry) (room : Bool) (w : Way) (keys : FinSet key_cmp) (painted : Paint) where
+  put_done : new ≡ painted_doc w.id painted doc → keys ≡ set.insert w.keys painted.key → IsKept doc history (Some w) room → IsKept new history (Some (record { id = w.id; keys = keys; before = w.before })) room
+  put_done is more k =
+      let base : with_content w.id (layer_of w.before) new ≡ with_content w.id (layer_of w.before) doc = ap (with_content w.id (layer_of w.before)) is ∙ with_adjusted w.id (layer_of w.before) _ doc in
+      let r = k.archive.under_way in
+      record {
+        archive = record {
+          past_reaches = subst (λ d. PastReaches (laid d history.past) d) (sym base) k.archive.past_reaches;
+          future_reaches = subst (λ d. FutureReaches d (laid d history.future)) (sym base) k.archive.future_reaches;
+          under_way = subst (λ d. ReachesOneLayer w.id keys d new) (sym base) (record {
+            before = r.before;
+            after = published painted.job (paints.layer_of painted.shot) painted.key r.after;
+            was = r.was;
+            changed = is ∙ ap (painted_doc w.id painted) r.changed ∙ adjusted-with_content w.id (published painted.job (paints.layer_of painted.shot) painted.key) r.after _;
+            within = subst (λ ks. DifferWithin ks r.before (published painted.job (paints.layer_of painted.shot) painted.key r.after)) (sym more) (put_within w.keys painted r.before r.after r.within);
+          });
+          limits = subst IsDocument (sym base) k.archive.limits;
+        };
+        spare = k.spare;
+      }
+
+  -- whether it was put or not
+  pub put_kept : (way : Option Way) (r : Result (Unit {0}) NoMemory) → way ≡ Some w → OnOk r (new ≡ painted_doc w.id painted doc) → OnOk r (keys ≡ set.insert w.keys painted.key) → OnErr r (new ≡ doc) → OnErr r (keys ≡ w.keys)
+      → IsKept doc history way room → IsKept new history (Some (record { id = w.id; keys = keys; before = w.before })) room
+  put_kept way (Ok x) is ok more err same k = put_done ok more (subst (λ v. IsKept doc history v room) is k)
+  put_kept way (Err x) is ok more err same k =
+      subst (λ d. IsKept d history (Some (record { id = w.id; keys = keys; before = w.before })) room) (sym err)
+      (subst (λ ks. IsKept doc history (Some (record { id = w.id; keys = ks; before = w.before })) room) (sym same) (subst (λ v. IsKept doc history v room) is k))
+
+  pub put_is : (way : Option Way) (old : Archive) → way ≡ Some w → new ≡ painted_doc w.id painted doc → keys ≡ set.insert w.keys painted.key → archive_of doc history way room ≡ old
+      → archive_of new history (Some (record { id = w.id; keys = keys; before = w.before })) room ≡ with_put old.way painted old
+  put_is way old e is more view =
+      let base : with_content w.id (layer_of w.before) new ≡ with_content w.id (layer_of w.before) doc = ap (with_content w.id (layer_of w.before)) is ∙ with_adjusted w.id (layer_of w.before) _ doc in
+      (λ i. record { past = laid (base i) history.past; base = base i; present = is i; future = laid (base i) history.future; way = Some (w.id, more i); room = room })
+      ∙ ap (λ (a : Archive). with_put a.way painted a) (ap (λ v. archive_of doc history v room) (sym e) ∙ view)
+
+no_way : {A : Type 0} (way : Option Way) → way_of way ≡ None → (way ≡ None → A) → A
+no_way None e f = f refl
+no_way (Some w) e f = absurd (never e)
+  where
+    never : {A : Type 0} {x : A} → Some x ≡ None → ⊥
+    never e = cc
+
+-- a change of the tree is the newest one
+pub change_kept : (doc next : Doc) (history new : Stack Entry) (way : Option Way) (room : Bool) (change : Change) → way_of way ≡ None → changed plain change doc ≡ Ok next → new.past ≡ entry.Whole doc ∷ history.past → new.future ≡ []
+    → IsKept doc history way room → IsKept next new way false
+change_kept doc next history new way room change free made past future k = no_way way free (λ e. subst (λ v. IsKept next new v false) (sym e) (go (subst (λ v. IsKept doc history v room) e k)))
+  where
+    go : IsKept doc history None room → IsKept next new None false
+    go s = record {
+      archive = record {
+        past_reaches = subst (λ es. PastReaches (laid next es) next) (sym past) (tt, s.archive.past_reaches);
+        future_reaches = subst (λ es. FutureReaches next (laid next es)) (sym future) tt;
+        under_way = refl;
+        limits = changes_keep_limits change doc next made s.archive.limits;
+      };
+      spare = λ e. false-true e;
+    }
+
+-- the shot of a device is that of its layer
+pub shot_is : (s : Sight) (d : Sheet) (rects : List Area) → s.default_pixel ≡ d.default_pixel → s.rects ≡ rects → ((p : Point) → any_holds rects p ≡ true → sight_at s p ≡ sheet_at d p) → paints.layer_of s ≡ shot_of rects (layer_of d)
+unfolding paints.layer_of shot_of
+shot_is s d rects default rects_are pixels = layer_ext _ _
+    (default-painted s.rects _ (sight_at s) _ ∙ default-plain s.default_pixel ∙ default ∙ sym (default-layer_of d) ∙ sym (default-painted rects _ (at (layer_of d)) _ ∙ default-plain (layer_of d).default_pixel))
+    (λ p. at-painted s.rects _ (sight_at s) _ p ∙ ap (λ rs. cond (any_holds rs p && true) (sight_at s p) (at (plain s.default_pixel) p)) rects_are ∙ go p (any_holds rects p) refl ∙ sym (at-painted rects _ (at (layer_of d)) _ p))
+  where
+    go : (p : Point) (b : Bool) → any_holds rects p ≡ b → cond (any_holds rects p && true) (sight_at s p) (at (plain s.default_pixel) p) ≡ cond (any_holds rects p && true) (at (layer_of d) p) (at (plain (layer_of d).default_pixel) p)
+    go p true h = ap (λ b. cond (b && true) (sight_at s p) (at (plain s.default_pixel) p)) h ∙ pixels p h ∙ sym (at-layer_of d p) ∙ ap (λ b. cond (b && true) (at (layer_of d) p) (at (plain (layer_of d).default_pixel) p)) (sym h)
+    go p false h = ap (λ b. cond (b && true) (sight_at s p) (at (plain s.default_pixel) p)) h ∙ at-plain s.default_pixel p ∙ default ∙ sym (default-layer_of d) ∙ sym (at-plain (layer_of d).default_pixel p) ∙ ap (λ b. cond (b && true) (at (layer_of d) p) (at (plain (layer_of d).default_pixel) p)) (sym h)
+
+-- the layer of an id that has one
+pub layer_is : (id : ℕ) (doc present : Doc) (l : Layer) → doc ≡ present → content id doc ≡ Some l → layer_in id present ≡ l
+layer_is id doc present l e is = ap (layer_in id) (sym e) ∙ ap (λ o. unwrap_or o (plain clear)) is
+
+pub way_layer : (doc : Doc) (history : Stack Entry) (way : Option Way) (room : Bool) (w : Way) (l : Layer) (old : Archive) → way ≡ Some w → archive_of doc history way room ≡ old → content w.id doc ≡ Some l → layer_under_way old.way old.present ≡ l
+way_layer doc history way room w l old e view is = ap (λ (a : Archive). layer_under_way a.way a.present) (sym view ∙ ap (λ v. archive_of doc history v room) e) ∙ layer_is w.id doc doc l refl is
+
+pub tile_held : (id : ℕ) (doc present : Doc) (d : Sheet) (k : Key) (r : Option (Bor Pixels)) → doc ≡ present → content id doc ≡ Some (layer_of d) → option_copied r ≡ tile_under d.tiles k
+    → IfSome r (λ t. (p : Point) → same_key (key_of p) k ≡ true → at (layer_in id present) p ≡ pixel_at t.now p)
+tile_held id doc present d k None e is under = tt
+tile_held id doc present d k (Some t) e is under = λ p h. ap (λ l. at l p) (layer_is id doc present (layer_of d) e is) ∙ at-layer_of d p ∙ ap (λ o. pixel_or o d.default_pixel p) (ap (tile_under d.tiles) (key_same (key_of p) k h) ∙ sym under)
+
+pub no_tile_held : (id : ℕ) (doc present : Doc) (d : Sheet) (k : Key) (r : Option (Bor Pixels)) → doc ≡ present → content id doc ≡ Some (layer_of d) → option_copied r ≡ tile_under d.tiles k
+    → IfNone r ((p : Point) → same_key (key_of p) k ≡ true → is_some (content id present) ≡ true → at (layer_in id present) p ≡ (layer_in id present).default_pixel)
+no_tile_held id doc present d k (Some t) e is under = tt
+no_tile_held id doc present d k None e is under = λ p h there.
+    let l = layer_is id doc present (layer_of d) e is in
+    ap (λ l. at l p) l ∙ at-layer_of d p ∙ ap (λ o. pixel_or o d.default_pixel p) (ap (tile_under d.tiles) (key_same (key_of p) k h) ∙ sym under) ∙ sym (default-layer_of d) ∙ ap (λ (l : Layer). l.default_pixel) (sym l)
+
+-- a list by its first item
+pub first_is : {A : Type 0} (xs : List A) (x : A) → take 1 xs ≡ x ∷ [] → xs ≡ x ∷ drop 1 xs
+first_is [] x e = absurd (no e)
+  where
+    no : {A : Type 0} {x : A} → [] ≡ x ∷ [] → ⊥
+    no e = cc
+first_is (y ∷ xs) x e = ap (λ z. z ∷ xs) (same x y e)
+  where
+    same : {A : Type 0} (x y : A) → y ∷ [] ≡ x ∷ [] → y ≡ x
+    same x y e = cc
+
+pub undo_fits : (doc : Doc) (history : Stack Entry) (way : Option Way) (room : Bool) (was : Entry) → way_of way ≡ None → take 1 history.past ≡ was ∷ [] → IsKept doc history way room → FitsOn doc was
+undo_fits doc history way room was free first k = no_way way free (λ e.
+    let s : IsKept doc history None room = subst (λ v. IsKept doc history v room) e k in
+    let r : PastReaches (laid doc (was ∷ drop 1 history.past)) doc = subst (λ es. PastReaches (laid doc es) doc) (first_is history.past was first) s.archive.past_reaches in
+    fits_new doc was r.0)
+
+pub redo_fits : (doc : Doc) (history : Stack Entry) (way : Option Way) (room : Bool) (was : Entry) → way_of way ≡ None → take 1 history.future ≡ was ∷ [] → IsKept doc history way room → FitsOn doc was
+redo_fits doc history way room was free first k = no_way way free (λ e.
+    let s : IsKept doc history None room = subst (λ v. IsKept doc history v room) e k in
+    let r : FutureReaches doc (laid doc (was ∷ drop 1 history.future)) = subst (λ es. FutureReaches doc (laid doc es)) (first_is history.future was first) s.archive.future_reaches in
+    fits_old doc was r.0)
+
+-- nothing is left where there is nothing to lend
+pub nothing_is : {A : Type 0} (xs : List A) → (xs ≢ [] → false ≡ true) → xs ≡ []
+nothing_is [] h = refl
+nothing_is (x ∷ xs) h = false-true (h (λ e. cc))
+
+pub lent_holds : {A : Type 0} (r : Option A) (x : A) {P : Type 0} → r ≡ Some x → OnSome r P → P
+lent_holds None x e h = absurd (no e)
+  where
+    no : {A : Type 0} {x : A} → None ≡ Some x → ⊥
+    no e = cc
+lent_holds (Some y) x e h = h
+
+module _ (doc new : Doc) (history after : Stack Entry) (way : Option Way) (room : Bool) (was is : Entry) where
+  -- the newest of the past has become the document
+  pub undo_kept : way_of way ≡ None → take 1 history.past ≡ was ∷ [] → IsUndone history after is → new ≡ doc_of doc was → doc_of new is ≡ doc → reach_in is ≡ reach_in was → IsDocument new → IsKept doc history way room → IsKept new after way room
+  undo_kept free first u made back same limits k = no_way way free (λ e. subst (λ v. IsKept new after v room) (sym e) (go (subst (λ v. IsKept doc history v room) e k)))
+    where
+      go : IsKept doc history None room → IsKept new after None room
+      go s =
+          let r : PastReaches (laid doc (was ∷ drop 1 history.past)) doc = subst (λ es. PastReaches (laid doc es) doc) (first_is history.past was first) s.archive.past_reaches in
+          record {
+            archive = record {
+              past_reaches = subst (λ es. PastReaches (laid new es) new) (sym u.past) (subst (λ d. PastReaches (laid d (drop 1 history.past)) d) (sym made) r.1);
+              future_reaches = subst (λ es. FutureReaches new es) (sym (ap (laid new) u.future ∙ laid_back doc new was is history.future back same)) (subst (λ d. Reaches (reach_in was) d doc) (sym made) r.0, s.archive.future_reaches);
+              under_way = refl;
+              limits = limits;
+            };
+            spare = λ e. subst (λ n. 1 ≤ n) (sym u.spare) (s.spare e);
+          }
+
+  pub undone_is : (old : Archive) → way_of way ≡ None → take 1 history.past ≡ was ∷ [] → IsUndone history after is → new ≡ doc_of doc was → doc_of new is ≡ doc → reach_in is ≡ reach_in was → archive_of doc history way room ≡ old → archive_of new after way room ≡ undone old.past old
+  undone_is old free first u made back same view = no_way way free (λ e. ap (λ v. archive_of new after v room) e ∙ made_is ∙ ap (λ (a : Archive). undone a.past a) (ap (λ v. archive_of doc history v room) (sym e) ∙ view))
+    where
+      made_is : archive_of new after None room ≡ undone (laid doc history.past) (archive_of doc history None room)
+      made_is = (λ i. record { past = (ap (laid new) u.past ∙ ap (λ d. laid d (drop 1 history.past)) made) i; base = made i; present = made i; future = (ap (laid new) u.future ∙ laid_back doc new was is history.future back same) i; way = None; room = room })
+          ∙ ap (λ es. undone (laid doc es) (archive_of doc history None room)) (sym (first_is history.past was first))
+
+  -- the next of the future has become the document
+  pub redo_kept : way_of way ≡ None → take 1 history.future ≡ was ∷ [] → IsRedone history after is → new ≡ doc_of doc was → doc_of new is ≡ doc → reach_in is ≡ reach_in was → IsDocument new → IsKept doc history way room → IsKept new after way room
+  redo_kept free first u made back same limits k = no_way way free (λ e. subst (λ v. IsKept new after v room) (sym e) (go (subst (λ v. IsKept doc history v room) e k)))
+    where
+      go : IsKept doc history None room → IsKept new after None room
+      go s =
+          let r : FutureReaches doc (laid doc (was ∷ drop 1 history.future)) = subst (λ es. FutureReaches doc (laid doc es)) (first_is history.future was first) s.archive.future_reaches in
+          record {
+            archive = record {
+              past_reaches = subst (λ es. PastReaches es new) (sym (ap (laid new) u.past ∙ laid_back doc new was is history.past back same)) (subst (λ d. Reaches (reach_in was) doc d) (sym made) r.0, s.archive.past_reaches);
+              future_reaches = subst (λ es. FutureReaches new (laid new es)) (sym u.future) (subst (λ d. FutureReaches d (laid d (drop 1 history.future))) (sym made) r.1);
+              under_way = refl;
+              limits = limits;
+            };
+            spare = λ e. subst (λ n. 1 ≤ n) (sym u.spare) (s.spare e);
+          }
+
+  pub redone_is : (old : Archive) → way_of way ≡ None → take 1 history.future ≡ was ∷ [] → IsRedone history after is → new ≡ doc_of doc was → doc_of new is ≡ doc → reach_in is ≡ reach_in was → archive_of doc history way room ≡ old → archive_of new after way room ≡ redone old.future old
+  redone_is old free first u made back same view = no_way way free (λ e. ap (λ v. archive_of new after v room) e ∙ made_is ∙ ap (λ (a : Archive). redone a.future a) (ap (λ v. archive_of doc history v room) (sym e) ∙ view))
+    where
+      made_is : archive_of new after None room ≡ redone (laid doc history.future) (archive_of doc history None room)
+      made_is = (λ i. record { past = (ap (laid new) u.past ∙ laid_back doc new was is history.past back same) i; base = made i; present = made i; future = (ap (laid new) u.future ∙ ap (λ d. laid d (drop 1 history.future)) made) i; way = None; room = room })
+          ∙ ap (λ es. redone (laid doc es) (archive_of doc history None room)) (sym (first_is history.future was first))
+
+pub shot_told : (r : Result Sight NoMemory) (d : Sheet) (rects : List Area) (l : Layer) → l ≡ layer_of d → IfOk r (λ s. s.default_pixel ≡ d.default_pixel) → IfOk r (λ s. s.rects ≡ rects)
+    → IfOk r (λ s. (p : Point) → any_holds rects p ≡ true → sight_at s p ≡ sheet_at d p) → IfOk r (λ s. paints.layer_of s ≡ shot_of rects l)
+shot_told (Ok s) d rects l e default rects_are pixels = shot_is s d rects default rects_are pixels ∙ ap (shot_of rects) (sym e)
+shot_told (Err x) d rects l e default rects_are pixels = tt

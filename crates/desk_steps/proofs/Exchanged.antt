@@ -1,0 +1,60 @@
+-- Entries that are laid on documents.
+use Rattle.std.proofs.Common.{◌≡◌, ℕ, zero, suc, true, false, Some, is_some, List, [], ◌∷◌, take, refl, sym, ap, ◌∙◌, eqb, ◌||◌}
+use Rattle.std.specs.FinSet.{FinSet}
+use Rattle.geom_core.specs.Grid.{key_cmp}
+use Rattle.geom_core.specs.declared.Touched.{Touched}
+use Rattle.doc_model.specs.Layers.{Layer}
+use Rattle.doc_model.specs.Forest.{Forest, has, content, with_content, parent}
+use Rattle.doc_model.specs.Changes.{there}
+use Rattle.doc_model.specs.Picture.{Doc}
+use Rattle.doc_model.proofs.Contents.{content-with_content}
+use Rattle.doc_model.proofs.SameContent.{content_has}
+use Rattle.machine_model.specs.State.{Reach, Part}
+use Rattle.machine_model.specs.Reached.{Reaches, PastReaches}
+use Rattle.paint_device.specs.Seen.{layer_of}
+use Rattle.desk_steps.specs.declared.reach.Reach.TheVariants as tells
+use Rattle.desk_steps.specs.declared.entry.Entry.{Entry}
+use Rattle.desk_steps.specs.declared.entry.Entry.TheVariants as entry
+use Rattle.desk_steps.specs.Archives.{HasTouched, TellsReach, shape}
+use Rattle.desk_steps.specs.Entries.{doc_of, reach_in, FitsOn, laid}
+use Rattle.desk_steps.proofs.Filled.{has_each, parent_each}
+use Rattle.desk_steps.proofs.Devices.{some_is, false-true}
+
+-- a layer of a document stands in its tree
+pub stands : (id : ℕ) (doc : Doc) (t : Forest (Unit {0})) → t ≡ shape doc → is_some (content id doc) ≡ true → has id t ≡ false → ⊥
+stands id doc t e is absent =
+    let c = some_is (content id doc) is in
+    false-true (sym absent ∙ ap (has id) e ∙ has_each (λ id layer. tt) id doc ∙ content_has id c.0 doc c.1)
+
+pub there_shape : (id : ℕ) (doc : Doc) (t : Forest (Unit {0})) → t ≡ shape doc → there id t ≡ there id doc
+there_shape id doc t e = ap (there id) e ∙ ap (λ b. eqb id 0 || b) (has_each (λ id layer. tt) id doc)
+
+pub told_part : (id : ℕ) (keys : FinSet key_cmp) (doc : Doc) (t : Forest (Unit {0})) (g : ℕ) (touched : Touched) → t ≡ shape doc → Some g ≡ parent id 0 t → HasTouched keys touched → TellsReach (Part id keys) doc (tells.Part g touched)
+told_part id keys doc t g touched e p h = (g, touched, refl, sym (p ∙ ap (parent id 0) e ∙ parent_each (λ id layer. tt) id 0 doc), h)
+
+-- the other content is there
+pub still_there : (id : ℕ) (x : Layer) (old new : Doc) → new ≡ with_content id x old → is_some (content id old) ≡ true → is_some (content id new) ≡ true
+still_there id x old new e is = let c = some_is (content id old) is in ap (λ d. is_some (content id d)) e ∙ ap is_some (content-with_content id x c.0 old c.1)
+
+-- a reach between two documents lets the entry be laid on either
+pub fits_new : (now : Doc) (e : Entry) → Reaches (reach_in e) (doc_of now e) now → FitsOn now e
+fits_new now (entry.Whole doc) r = tt
+fits_new now (entry.Layer id keys device) r = ap (λ d. is_some (content id d)) r.changed ∙ ap is_some (content-with_content id r.after r.before (with_content id (layer_of device) now) r.was)
+
+pub fits_old : (now : Doc) (e : Entry) → Reaches (reach_in e) now (doc_of now e) → FitsOn now e
+fits_old now (entry.Whole doc) r = tt
+fits_old now (entry.Layer id keys device) r = ap is_some r.was
+
+-- an entry that gives back the old document is its neighbour
+pub laid_back : (old new : Doc) (was is : Entry) (es : List Entry) → doc_of new is ≡ old → reach_in is ≡ reach_in was → laid new (is ∷ es) ≡ (old, reach_in was) ∷ laid old es
+laid_back old new was is es e r = λ i. (e i, r i) ∷ laid (e i) es
+
+pub laid_take : (n : ℕ) (now : Doc) (es : List Entry) → laid now (take n es) ≡ take n (laid now es)
+laid_take zero now es = refl
+laid_take (suc n) now [] = refl
+laid_take (suc n) now (e ∷ es) = ap (λ r. (doc_of now e, reach_in e) ∷ r) (laid_take n (doc_of now e) es)
+
+pub past_take : (n : ℕ) (past : List (Doc × Reach)) (now : Doc) → PastReaches past now → PastReaches (take n past) now
+past_take zero past now h = tt
+past_take (suc n) [] now h = tt
+past_take (suc n) (e ∷ past) now h = (h.0, past_take n past e.0 h.1)

@@ -1,0 +1,146 @@
+-- What was painted of a tile, laid on the tile.
+use Rattle.std.proofs.Common.{◌≡◌, ℕ, suc, zero, ◌+◌, Bool, true, false, ◌&&◌, ◌||◌, cond, Some, None, List, [], ◌∷◌, length, take, is_some, refl, sym, ap, ◌∙◌, subst, arith, inl, inr, map, replicate}
+use Rattle.std.specs.Prelude.{All, slice_get}
+use Rattle.std.specs.FinMap as fin
+use Rattle.std.proofs.lemmas.Option.{slice_get_cases}
+use Rattle.std.proofs.Math.Seq.{take-length}
+use Rattle.pixel_core.specs.Rgba.{Rgba}
+use Rattle.geom_core.specs.Points.{Point}
+use Rattle.geom_core.specs.Areas.{holds, any_holds}
+use Rattle.geom_core.specs.Grid.{Key, key_of, same_key, tile, key_cmp_total}
+use Rattle.geom_core.proofs.Tests.{taken, kept}
+use Rattle.geom_core.proofs.Tiles.{own_tile, key_same, key_is}
+use Rattle.tile_core.specs.Pixels.{Pixels, pixel_at, pixel_or}
+use Rattle.tile_core.specs.Blocks.{Piece, piece_at, LaysBlock}
+use Rattle.memento_core.specs.Planes.{tile_under}
+use Rattle.doc_model.specs.Layers.{Layer, at, at-painted, default-painted, layer_ext}
+use Rattle.doc_model.specs.Jobs.{writes, apply, published, in_tile}
+use Rattle.job_core.specs.Paints as paints
+use Rattle.job_core.specs.Paints.{Paint, IsPainted, HasValue}
+use Rattle.paint_device.specs.Seen.{layer_of}
+use Rattle.paint_device.specs.Sheets.{Sheet, sheet_at, with_under, readied}
+use Rattle.paint_device.proofs.Shown.{at-layer_of, default-layer_of}
+use Rattle.paint_device.proofs.Writes.{pixel_or-tile_or, seen_after_exchange, ready_keeps_pixels}
+
+-- where no tile stands, a plain one has the same pixels
+pub plain_at : (s : Sheet) (k : Key) (p : Point) → in_tile k p ≡ true → tile_under s.tiles k ≡ None → pixel_at (replicate 4096 s.default_pixel) p ≡ sheet_at s p
+plain_at s k p h none = sym (pixel_or-tile_or None s.default_pixel p) ∙ ap (λ o. pixel_or o s.default_pixel p) (sym none ∙ ap (tile_under s.tiles) (sym (key_same (key_of p) k h)))
+
+-- and the tile that stands there has them
+pub tile_at : (s : Sheet) (k : Key) (t : Pixels) (p : Point) → in_tile k p ≡ true → Some t ≡ tile_under s.tiles k → pixel_at t p ≡ sheet_at s p
+tile_at s k t p h there = ap (λ o. pixel_or o s.default_pixel p) (there ∙ ap (tile_under s.tiles) (sym (key_same (key_of p) k h)))
+
+-- what the job makes of the shot
+abbrev pub made : Paint → Point → Rgba
+made w p = at (apply w.job (paints.layer_of w.shot)) p
+
+some_same : {A : Type 0} (x y : A) → Some x ≡ Some y → x ≡ y
+some_same x y e = cc
+
+some_none : {A : Type 0} (x : A) → Some x ≡ None → ⊥
+some_none x e = cc
+
+-- these blocks are laid
+pub LaidSoFar : Paint → Sheet → Pixels → List Piece → Type 0
+LaidSoFar w s t bs = (p : Point) → in_tile w.key p ≡ true → pixel_at t p ≡ cond (any_holds (map (λ (b : Piece). b.rect) bs) p) (made w p) (sheet_at s p)
+
+pub none_laid : (w : Paint) (s : Sheet) (t : Pixels) (k : Key) → k ≡ w.key → ((p : Point) → in_tile k p ≡ true → pixel_at t p ≡ sheet_at s p) → LaidSoFar w s t (take 0 w.blocks)
+unfolding LaidSoFar
+none_laid w s t k e same p h = same p (ap (λ m. in_tile m p) e ∙ h)
+
+or_end : (a : Bool) → a ≡ (a || false)
+or_end true = refl
+or_end false = refl
+
+or_again : (a b c : Bool) → (a || (b || c)) ≡ ((a || b) || c)
+or_again true b c = refl
+or_again false b c = refl
+
+more_held : (bs : List Piece) (i : ℕ) (b : Piece) (p : Point) → Some b ≡ slice_get bs i → any_holds (map (λ (b : Piece). b.rect) (take (suc i) bs)) p ≡ (any_holds (map (λ (b : Piece). b.rect) (take i bs)) p || holds b.rect p)
+more_held [] i b p e = absurd (some_none b e)
+more_held (x ∷ bs) zero b p e = ap (λ (c : Piece). holds c.rect p || false) (some_same x b (sym e)) ∙ sym (or_end (holds b.rect p))
+more_held (x ∷ bs) (suc i) b p e = ap (λ h. holds x.rect p || h) (more_held bs i b p e) ∙ or_again (holds x.rect p) _ (holds b.rect p)
+
+value_at : (w : Paint) (bs : List Piece) (i : ℕ) (b : Piece) → All (HasValue w.job w.shot w.key) bs → Some b ≡ slice_get bs i → HasValue w.job w.shot w.key b
+value_at w bs i b all e = elim (slice_get_cases bs i).1 [
+  | inl f ↦ subst (HasValue w.job w.shot w.key) (f.3 ∙ some_same f.0 b (sym f.2 ∙ sym e)) (all i f.0 f.1)
+  | inr f ↦ absurd (some_none b (e ∙ f.1))
+]
+
+-- one block more
+pub one_laid : (w : Paint) (s : Sheet) (t new : Pixels) (i : ℕ) (b : Piece) → IsPainted w → Some b ≡ slice_get w.blocks i → LaysBlock t new b → LaidSoFar w s t (take i w.blocks) → LaidSoFar w s new (take (i + 1) w.blocks)
+unfolding LaidSoFar
+one_laid w s t new i b is e lays so p h =
+    let v : HasValue w.job w.shot w.key b = value_at w w.blocks i b is.values e in
+    let inside : holds (tile b.key) p ≡ true = ap (λ k. holds (tile k) p) (v.key_is ∙ sym (key_same (key_of p) w.key h)) ∙ own_tile p in
+    lays p inside ∙ go (holds b.rect p) refl v.value_is
+    ∙ ap (λ c. cond c (made w p) (sheet_at s p)) (sym (more_held w.blocks i b p e)) ∙ ap (λ n. cond (any_holds (map (λ (b : Piece). b.rect) (take n w.blocks)) p) (made w p) (sheet_at s p)) (next i)
+  where
+    next : (i : ℕ) → suc i ≡ i + 1
+    next i = omega arith
+
+    or_true : (a : Bool) → true ≡ (a || true)
+    or_true true = refl
+    or_true false = refl
+
+    go : (c : Bool) → holds b.rect p ≡ c → ((p : Point) → holds b.rect p ≡ true → piece_at b p ≡ made w p)
+        → cond c (piece_at b p) (pixel_at t p) ≡ cond (any_holds (map (λ (b : Piece). b.rect) (take i w.blocks)) p || holds b.rect p) (made w p) (sheet_at s p)
+    go true held value = value p held ∙ ap (λ c. cond c (made w p) (sheet_at s p)) (or_true (any_holds (map (λ (b : Piece). b.rect) (take i w.blocks)) p) ∙ ap (λ c. any_holds (map (λ (b : Piece). b.rect) (take i w.blocks)) p || c) (sym held))
+    go false held value = so p h ∙ ap (λ c. cond c (made w p) (sheet_at s p)) (or_end (any_holds (map (λ (b : Piece). b.rect) (take i w.blocks)) p) ∙ ap (λ c. any_holds (map (λ (b : Piece). b.rect) (take i w.blocks)) p || c) (sym held))
+
+-- the tile with all of the blocks
+abbrev pub IsLaid : Paint → Sheet → Pixels → Type 0
+IsLaid w s t = (p : Point) → in_tile w.key p ≡ true → pixel_at t p ≡ cond (any_holds (writes w.job) p) (made w p) (sheet_at s p)
+
+pub all_laid : (w : Paint) (s : Sheet) (t : Pixels) (n : ℕ) → n ≡ length w.blocks → IsPainted w → LaidSoFar w s t (take n w.blocks) → IsLaid w s t
+unfolding LaidSoFar
+all_laid w s t n e is so p h = so p h ∙ ap (λ bs. cond (any_holds (map (λ (b : Piece). b.rect) bs) p) (made w p) (sheet_at s p)) (ap (λ n. take n w.blocks) e ∙ take-length w.blocks)
+    ∙ ap (λ c. cond c (made w p) (sheet_at s p)) (is.covers p ∙ ap (λ c. any_holds (writes w.job) p && c) h ∙ and_true (any_holds (writes w.job) p))
+  where
+    and_true : (a : Bool) → (a && true) ≡ a
+    and_true true = refl
+    and_true false = refl
+
+pub ready_there : (s : Sheet) (k : Key) → fin.contains_key (readied s k).tiles k ≡ true
+ready_there s k = go (fin.contains_key s.tiles k) refl
+  where
+    go : (b : Bool) → fin.contains_key s.tiles k ≡ b → fin.contains_key (cond b s (with_under s k None)).tiles k ≡ true
+    go true e = e
+    go false e = ap is_some (fin.get-insert key_cmp_total s.tiles k None k ∙ taken (same_key k k) (Some None) _ (key_is k k refl))
+
+ready_default : (s : Sheet) (k : Key) → (readied s k).default_pixel ≡ s.default_pixel
+ready_default s k = go (fin.contains_key s.tiles k)
+  where
+    go : (b : Bool) → (cond b s (with_under s k None)).default_pixel ≡ s.default_pixel
+    go true = refl
+    go false = refl
+
+-- a key that comes in changes no pixel of the layer
+pub ready_layer : (s : Sheet) (k : Key) → layer_of (readied s k) ≡ layer_of s
+ready_layer s k = layer_ext _ _ (default-layer_of (readied s k) ∙ ready_default s k ∙ sym (default-layer_of s)) (λ p. at-layer_of (readied s k) p ∙ ready_keeps_pixels s k p ∙ sym (at-layer_of s p))
+
+pub default_published : (w : Paint) (l : Layer) → (published w.job (paints.layer_of w.shot) w.key l).default_pixel ≡ l.default_pixel
+unfolding published
+default_published w l = default-painted _ _ _ l
+
+pub at_published : (w : Paint) (l : Layer) (p : Point) → at (published w.job (paints.layer_of w.shot) w.key l) p ≡ cond (any_holds (writes w.job) p && in_tile w.key p) (made w p) (at l p)
+unfolding published
+at_published w l p = at-painted _ _ _ l p
+
+-- with that tile the layer has what was painted
+pub laid_layer : (w : Paint) (s : Sheet) (t : Pixels) → IsLaid w s t → layer_of (with_under (readied s w.key) w.key (Some t)) ≡ published w.job (paints.layer_of w.shot) w.key (layer_of s)
+laid_layer w s t is = layer_ext _ _
+    (default-layer_of (with_under (readied s w.key) w.key (Some t)) ∙ ready_default s w.key ∙ sym (default_published w (layer_of s) ∙ default-layer_of s))
+    (λ p. at-layer_of (with_under (readied s w.key) w.key (Some t)) p ∙ seen_after_exchange (readied s w.key) w.key (Some t) p ∙ go p (in_tile w.key p) refl ∙ sym (at_published w (layer_of s) p ∙ ap (cond _ (made w p)) (at-layer_of s p)))
+  where
+    and_true : (a : Bool) → a ≡ (a && true)
+    and_true true = refl
+    and_true false = refl
+
+    and_false : (a : Bool) → false ≡ (a && false)
+    and_false true = refl
+    and_false false = refl
+
+    go : (p : Point) (b : Bool) → in_tile w.key p ≡ b → cond (in_tile w.key p) (pixel_at t p) (sheet_at (readied s w.key) p) ≡ cond (any_holds (writes w.job) p && in_tile w.key p) (made w p) (sheet_at s p)
+    go p true h = taken (in_tile w.key p) _ _ h ∙ is p h ∙ ap (λ c. cond c (made w p) (sheet_at s p)) (and_true (any_holds (writes w.job) p) ∙ ap (λ c. any_holds (writes w.job) p && c) (sym h))
+    go p false h = kept (in_tile w.key p) _ _ h ∙ ready_keeps_pixels s w.key p ∙ ap (λ c. cond c (made w p) (sheet_at s p)) (and_false (any_holds (writes w.job) p) ∙ ap (λ c. any_holds (writes w.job) p && c) (sym h))

@@ -1,0 +1,14 @@
+use Rattle.std.proofs.Common.{◌≡◌, true, false, ◌&&◌, not, ap, sym, ◌∙◌}
+use Rattle.doc_model.specs.Changes.{there, takes}
+use Rattle.desk_steps.proofs.Devices.{paints_is}
+use Rattle.desk_steps.proofs.document.is_paint.Goals as goal
+
+pub returns-then-has : goal.returns-then-has
+returns-then-has c =
+    let there_is : true ≡ there c.args.id c.args.tree.now = sym c.if-has.true ∙ c.has.ensures in
+    ap not c.is_group.ensures ∙ ap (λ b. b && not (takes c.args.id c.args.tree.now)) there_is ∙ paints_is c.args.id c.args.tree.now c.node_count-count.ensures.limits.tree
+
+pub returns-else-has : goal.returns-else-has
+returns-else-has c =
+    let absent : false ≡ there c.args.id c.args.tree.now = sym c.if-has.false ∙ c.has.ensures in
+    c.if-has.false ∙ ap (λ b. b && not (takes c.args.id c.args.tree.now)) absent ∙ paints_is c.args.id c.args.tree.now c.node_count-count.ensures.limits.tree
