@@ -17,7 +17,7 @@ use Rattle.doc_model.specs.declared.job.Job.TheVariants.{Blur}
 use Rattle.doc_model.specs.Jobs.{grown, square, mean}
 use Rattle.doc_model.specs.Lawful.{of_limits}
 use Rattle.doc_model.specs.Layers.{at}
-use Rattle.blur_core.specs.Blurs.{blurred}
+use Rattle.blur_core.specs.Blur.{blurred}
 use Rattle.job_core.specs.Paints.{paint, layer_of, IsPainted}
 use Rattle.job_core.specs.Due.{IsDue}
 use Rattle.job_core.specs.Made.{IsBlock}
