@@ -1,0 +1,5 @@
+pub mod Points
+pub mod Layered
+pub mod Filling
+pub mod Pictured
+pub mod Entries

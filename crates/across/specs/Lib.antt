@@ -1,0 +1,4 @@
+pub mod Steps
+pub mod Means
+pub mod Documents
+pub mod Tellings

@@ -1,5 +1,17 @@
-//! Tests that take several crates together. It has no code of its own.
+//! Scripts through several crates: what they mean, told plainly from the definitions, small scripts
+//! drawn by chance, and tests that compare the engine with it.
 #![tactic(auto)]
 
+mod document;
+mod drawn;
+mod layer;
+mod mean;
+mod picture;
+mod plain;
+mod spots;
+mod telling;
 #[cfg(test)]
 mod tests;
+
+pub use drawn::drawn_script;
+pub use plain::{Told, plain_frames};

@@ -86,7 +86,7 @@ laid_goes old new e c r h o k g = if_goes (λ story. laid_stroke story (as_strok
     (λ story. sym (told_whole old.canvas story e c h ∙ ap (told_stroke story (as_stroke c)) o ∙ ap (λ b. closed_stroke story (record (as_stroke c) { fate = fate_of b }) (fate_of b)) k))
     (g (as_stroke c) refl refl)
 
-absent : (id : ℕ) (doc : Doc) → there id doc ≡ false → content id doc ≡ None
+pub absent : (id : ℕ) (doc : Doc) → there id doc ≡ false → content id doc ≡ None
 absent id doc h = go (content id doc) refl
   where
     go : (o : Option Layer) → content id doc ≡ o → o ≡ None
@@ -164,7 +164,7 @@ purge_goes s keep new r e = subst (λ a. Ends (doc.Purges keep) s (record s { st
   story = λ outcomes i. record (story_of s (outcomes ++ outcome.Done ∷ [])) { past = docs_take keep s.store.past i };
 })
 
-told_all-last : (canvas : Canvas) (s : Story) (es : List doc.Entry) (e : doc.Entry) → told_all canvas s (es ++ e ∷ []) ≡ told canvas (told_all canvas s es) e
+pub told_all-last : (canvas : Canvas) (s : Story) (es : List doc.Entry) (e : doc.Entry) → told_all canvas s (es ++ e ∷ []) ≡ told canvas (told_all canvas s es) e
 told_all-last canvas s [] e = refl
 told_all-last canvas s (x ∷ es) e = told_all-last canvas (told canvas s x) es e
 
@@ -180,17 +180,17 @@ next_left (e ∷ es) zero x h = record { entry = e; at = refl; is = (let same : 
 next_left [] (suc n) x h = cc
 next_left (e ∷ es) (suc n) x h = let more : IsNext es n x = next_left es n x h in record { entry = more.entry; at = more.at; is = more.is }
 
-closed_at : (es : List doc.Entry) (n : ℕ) (e : doc.Entry) → slice_get es n ≡ Some e → list_all is_closed_entry es ≡ true → is_closed_entry e ≡ true
+pub closed_at : (es : List doc.Entry) (n : ℕ) (e : doc.Entry) → slice_get es n ≡ Some e → list_all is_closed_entry es ≡ true → is_closed_entry e ≡ true
 closed_at [] n e h all = cc
 closed_at (x ∷ es) zero e h all = let same : x ≡ e = cc in ap is_closed_entry (sym same) ∙ and_left (is_closed_entry x) _ all
 closed_at (x ∷ es) (suc n) e h all = closed_at es n e h (and_right (is_closed_entry x) _ all)
 
-fits_at : (es : List doc.Entry) (n : ℕ) (e : doc.Entry) → slice_get es n ≡ Some e → AllByRecursion Fits es → Fits e
+pub fits_at : (es : List doc.Entry) (n : ℕ) (e : doc.Entry) → slice_get es n ≡ Some e → AllByRecursion Fits es → Fits e
 fits_at [] n e h all = cc
 fits_at (x ∷ es) zero e h all = let same : x ≡ e = cc in subst Fits same all.0
 fits_at (x ∷ es) (suc n) e h all = fits_at es n e h all.1
 
-queued_fits : (e : doc.Entry) → Fits e → fits (queued e) ≡ true
+pub queued_fits : (e : doc.Entry) → Fits e → fits (queued e) ≡ true
 queued_fits (doc.Strokes s) h = go s.fate
   where
     go : (f : Fate) → fits (stroke_of f (kept_of s)) ≡ true
@@ -249,7 +249,7 @@ document_right commands s q h =
     let each : EachDoc (IsDocument {A = Layer}) (meaning s.canvas (take (length q.outcomes) (entries commands))) = meaning_keeps_limits s.canvas (take (length q.outcomes) (entries commands)) in
     subst (λ (t : Story). IsDocument t.document) (sym h.story) each.document
 
-length_last : {A : Type 0} (xs : List A) (x : A) → length (xs ++ x ∷ []) ≡ length xs + 1
+pub length_last : {A : Type 0} (xs : List A) (x : A) → length (xs ++ x ∷ []) ≡ length xs + 1
 length_last [] x = refl
 length_last (y ∷ xs) x = let h : length (xs ++ x ∷ []) ≡ length xs + 1 = length_last xs x in omega arith
 
@@ -271,7 +271,7 @@ come_further commands old new q r x o h e ends outcomes stands =
           ∙ ap (λ c. meaning c (take (length r.outcomes) (entries commands))) (sym on.canvas);
     }
 
-none_left_over : (n : ℕ) (es : List doc.Entry) → map queued (drop n es) ≡ [] → take n es ≡ es
+pub none_left_over : (n : ℕ) (es : List doc.Entry) → map queued (drop n es) ≡ [] → take n es ≡ es
 none_left_over zero [] h = refl
 none_left_over zero (e ∷ es) h = cc
 none_left_over (suc n) [] h = refl

@@ -1,0 +1,41 @@
+-- What is told of a document that is told entry by entry.
+use Rattle.std.specs.Prelude.{◌≡◌, ℕ, List, [], ◌∷◌, ◌++◌, map, take, length}
+use Rattle.doc_model.specs.declared.canvas.Canvas.{Canvas}
+use Rattle.doc_model.specs.declared.command.Command.{Command}
+use Rattle.doc_model.specs.declared.command.Outcome.{Outcome}
+use Rattle.doc_model.specs.Strokes as doc
+use Rattle.doc_model.specs.Strokes.{entries}
+use Rattle.doc_model.specs.Meaning.{Story, told, meaning}
+use Rattle.entry_queue.specs.Pushed.{Pending, StandsFor}
+use Rattle.script_text.specs.Script.{Contents}
+use Rattle.std.specs.Global.{Vec}
+use Rattle.across.specs.declared.telling.Telling.{Telling}
+
+-- the story that the documents, the frames and these outcomes tell
+abbrev pub story_of : Telling → List Outcome → Story
+story_of s outcomes = record {
+  past = s.past.items;
+  document = s.document;
+  future = s.future.items;
+  frames = map (λ (f : Vec (List ℕ)). f.items) s.frames.items;
+  outcomes = outcomes;
+}
+
+-- an entry ended with that outcome, and the story went on as told
+pub record GoesOn (next : Story → Story) (old new : Telling) (o : Outcome) : Type 0 where
+  pub canvas : new.canvas ≡ old.canvas
+  pub story : (outcomes : List Outcome) → story_of new (outcomes ++ o ∷ []) ≡ next (story_of old outcomes)
+
+-- it went on as the entry means
+abbrev pub Ends : doc.Entry → Telling → Telling → Outcome → Type 0
+Ends e old new o = GoesOn (λ s. told old.canvas s e) old new o
+
+-- the entries with an outcome were told one after another from an empty document, and the others wait in the queue
+pub record HasCome (commands : List Command) (s : Telling) (q : Pending) : Type 0 where
+  pub queue : StandsFor commands q
+  pub story : story_of s q.outcomes ≡ meaning s.canvas (take (length q.outcomes) (entries commands))
+
+-- the frames and the outcomes are those that the script means
+pub record Tells (script : Contents) (frames : List (Vec (List ℕ))) (outcomes : List Outcome) : Type 0 where
+  pub frames_are : map (λ (f : Vec (List ℕ)). f.items) frames ≡ (meaning script.canvas (entries script.commands)).frames
+  pub outcomes_are : outcomes ≡ (meaning script.canvas (entries script.commands)).outcomes
