@@ -15,8 +15,11 @@ struct Row {
 }
 
 const WHITE: [u8; 3] = [255, 255, 255];
+
 const RED: [u8; 3] = [255, 0, 0];
+
 const GREEN: [u8; 3] = [0, 255, 0];
+
 const BLUE: [u8; 3] = [0, 0, 255];
 
 const ROWS: [Row; 14] = [
