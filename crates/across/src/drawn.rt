@@ -72,6 +72,15 @@ impl Draws {
         self.below(8) as u16 + 1
     }
 
+    /// A layer of the tree, at times another node or none.
+    fn layer(&mut self) -> u16 {
+        if self.once_in(10) {
+            self.id()
+        } else {
+            self.below(4) as u16 + 3
+        }
+    }
+
     /// A place among few children.
     fn place(&mut self) -> u8 {
         self.below(3) as u8
@@ -115,7 +124,7 @@ impl Draws {
 
     /// A rectangle near the canvas.
     fn rect(&mut self) -> Option<Rect> {
-        let w = self.below(12) + 1;
+        let w = self.below(24) + 1;
         let h = self.below(4) + 1;
         Rect::new(self.column(), self.row(), w, h).ok()
     }
@@ -270,7 +279,7 @@ fn add_block(commands: &mut Vec<Command>, draws: &mut Draws, no: u32) -> Result<
             },
         ),
         4 => add_last(commands, Command::Export),
-        5 => add_last(commands, Command::Change(draws.change())),
+        5 => add_last(commands, Command::Export),
         6 => add_last(commands, Command::Change(draws.change())),
         _ => add_stroke(commands, draws, no),
     }
@@ -280,7 +289,7 @@ fn add_block(commands: &mut Vec<Command>, draws: &mut Draws, no: u32) -> Result<
 fn add_stroke(commands: &mut Vec<Command>, draws: &mut Draws, no: u32) -> Result<(), NoMemory> {
     let opened = Command::Stroke {
         no,
-        layer: draws.below(6) as u16 + 2,
+        layer: draws.layer(),
         exclusive: draws.once_in(4),
     };
     add_last(commands, opened)?;

@@ -11,7 +11,7 @@ use stroke_core::OpenStroke;
 use tile_core::Frame;
 
 /// How many drawn scripts are painted.
-const SEEDS: u64 = 20;
+const SEEDS: u64 = 60;
 
 /// A stroke painted, undone and redone, with an export after each.
 const THERE_AND_BACK: &[u8] =
