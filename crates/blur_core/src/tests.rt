@@ -28,23 +28,19 @@ fn red_dot(alloc: Global, part: Rect) -> Result<Shot, NoMemory> {
 fn a_red_dot(rt: HostRuntime) -> Result<(), Fail> {
     let alloc = rt.alloc();
     let ninth = Pixel::new(255, 0, 0, 28);
-    let part_of_25 = Pixel::new(255, 0, 0, 10);
-    for (r, x, y, want) in [
-        (1, 0, 0, ninth),
-        (1, 1, 0, ninth),
-        (1, 2, 0, ninth),
-        (1, 3, 0, Pixel::CLEAR),
-        (1, 0, 1, ninth),
-        (1, 1, 2, Pixel::CLEAR),
-        (2, 3, 2, part_of_25),
-        (2, 4, 0, Pixel::CLEAR),
-        (16, 1, 0, Pixel::CLEAR),
-    ] {
-        let part = Rect::new(0, 0, 5, 3).expect(&rt, "a rectangle of the world");
-        let block = blur_block(alloc, &red_dot(alloc, part)?, ORIGIN, &part, r)?;
-        crosses(&block);
-        assert_eq!(rt; block.at(x, y), want);
-    }
+    let part = Rect::new(0, 0, 5, 3).expect(&rt, "a rectangle of the world");
+    let shot = red_dot(alloc, part)?;
+    let block = blur_block(alloc, &shot, ORIGIN, &part, 1)?;
+    crosses(&block);
+    assert_eq!(rt; block.at(0, 0), ninth);
+    assert_eq!(rt; block.at(2, 1), ninth);
+    assert_eq!(rt; block.at(3, 0), Pixel::CLEAR);
+    assert_eq!(rt; block.at(1, 2), Pixel::CLEAR);
+    let block = blur_block(alloc, &shot, ORIGIN, &part, 2)?;
+    assert_eq!(rt; block.at(3, 2), Pixel::new(255, 0, 0, 10));
+    assert_eq!(rt; block.at(4, 0), Pixel::CLEAR);
+    let block = blur_block(alloc, &shot, ORIGIN, &part, 16)?;
+    assert_eq!(rt; block.at(1, 0), Pixel::CLEAR);
     Ok(())
 }
 

@@ -154,8 +154,11 @@ fn first_row(frame: &Frame, colours: &mut Vec<[u8; 3]>) -> Result<(), Fail> {
     Ok(())
 }
 
-/// The colours of the first row of each frame, and the outcomes.
+/// The colours of the first row of each frame, and the outcomes, of a script of up to 4,096 bytes.
 fn painted(alloc: Global, bytes: &[u8]) -> Result<(Vec<[u8; 3]>, Vec<Outcome>), Fail> {
+    if bytes.len() > 4096 {
+        return Err("too long".into());
+    }
     let Ok(script) = read(alloc, bytes) else {
         return Err("not a script".into());
     };
