@@ -48,6 +48,7 @@ pub fn compose(op: Op, s: Pixel, d: Pixel, m: u8) -> Pixel
 }
 
 /// `s` laid on `d` with the alpha `sa` in place of its own, by an operation other than `Erase`.
+#[inline]
 fn lay(op: Op, s: Pixel, d: Pixel, sa: u8) -> Pixel
     requires { 0 < sa }
     ensures { result ≡ laid op s d sa }
@@ -61,6 +62,7 @@ fn lay(op: Op, s: Pixel, d: Pixel, sa: u8) -> Pixel
     }
 }
 
+#[inline]
 fn lay_on_opaque(op: Op, s: Pixel, d: Pixel, sa: u8) -> Pixel
     requires opaque { d.a ≡ 255 }
     ensures { result ≡ laid op s d sa }
@@ -71,6 +73,7 @@ fn lay_on_opaque(op: Op, s: Pixel, d: Pixel, sa: u8) -> Pixel
     Pixel::new(r, g, b, 255)
 }
 
+#[inline]
 fn lay_on_any(op: Op, s: Pixel, d: Pixel, sa: u8) -> Pixel
     requires { 0 < sa }
     ensures { result ≡ laid op s d sa }
@@ -84,6 +87,7 @@ fn lay_on_any(op: Op, s: Pixel, d: Pixel, sa: u8) -> Pixel
 }
 
 /// 255 * 255 times the result's alpha as a fraction of 1.
+#[inline]
 fn weight_of(sa: u8, da: u8) -> u32
     ensures value { result ≡ weight sa da }
     ensures small { result ≤ 65025 }
@@ -92,6 +96,7 @@ fn weight_of(sa: u8, da: u8) -> u32
 }
 
 /// What is laid where both cover, for one channel.
+#[inline]
 fn blend_of(op: Op, s: u8, d: u8) -> u8
     ensures { result ≡ blend op s d }
 {
@@ -105,6 +110,7 @@ fn blend_of(op: Op, s: u8, d: u8) -> u8
 }
 
 /// One channel of the result on an opaque destination, whose weight is 255 * 255.
+#[inline]
 fn channel_on_opaque(op: Op, sa: u8, s: u8, d: u8) -> u8
     ensures { result ≡ channel op sa 255 s d }
 {
@@ -114,6 +120,7 @@ fn channel_on_opaque(op: Op, sa: u8, s: u8, d: u8) -> u8
 }
 
 /// One channel of the result.
+#[inline]
 fn channel_of(op: Op, sa: u8, da: u8, s: u8, d: u8) -> u8
     requires { 0 < weight sa da }
     ensures { result ≡ channel op sa da s d }
