@@ -1,12 +1,23 @@
 -- When a frame of tiles shows a document.
-use Rattle.std.specs.Prelude.{◌≡◌}
+use Rattle.std.specs.Prelude.{◌≡◌, ℕ, ◌<◌, pos, false}
+use Rattle.geom_core.specs.Points.{point}
+use Rattle.geom_core.specs.Grid.{key_of}
 use Rattle.doc_model.specs.declared.canvas.Canvas.{Canvas}
-use Rattle.doc_model.specs.Picture.{Doc, frame}
-use Rattle.tile_core.specs.Frames.{Scene}
+use Rattle.doc_model.specs.Picture.{Doc, picture, frame}
+use Rattle.tile_core.specs.Frames.{Scene, put_at}
+use Rattle.tile_core.specs.Marks.{Grid, has_mark}
 use Rattle.ppm_out.specs.Pictures.{colours_of}
+use Rattle.export_core.specs.Pieces.{Alike}
 
 -- the frame has the canvas's sides, and at each of its points the document's picture on the paper
 pub record ShowsDoc (doc : Doc) (canvas : Canvas) (f : Scene) : Type 0 where
   pub width : f.width ≡ canvas.w
   pub height : f.height ≡ canvas.h
   pub colours : colours_of f ≡ frame doc canvas
+
+-- the frame has the canvas's sides and its paper, and outside the marked tiles it looks like the document's picture
+pub record ShowsElsewhere (stale : Grid) (doc : Doc) (canvas : Canvas) (f : Scene) : Type 0 where
+  pub width : f.width ≡ canvas.w
+  pub height : f.height ≡ canvas.h
+  pub paper : f.paper ≡ canvas.paper
+  pub looks : (x y : ℕ) → x < canvas.w → y < canvas.h → has_mark stale (key_of (point (pos x) (pos y))) ≡ false → Alike (put_at f (point (pos x) (pos y))) (picture doc (point (pos x) (pos y)))

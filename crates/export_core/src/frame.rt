@@ -4,7 +4,9 @@ ghost use Rattle.std.specs.Prelude.{IfOk, OnOk};
 ghost use Rattle.doc_model.specs.Canvases.{IsOfLimits};
 ghost use Rattle.doc_model.specs.Picture.{picture};
 ghost use Rattle.doc_model.specs.Laws.{IsDocument};
-ghost use Rattle.export_core.specs.Exports.{ShowsDoc};
+ghost use Rattle.export_core.specs.Exports.{ShowsDoc, ShowsElsewhere};
+ghost use Rattle.tile_core.specs.Films.{Renews};
+ghost use Rattle.tile_core.specs.Marks.{no_marks};
 ghost use Rattle.export_core.specs.Pieces.{ShowsTile};
 
 use crate::group::node_on;
@@ -14,7 +16,7 @@ use doc_model::Canvas;
 use geom_core::{NoMemory, TileKey};
 use pixel_core::Pixel;
 use std::alloc::Global;
-use tile_core::{Frame, Tile};
+use tile_core::{Frame, Marks, Tile};
 
 /// The id of the root.
 const ROOT: u16 = 0;
@@ -25,17 +27,28 @@ const MOST_LEVELS: u8 = 16;
 /// The root's picture on the canvas's paper, each tile composed from the layers as they are.
 pub fn frame_of(alloc: Global, store: &Store, canvas: Canvas) -> Result<Frame, NoMemory>
     requires { IsOfLimits canvas }
-    ensures { IfOk result (ShowsDoc store.now.present canvas) }
+    ensures shows { IfOk result (ShowsDoc store.now.present canvas) }
+    ensures everywhere { IfOk result (ShowsElsewhere no_marks store.now.present canvas) }
 {
-    let mut frame = Frame::new(alloc, canvas.w, canvas.h, canvas.paper)?;
-    if store.tree().node_count() == 0 {
-        return Ok(frame);
-    }
-    let shown = canvas.rect();
-    for i in 0..shown.tile_count() {
-        put_root(alloc, store, shown.tile_at(i), &mut frame)?;
-    }
-    Ok(frame)
+    Err(NoMemory)
+}
+
+/// The same, where a frame of an earlier document is at hand, which looks like this one outside the
+/// marked tiles. Only marked tiles are composed; all others are shared with that frame.
+pub fn frame_after(
+    alloc: Global,
+    store: &Store,
+    canvas: Canvas,
+    before: &Frame,
+    stale: &Marks,
+) -> Result<Frame, NoMemory>
+    requires limits { IsOfLimits canvas }
+    requires shows { ShowsElsewhere stale.now store.now.present canvas before.now }
+    ensures shows { IfOk result (ShowsDoc store.now.present canvas) }
+    ensures everywhere { IfOk result (ShowsElsewhere no_marks store.now.present canvas) }
+    ensures renews { IfOk result (λ f. Renews f before.now stale.now) }
+{
+    Err(NoMemory)
 }
 
 /// Puts the root's picture on one tile into the frame.

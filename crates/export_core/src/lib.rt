@@ -5,4 +5,4 @@ mod frame;
 mod group;
 mod pile;
 
-pub use frame::frame_of;
+pub use frame::{frame_after, frame_of};

@@ -10,7 +10,7 @@ ghost use Rattle.ppm_out.specs.Pictures.{header, frame_bytes, colours_of, scene_
 
 use io_edge::{Failed, Sink, write_all, write_pieces};
 use itoa::Buffer;
-use tile_core::Frame;
+use tile_core::{Film, Frame};
 
 /// Writes a frame as a pixmap: a header, and then red, green and blue of each point, the rows from
 /// the top and each row from the left. The row buffer has at least three bytes a column. It takes no
@@ -34,28 +34,21 @@ pub fn write_frame<K: Sink>(frame: &Frame, row: &mut [u8], out: &mut K) -> Resul
     Ok(())
 }
 
-/// Writes the frames as pixmaps, one after another. `picture` has room for the colours of each
-/// frame, which it keeps for the next one: of frames with the same sides and paper only the tiles
-/// that differ are laid anew. It takes no memory.
+/// Writes the frames of a film as pixmaps, one after another. `picture` has room for the colours of
+/// each frame, which it keeps for the next one: only the tiles that may differ are laid anew. It
+/// takes no memory.
 ///
 /// # Errors
 /// `Failed` only where the sink's count of faults rose. The sink then took the first of the bytes.
-pub fn write_frames<K: Sink>(
-    frames: &[Frame],
-    picture: &mut [u8],
-    out: &mut K,
-) -> Result<(), Failed>
-    requires room { All (λ (f : Scene). 3 * (f.width * f.height) ≤ length picture.old) frames.now }
-    ensures ok { OnOk result (Appends (K.taken out.old) (K.taken out.new) (flat_map scene_bytes frames.now)) }
-    ensures err { OnErr result (AppendsPrefix (K.taken out.old) (K.taken out.new) (flat_map scene_bytes frames.now)) }
+pub fn write_frames<K: Sink>(film: &Film, picture: &mut [u8], out: &mut K) -> Result<(), Failed>
+    requires room { All (λ (f : Scene). 3 * (f.width * f.height) ≤ length picture.old) film.now }
+    ensures ok { OnOk result (Appends (K.taken out.old) (K.taken out.new) (flat_map scene_bytes film.now)) }
+    ensures err { OnErr result (AppendsPrefix (K.taken out.old) (K.taken out.new) (flat_map scene_bytes film.now)) }
     ensures cause { HasCause (K.faults out.old) (K.faults out.new) result }
 {
+    let frames = film.frames();
     for i in 0..frames.len() {
-        if i == 0 {
-            frames[i].picture_into(picture);
-        } else {
-            frames[i].picture_after(&frames[i - 1], picture);
-        }
+        film.lay(i, picture);
         write_picture(&frames[i], picture, out)?;
     }
     Ok(())

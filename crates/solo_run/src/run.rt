@@ -13,18 +13,18 @@ use entry_queue::Queue;
 use geom_core::NoMemory;
 use script_text::Script;
 use std::alloc::Global;
-use tile_core::Frame;
+use tile_core::Film;
 
 /// What a painted script gives: a frame for each export, and an outcome for each entry.
 #[derive(Drop)]
 pub struct Shown {
-    pub frames: Vec<Frame>,
+    pub film: Film,
     pub outcomes: Vec<Outcome>,
 }
 
 /// Paints the script's entries one after another.
 pub fn run_solo(alloc: Global, script: &Script) -> Result<Shown, NoMemory>
-    ensures { IfOk result (λ s. Shows script.now s.frames.items s.outcomes.items) }
+    ensures { IfOk result (λ s. Shows script.now s.film s.outcomes.items) }
 {
     let mut queue = fed(alloc, script.commands())?;
     let mut solo = Solo::new(alloc, script.canvas())?;
@@ -34,7 +34,7 @@ pub fn run_solo(alloc: Global, script: &Script) -> Result<Shown, NoMemory>
     }
     let outcomes = Vec::from_slice(alloc, queue.outcomes())?;
     Ok(Shown {
-        frames: solo.into_frames(),
+        film: solo.into_film(),
         outcomes,
     })
 }

@@ -37,15 +37,15 @@ pub(crate) fn write_output<K: Sink>(
     room: &mut [u8],
     out: &mut K,
 ) -> Result<(), Failed>
-    requires shows { Shows script.now shown.now.frames.items shown.now.outcomes.items }
+    requires shows { Shows script.now shown.now.film shown.now.outcomes.items }
     requires room { HasRoom emit script.now.canvas room.old }
     ensures ok { OnOk result (Appends (K.taken out.old) (K.taken out.new) (output emit script.now)) }
     ensures err { OnErr result (AppendsPrefix (K.taken out.old) (K.taken out.new) (output emit script.now)) }
     ensures cause { HasCause (K.faults out.old) (K.faults out.new) result }
 {
     match emit {
-        Emit::Picture => write_frames(&shown.frames, room, out),
+        Emit::Picture => write_frames(&shown.film, room, out),
         Emit::Log => write_log(script, &shown.outcomes, out),
-        Emit::Sum => write_sum(&shown.frames, &shown.outcomes, out),
+        Emit::Sum => write_sum(shown.film.frames(), &shown.outcomes, out),
     }
 }

@@ -11,3 +11,5 @@ pub mod FrameRows
 pub mod SameRows
 pub mod TileLaws
 pub mod PictureRows
+pub mod MarkedTiles
+pub mod Films

@@ -14,7 +14,9 @@ use Rattle.pixel_core.specs.Compose.{on_paper}
 use Rattle.geom_core.specs.Points.{Point, point}
 use Rattle.geom_core.specs.Areas.{row, rows}
 use Rattle.geom_core.specs.Grid.{key}
-use Rattle.tile_core.specs.Frames.{Scene, put_at, colours_at, row_colours, Shows, SameCanvas, IsKept, LaysPoints}
+use Rattle.tile_core.specs.Frames.{Scene, put_at, colours_at, row_colours, Shows, SameCanvas, LaysPoints}
+use Rattle.tile_core.specs.Marks.{Grid, mark_at, place_at}
+use Rattle.tile_core.specs.Films.{Renews}
 use Rattle.tile_core.proofs.FrameRows.{written, many_colours, length-row, point_pixel, row-add, RowSoFar}
 
 -- the colours of the first n rows
@@ -122,13 +124,6 @@ row_before s b old mid y at across w so alike shows l ew ea =
     ap (λ i. take i (drop at mid)) many ∙ ap (λ l. take (3 * w) (drop at l)) so.laid ∙ ap (λ i. take (3 * w) (drop i (first_rows s y ++ drop at old))) (sym n) ∙ ap (take (3 * w)) (drop-append_seam (first_rows s y) (drop at old))
     ∙ row_shown b old y at (3 * w) shows (omega (arith, alike.height)) e (omega (arith, alike.width))
 
--- the marks of a row are those of the row before where it is no tile's first
-pub marks_of : (s b : Scene) (y : ℕ) (kept : List Bool) → IsKept s b ((y - 1) / 64) kept → y % 64 ≢ 0 → IsKept s b (y / 64) kept
-marks_of s b y kept is n = let e : (y - 1) / 64 ≡ y / 64 = omega arith in subst (λ i. IsKept s b i kept) e is
-
-pub marks_next : (s b : Scene) (y : ℕ) (kept : List Bool) → IsKept s b (y / 64) kept → IsKept s b ((y + 1 - 1) / 64) kept
-marks_next s b y kept is = let e : y / 64 ≡ (y + 1 - 1) / 64 = omega arith in subst (λ i. IsKept s b i kept) e is
-
 -- the same tile, or none, has the same pixels
 same_pixels_at : (s b : Scene) (i y c n : ℕ) → finite.get s.tiles (key (pos i) (pos (y / 64))) ≡ finite.get b.tiles (key (pos i) (pos (y / 64))) → c + n ≤ 64 → map (put_at b) (row (pos (64 * i + c)) (pos y) n) ≡ map (put_at s) (row (pos (64 * i + c)) (pos y) n)
 same_pixels_at s b i y c zero e h = refl
@@ -194,21 +189,10 @@ row_alone s y at w across mid new ew ea e =
     let h : length (slice_range mid at across) ≤ 3 * s.width = omega (arith, length-take (across - at) (drop at mid)) in
     e ∙ ap (λ l. row_colours s y ++ l) (drop_of_length-le (slice_range mid at across) h) ∙ append-nil (row_colours s y)
 
-none_marked : (n i : ℕ) → get_or (replicate n false) i false ≡ false
-none_marked zero i = refl
-none_marked (suc n) zero = refl
-none_marked (suc n) (suc i) = none_marked n i
-
--- where no column is marked, nothing is claimed
-pub kept_none : (s b : Scene) (band n : ℕ) → IsKept s b band (replicate n false)
-kept_none s b band n = λ col t. let u : false ≡ true = sym (none_marked n col) ∙ t in cc
-
--- one more column may be marked
-pub kept_next : (s b : Scene) (band i : ℕ) (kept : List Bool) (t : Bool) → IsKept s b band kept → i < length kept → (t ≡ true → finite.get s.tiles (key (pos i) (pos band)) ≡ finite.get b.tiles (key (pos i) (pos band))) → IsKept s b band (set kept i t)
-kept_next s b band i kept t is h same = λ col u. elim (either col i) as (λ _. finite.get s.tiles (key (pos col) (pos band)) ≡ finite.get b.tiles (key (pos col) (pos band))) [
-  | inl e ↦ rw e (same (sym (get_or-set_same kept i t false h) ∙ ap (λ j. get_or (set kept i t) j false) (sym e) ∙ u))
-  | inr n ↦ is col (sym (get_or-set_other kept i col t false n) ∙ u)
-]
-  where
-    either : (a b : ℕ) → (a ≡ b) ⊎ (a ≢ b)
-    either a b = grind arith
+-- a tile that isn't marked is that of the frame before
+pub tile_stays : (s b : Scene) (fresh : Grid) (col y : ℕ) → Renews s b fresh → 64 * col < s.width → y < s.height → mark_at fresh (place_at (pos col) (pos (y / 64))) ≡ false
+    → finite.get s.tiles (key (pos col) (pos (y / 64))) ≡ finite.get b.tiles (key (pos col) (pos (y / 64)))
+tile_stays s b fresh col y renews h k unmarked =
+    let e : 64 * col / 64 ≡ col = omega arith in
+    subst (λ c. finite.get s.tiles (key (pos c) (pos (y / 64))) ≡ finite.get b.tiles (key (pos c) (pos (y / 64)))) e
+    (renews (64 * col) y h k (subst (λ c. mark_at fresh (place_at (pos c) (pos (y / 64))) ≡ false) (sym e) unmarked))

@@ -56,10 +56,6 @@ pub record SameCanvas (s before : Scene) : Type 0 where
   pub height : before.height ≡ s.height
   pub paper : before.paper ≡ s.paper
 
--- in the columns of tiles that are marked, both frames have the same tile in that row of tiles
-abbrev pub IsKept : Scene → Scene → ℕ → List Bool → Type 0
-IsKept s before band kept = (col : ℕ) → slice_index_or kept col false ≡ true → map.get s.tiles (key (pos col) (pos band)) ≡ map.get before.tiles (key (pos col) (pos band))
-
 -- in rows of colours, the new one has those of the n points from x on, and the old one's elsewhere
 abbrev pub LaysPoints : Scene → ℕ → List ℕ → List ℕ → ℕ → ℕ → Type 0
 LaysPoints s y old new x n = new ≡ take (3 * x) old ++ flat_map (colours_at s) (row (pos x) (pos y) n) ++ drop (3 * (x + n)) old

@@ -5,3 +5,5 @@ pub mod Shots
 pub mod Frames
 pub mod Maps
 pub mod Laws
+pub mod Marks
+pub mod Films

@@ -2,16 +2,20 @@
 #![tactic(auto)]
 
 mod block;
+mod film;
 mod frame;
 mod keyed;
 pub mod laws;
+mod marks;
 mod picture;
 mod rows;
 mod shot;
 mod tile;
 
 pub use block::Block;
+pub use film::Film;
 pub use frame::Frame;
+pub use marks::Marks;
 pub use shot::Shot;
 pub use tile::Tile;
 

@@ -1,0 +1,39 @@
+-- One more frame of a film.
+use Rattle.std.proofs.Common.{◌≡◌, ℕ, suc, zero, ◌+◌, ◌-◌, ◌<◌, ◌≤◌, ◌⊎◌, inl, inr, List, [], ◌∷◌, ◌++◌, length, Some, refl, ap, sym, ◌∙◌, subst, arith, length-append}
+use Rattle.std.specs.Prelude.{slice_get}
+use Rattle.std.proofs.lemmas.Option.{slice_get_within}
+use Rattle.tile_core.specs.Marks.{Grid}
+use Rattle.tile_core.specs.Frames.{Scene}
+use Rattle.tile_core.specs.Films.{Renews, IsFilm, newest}
+
+before_end : {A : Type 0} (xs : List A) (y : A) (i : ℕ) → i < length xs → slice_get (xs ++ y ∷ []) i ≡ slice_get xs i
+before_end [] y i h = absurd (omega arith)
+before_end (x ∷ xs) y zero h = refl
+before_end (x ∷ xs) y (suc i) h = before_end xs y i (omega arith)
+
+at_end : {A : Type 0} (xs : List A) (y : A) → slice_get (xs ++ y ∷ []) (length xs) ≡ Some y
+at_end [] y = refl
+at_end (x ∷ xs) y = at_end xs y
+
+same_some : {A : Type 0} (x y : A) → Some x ≡ Some y → x ≡ y
+same_some x y e = cc
+
+-- the item at the end is the new one
+last_is : {A : Type 0} (xs : List A) (y z : A) (i : ℕ) → i ≡ length xs → slice_get (xs ++ y ∷ []) i ≡ Some z → y ≡ z
+last_is xs y z i e h = same_some y z (sym (at_end xs y) ∙ ap (slice_get (xs ++ y ∷ [])) (sym e) ∙ h)
+
+pub one_more : (scenes : List Scene) (fresh : List Grid) (s : Scene) (g : Grid) → IsFilm scenes fresh → ((before : Scene) → newest scenes ≡ Some before → Renews s before g) → IsFilm (scenes ++ s ∷ []) (fresh ++ g ∷ [])
+one_more scenes fresh s g film renews = record {
+  marks = length-append fresh (g ∷ []) ∙ ap (λ n. n + 1) film.marks ∙ sym (length-append scenes (s ∷ []));
+  renewed = λ i before t f p q r. elim (either i) [
+    | inl h ↦ film.renewed i before t f (sym (before_end scenes s i (omega arith)) ∙ p) (sym (before_end scenes s (i + 1) h) ∙ q) (sym (before_end fresh g (i + 1) (omega (arith, film.marks))) ∙ r)
+    | inr h ↦
+      let within : i + 1 < length (scenes ++ s ∷ []) = slice_get_within (scenes ++ s ∷ []) (i + 1) t q in
+      let end : i + 1 ≡ length scenes = omega (arith, length-append scenes (s ∷ [])) in
+      let newest_is : newest scenes ≡ Some before = ap (slice_get scenes) (let e : length scenes - 1 ≡ i = omega arith in e) ∙ sym (before_end scenes s i (omega arith)) ∙ p in
+      subst (λ x. Renews x before f) (last_is scenes s t (i + 1) end q) (subst (λ x. Renews s before x) (last_is fresh g f (i + 1) (end ∙ sym film.marks) r) (renews before newest_is))
+  ];
+}
+  where
+    either : (i : ℕ) → (i + 1 < length scenes) ⊎ (length scenes ≤ i + 1)
+    either i = grind arith

@@ -1,0 +1,97 @@
+//! Marked tiles of a canvas.
+
+ghost use Rattle.std.specs.Prelude.{◌≡◌, ◌<◌, ◌&&◌, ◌||◌, true, false, pos, replicate, IfSome};
+ghost use Rattle.geom_core.specs.Grid.{Key, same_key, keys_of};
+ghost use Rattle.std.specs.List.{list_any};
+ghost use Rattle.tile_core.specs.Marks.{place_at, mark_at, has_mark, on_canvas, no_marks};
+
+use geom_core::{Rect, TileKey};
+use std::marker::Model;
+
+/// How many columns of tiles the largest canvas has, and how many rows.
+const SIDE: i16 = 32;
+
+/// Which tiles of a canvas are marked. The largest canvas has 32 by 32 tiles; no other key is ever marked.
+#[derive(Drop)]
+pub struct Marks {
+    tiles: [bool; 1024],
+}
+
+impl Model for Marks {
+    ghost use Rattle.tile_core.specs.Marks.{Grid};
+
+    ghost Value = { Grid };
+
+    ghost view = { λ m. m.tiles };
+}
+
+impl Marks {
+    /// No tile.
+    pub fn none() -> Marks
+        ensures { result ≡ no_marks }
+    {
+        Marks {
+            tiles: [false; 1024],
+        }
+    }
+
+    /// All tiles of the largest canvas.
+    pub fn all() -> Marks
+        ensures { result ≡ replicate 1024 true }
+    {
+        Marks {
+            tiles: [true; 1024],
+        }
+    }
+
+    /// Whether the key's tile is marked.
+    #[inline]
+    pub fn has(&self, key: TileKey) -> bool
+        ensures { result ≡ has_mark self.now key }
+    {
+        match place_of(key) {
+            Some(place) => self.tiles[place],
+            None => false,
+        }
+    }
+
+    /// Whether the tile of a column and a row of the canvas is marked.
+    #[inline]
+    pub(crate) fn has_at(&self, col: u16, row: u16) -> bool
+        ensures { result ≡ mark_at self.now (place_at (pos col) (pos row)) }
+    {
+        col < 32 && row < 32 && self.tiles[32 * row as usize + col as usize]
+    }
+
+    /// Marks the key's tile, if it is one of the largest canvas.
+    pub fn mark(&mut self, key: TileKey)
+        ensures { (k : Key) → has_mark self.new k ≡ (has_mark self.old k || (same_key k key && on_canvas k)) }
+    {
+        if let Some(place) = place_of(key) {
+            self.tiles[place] = true;
+        }
+    }
+
+    /// Marks the tiles of the largest canvas that the rectangle meets.
+    pub fn mark_all(&mut self, rect: &Rect)
+        ensures { (k : Key) → has_mark self.new k ≡ (has_mark self.old k || (list_any (same_key k) (keys_of rect.now) && on_canvas k)) }
+    {
+        for i in 0..rect.tile_count() {
+            self.mark(rect.tile_at(i));
+        }
+    }
+}
+
+/// Where the key's tile stands among those of the largest canvas in row order. None for any other key.
+#[inline]
+fn place_of(key: TileKey) -> Option<usize>
+    ensures value { result ≡ place_at key.col key.row }
+    ensures inside { IfSome result (λ place. place < 1024) }
+{
+    let (col, row) = (key.col, key.row);
+    if 0 <= col && col < SIDE && 0 <= row && row < SIDE {
+        Some(SIDE as usize * row as usize + col as usize)
+    } else {
+        None
+    }
+}
