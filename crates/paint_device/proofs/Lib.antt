@@ -4,3 +4,4 @@ pub mod Shown
 pub mod Grabbed
 pub mod Extents
 pub mod Copies
+pub mod InPlace

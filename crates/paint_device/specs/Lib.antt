@@ -3,3 +3,4 @@ pub mod Seen
 pub mod Grabs
 pub mod Extents
 pub mod Laws
+pub mod InPlace

@@ -1,6 +1,6 @@
 //! The pixels of a layer, as tiles under keys.
 
-ghost use Rattle.std.specs.Prelude.{◌+◌, ◌∷◌, [], ◌≡◌, IfOk, OnOk, OnErr, IfSome, IfNone, IsTrue, true, Some, None};
+ghost use Rattle.std.specs.Prelude.{◌+◌, ◌∷◌, [], ◌≡◌, IfOk, OnOk, OnErr, IfSome, IfNone, IsTrue, true, false, Some, None};
 ghost use Rattle.std.specs.Option.{option_copied};
 ghost use Rattle.std.specs.FinMap as map;
 ghost use Rattle.geom_core.specs.Grid.{Key, IsWorldKey, keys_of};
@@ -13,7 +13,7 @@ ghost use Rattle.paint_device.specs.Sheets.{IsSheet, sheet, sheet_at, with_under
 ghost use Rattle.paint_device.specs.Grabs.{Grabs};
 ghost use Rattle.paint_device.specs.Extents.{IsExtent};
 
-use crate::keyed::{extent_of, put_under, shared, swap_under, tile_in};
+use crate::keyed::{extent_of, lay_alone_under, put_under, shared, swap_under, tile_in};
 use geom_core::{NoMemory, Rect, TileKey, tile_of};
 use memento_core::{Plane, Steps};
 use pixel_core::Pixel;
@@ -128,6 +128,16 @@ impl Device {
     {
         let tile = self.laid(alloc, block)?;
         self.put(block.key(), Some(tile))
+    }
+
+    /// The same in place, where a tile stands under the block's key and nobody shares it. It tells
+    /// whether it did; else nothing changes. No memory.
+    pub fn write_alone(&mut self, block: &Block) -> bool
+        ensures written { result ≡ true → WritesBlock self.old self.new block.now }
+        ensures kept { result ≡ false → self.new ≡ self.old }
+    {
+        let _key = block.key();
+        lay_alone_under(&mut self.tiles, block)
     }
 
     /// What stands under the block's key, with the block's pixels.

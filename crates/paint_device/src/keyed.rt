@@ -1,6 +1,6 @@
 //! Maps from keys to a tile or None.
 
-ghost use Rattle.std.specs.Prelude.{◌≡◌, ◌&&◌, true, Some, None, is_some, IsSome, IfSome, IfNone, IfOk, OnOk, OnErr};
+ghost use Rattle.std.specs.Prelude.{◌≡◌, ◌&&◌, true, false, Some, None, is_some, IsSome, IfSome, IfNone, IfOk, OnOk, OnErr};
 ghost use Rattle.std.specs.Option.{option_copied, unwrap_or};
 ghost use Rattle.std.specs.FinMap as map;
 ghost use Rattle.std.specs.BTreeMap as tree;
@@ -8,13 +8,14 @@ ghost use Rattle.geom_core.specs.Areas.{Area};
 ghost use Rattle.geom_core.specs.Grid.{Key, key_cmp, IsWorldKey};
 ghost use Rattle.memento_core.specs.Planes.{tile_under};
 ghost use Rattle.tile_core.specs.Maps.{PutsUnder};
+ghost use Rattle.paint_device.specs.InPlace.{LaidAlone, LaidUnder};
 ghost use Rattle.paint_device.specs.Extents.{IsExtent, lies_if, tile_lies};
 
 use geom_core::{NoMemory, Rect, TileKey};
 use std::alloc::Global;
 use std::collections::BTreeMap;
 use std::mem;
-use tile_core::Tile;
+use tile_core::{Block, Tile};
 
 /// That tile or None goes under the key.
 pub fn put_under(
@@ -42,6 +43,29 @@ pub fn swap_under(
     match tiles.get_mut(&key) {
         Some(place) => mem::replace(place, tile),
         None => tile,
+    }
+}
+
+/// Lays the block on the tile that stands under its key, in place, where nobody shares that tile,
+/// and tells whether it did.
+pub fn lay_alone_under(tiles: &mut BTreeMap<TileKey, Option<Tile>>, block: &Block) -> bool
+    ensures laid { result ≡ true → LaidUnder tiles.old tiles.new block.now }
+    ensures kept { result ≡ false → (q : Key) → tree.get key_cmp tiles.new q ≡ tree.get key_cmp tiles.old q }
+{
+    match tiles.get_mut(&block.key()) {
+        Some(place) => lay_alone(place, block),
+        None => false,
+    }
+}
+
+/// Lays the block on the tile, if one is there and nobody shares it, and tells whether it did.
+fn lay_alone(place: &mut Option<Tile>, block: &Block) -> bool
+    ensures laid { result ≡ true → LaidAlone place.old place.new block.now }
+    ensures kept { result ≡ false → place.new ≡ place.old }
+{
+    match place {
+        Some(tile) => tile.lay_alone(block),
+        None => false,
     }
 }
 

@@ -28,7 +28,7 @@ pub fn put_row<T: Copy>(items: &mut [T], at: usize, row: &[T])
 }
 
 /// Lays the rows of a part over the tile.
-fn lay_part(tile: &mut [Pixel], part: Part, src: &[Pixel])
+pub fn lay_part(tile: &mut [Pixel], part: Part, src: &[Pixel])
     requires whole { length tile.old ≡ 4096 }
     requires across { part.left + part.w ≤ 64 }
     requires down { part.top + part.h ≤ 64 }

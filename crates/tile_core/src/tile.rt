@@ -1,6 +1,6 @@
 //! Tiles of 64 by 64 pixels, shared copy on write.
 
-ghost use Rattle.std.specs.Prelude.{vec_len, ◌≡◌, ℕ, ◌+◌, ◌*◌, ◌<◌, ◌↔◌, IsTrue, length, IfOk, replicate, true, negsuc, pos, ◌≤ℤ◌, ◌+ℤ◌, ◌%◌, nat_abs};
+ghost use Rattle.std.specs.Prelude.{vec_len, ◌≡◌, ℕ, ◌+◌, ◌*◌, ◌<◌, ◌↔◌, IsTrue, length, IfOk, replicate, true, false, negsuc, pos, ◌≤ℤ◌, ◌+ℤ◌, ◌%◌, nat_abs};
 ghost use Rattle.tile_core.specs.Pixels.{pixel_of, pixel_at, whole_tile, SameOn, HasPixels};
 ghost use Rattle.tile_core.specs.Parts.{IsPartOf};
 ghost use Rattle.geom_core.specs.Grid.{IsWorldKey, tile};
@@ -10,7 +10,7 @@ ghost use Rattle.geom_core.specs.Points.{point};
 ghost use Rattle.pixel_core.specs.Rgba.{clear};
 
 use crate::Block;
-use crate::rows::{Part, has_laid, part_of, same_part, same_tiles, with_part};
+use crate::rows::{Part, has_laid, lay_part, part_of, same_part, same_tiles, with_part};
 use geom_core::{NoMemory, Rect, TileKey};
 use pixel_core::Pixel;
 use std::alloc::Global;
@@ -103,6 +103,21 @@ impl Tile {
         Tile::from_pixels(alloc, pixels)
     }
 
+    /// Writes the block's pixels on the block's rectangle in place, and tells whether it did. Where
+    /// somebody shares the pixels, nothing changes. No memory.
+    pub fn lay_alone(&mut self, block: &Block) -> bool
+        ensures laid { result ≡ true → LaysBlock self.old self.new block.now }
+        ensures kept { result ≡ false → self.new ≡ self.old }
+    {
+        match Arc::get_mut(&mut self.pixels) {
+            Some(pixels) => {
+                write_block(pixels, block);
+                true
+            }
+            None => false,
+        }
+    }
+
     /// Whether the block covers its whole tile, and has just this tile's pixels: then this is what
     /// the block makes of any tile. It may say no where no pixel would change.
     pub fn is_laid_by(&self, block: &Block) -> bool
@@ -136,6 +151,15 @@ impl Tile {
     {
         Ok(part_of(alloc, self.pixels(), part_in_tile(rect))?)
     }
+}
+
+/// Writes the block's pixels on the block's rectangle of a tile.
+fn write_block(tile: &mut [Pixel], block: &Block)
+    requires { length tile.old ≡ 4096 }
+    ensures { LaysBlock tile.old tile.new block.now }
+{
+    let rect = block.rect();
+    lay_part(tile, part_in_tile(&rect), block.pixels());
 }
 
 /// Which columns and rows of their tiles the rectangle's first column and row are, and its sides.
