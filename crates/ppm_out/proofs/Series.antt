@@ -1,37 +1,31 @@
--- Pixmaps of frames, one after another.
-use Rattle.std.proofs.Common.{◌≡◌, ℕ, zero, suc, ◌+◌, ◌<◌, List, [], ◌∷◌, ◌++◌, length, get_or, take, map, refl, sym, ap, subst, ◌∙◌, arith}
+-- Pixmaps of a film's frames, one after another.
+use Rattle.std.proofs.Common.{◌≡◌, ℕ, suc, ◌+◌, List, [], ◌∷◌, ◌++◌, take, drop, map, refl, sym, ap, ◌∙◌, append-nil}
 use Rattle.std.specs.List.{concat, flat_map}
-use Rattle.tile_core.specs.Frames.{Scene, Shows}
+use Rattle.std.proofs.lemmas.Option.{get_or_from_slice_get, slice_get_within}
+use Rattle.tile_core.specs.Frames.{Scene, Shows, colours_at}
 use Rattle.geom_core.specs.Points.{Point}
 use Rattle.geom_core.specs.Areas.{area, points_of}
-use Rattle.std.specs.Prelude.{Option, Result, Ok, Err, OnOk, OnErr, pos, ◌*◌}
+use Rattle.std.specs.Prelude.{Option, Some, Result, Ok, Err, OnOk, OnErr, pos, ◌*◌, slice_get}
 use Rattle.std.specs.Io.KnownBytes.{Appends}
-use Rattle.std.proofs.Common.{append-nil}
 use Rattle.io_edge.specs.declared.outside.Failed.{Failed}
 use Rattle.io_edge.specs.Bytes.{AppendsPrefix}
-use Rattle.io_edge.proofs.Written.{prefix_behind, appends_to}
-use Rattle.tile_core.specs.Frames.{colours_at}
-use Rattle.ppm_out.specs.Pictures.{colours_of}
+use Rattle.io_edge.proofs.Written.{prefix_behind, appends_to, flat_at}
+use Rattle.ppm_out.specs.Pictures.{colours_of, scene_bytes}
 
 -- the colours of points, one after another
 pub concat_is : (f : Point → List ℕ) (ps : List Point) → flat_map f ps ≡ concat (map f ps)
 concat_is f [] = refl
 concat_is f (p ∷ ps) = ap (λ l. f p ++ l) (concat_is f ps)
 
--- what stands at a place
-pub same_at : (fs : List Scene) (i : ℕ) (s t : Scene) → i < length fs → s ≡ get_or fs i s → t ≡ get_or fs i t → s ≡ t
-same_at [] i s t h e f = absurd (omega arith)
-same_at (x ∷ fs) zero s t h e f = e ∙ sym f
-same_at (x ∷ fs) (suc i) s t h e f = same_at fs i s t (omega arith) e f
-
 -- the bytes show the frame before place i, if there is one
 abbrev pub ShowsLast : List Scene → ℕ → List ℕ → Type 0
-ShowsLast fs i bytes = (k : ℕ) (s : Scene) → i ≡ suc k → s ≡ get_or fs k s → Shows s bytes
+ShowsLast film i bytes = (k : ℕ) (before : Scene) → i ≡ k + 1 → slice_get film k ≡ Some before → Shows before bytes
 
-pub shows_next : (fs : List Scene) (i : ℕ) (s : Scene) (bytes : List ℕ) → i < length fs → s ≡ get_or fs i s → Shows s bytes → ShowsLast fs (i + 1) bytes
-shows_next fs i s bytes h e shows k t n f =
-    let p : k ≡ i = omega arith in
-    subst (λ v. Shows v bytes) (same_at fs i s t h e (f ∙ ap (λ j. get_or fs j t) p)) shows
+-- the pixmaps of a film, those before a place, the one there and those behind it
+pub pixmaps_at : (film : List Scene) (i : ℕ) (s : Scene) → slice_get film i ≡ Some s → flat_map scene_bytes film ≡ flat_map scene_bytes (take i film) ++ (scene_bytes s ++ flat_map scene_bytes (drop (suc i) film))
+pixmaps_at film i s at =
+    flat_at scene_bytes film i s (slice_get_within film i s at)
+    ∙ ap (λ v. flat_map scene_bytes (take i film) ++ (scene_bytes v ++ flat_map scene_bytes (drop (suc i) film))) (get_or_from_slice_get film i s s at)
 
 -- the first bytes of a picture
 pub shown_bytes : (s : Scene) (bytes : List ℕ) (w h : ℕ) → w ≡ s.width → h ≡ s.height → Shows s bytes → take (3 * (w * h)) bytes ≡ concat (colours_of s)

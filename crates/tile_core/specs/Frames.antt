@@ -1,5 +1,5 @@
 -- A frame as contracts see it: its sides, its paper, and tiles under some keys.
-use Rattle.std.specs.Prelude.{◌≡◌, ℕ, ◌+◌, ◌*◌, ◌≤◌, pos, List, take, drop, ◌++◌, refl, Bool, true, false, slice_index_or}
+use Rattle.std.specs.Prelude.{◌≡◌, ℕ, ◌+◌, ◌*◌, ◌≤◌, pos, List, take, drop, ◌++◌, refl}
 use Rattle.std.specs.List.{flat_map}
 use Rattle.std.specs.FinMap as map
 use Rattle.std.specs.FinMap.{FinMap}
@@ -8,7 +8,7 @@ use Rattle.pixel_core.specs.Rgba.{Rgba, clear, pixel_code}
 use Rattle.pixel_core.specs.Compose.{on_paper}
 use Rattle.geom_core.specs.Points.{Point}
 use Rattle.geom_core.specs.Areas.{row, area, points_of}
-use Rattle.geom_core.specs.Grid.{Key, key_cmp, key, key_of, key_code}
+use Rattle.geom_core.specs.Grid.{Key, key_cmp, key_of, key_code}
 use Rattle.tile_core.specs.Pixels.{Pixels, pixel_or}
 
 -- a frame's sides, its paper, and what was put

@@ -1,4 +1,4 @@
-//! Shared tiles of 64 by 64 pixels, and what holds them: shots and frames.
+//! Shared tiles of 64 by 64 pixels, and what holds them: shots, frames and films.
 #![tactic(auto)]
 
 mod block;

@@ -8,7 +8,7 @@ use crate::{Frame, Marks};
 
 impl Frame {
     /// Writes red, green and blue of each point, in row order, to the first 3 * width * height places.
-    pub fn picture_into(&self, picture: &mut [u8])
+    pub(crate) fn picture_into(&self, picture: &mut [u8])
         requires room { 3 * (self.now.width * self.now.height) ≤ length picture.old }
         ensures shown { Shows self.now picture.new }
         ensures rest { drop (3 * (self.now.width * self.now.height)) picture.new ≡ drop (3 * (self.now.width * self.now.height)) picture.old }

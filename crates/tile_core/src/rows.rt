@@ -108,7 +108,7 @@ fn same_pixels(row: &[Pixel], other: &[Pixel]) -> bool
 }
 
 /// Whether two tiles have the same pixels. It goes through all of them, with no branch.
-pub fn same_tiles(tile: &[Pixel], other: &[Pixel]) -> bool
+fn same_tiles(tile: &[Pixel], other: &[Pixel]) -> bool
     requires { length other.now ≡ length tile.now }
     ensures { IsTrue result ↔ (tile.now ≡ other.now) }
 {

@@ -1,14 +1,21 @@
 //! Worked values, and that each call can succeed.
 
-ghost use Rattle.std.specs.Prelude.{◌≡◌};
+ghost use Rattle.std.specs.Prelude.{◌≡◌, ◌∷◌, ◌++◌, [], Some, IfOk, OnOk};
+ghost use Rattle.std.specs.FinMap as map;
+ghost use Rattle.tile_core.specs.Films.{newest};
+ghost use Rattle.tile_core.specs.Frames.{scene, with_put};
 
 use super::*;
-use geom_core::{Rect, TileKey};
+use geom_core::{NoMemory, Rect, TileKey};
 use pixel_core::Pixel;
+use std::alloc::Global;
 use std::test::Fail;
 
 /// The tile whose corner is (0, 0).
 const ORIGIN: TileKey = TileKey { row: 0, col: 0 };
+
+/// The tile to the right of that one.
+const SECOND: TileKey = TileKey { row: 0, col: 1 };
 
 fn crosses<T: Send + Sync>(_x: &T) {}
 
@@ -95,5 +102,61 @@ fn a_frame(rt: HostRuntime) -> Result<(), Fail> {
     let mut row = [7; 4];
     frame.row_into(0, &mut row);
     assert_eq!(rt; row, [153, 51, 76, 7]);
+    Ok(())
+}
+
+#[test]
+fn marked_tiles(rt: HostRuntime) {
+    let mut marks = Marks::none();
+    marks.mark(SECOND);
+    assert!(rt; marks.has(SECOND));
+    assert!(rt; !marks.has(ORIGIN));
+    let outside = TileKey { row: 0, col: -1 };
+    marks.mark(outside);
+    assert!(rt; !marks.has(outside));
+    marks.mark_all(&Rect::new(-1, 60, 2, 10).expect(&rt, "a rectangle of the world"));
+    assert!(rt; marks.has(ORIGIN));
+    assert!(rt; marks.has(TileKey { row: 1, col: 0 }));
+    assert!(rt; !marks.has(TileKey { row: 1, col: 1 }));
+    assert!(rt; Marks::all().has(TileKey { row: 31, col: 31 }));
+}
+
+/// Two tiles side by side, 65 by 1 points: the left one is given, and the paper shows on the right.
+fn half_covered(alloc: Global, paper: Pixel, left: &Tile) -> Result<Frame, NoMemory>
+    requires opaque { paper.a ≡ 255 }
+    ensures { IfOk result (λ f. f ≡ with_put (scene 65 1 paper map.empty) ORIGIN left.now) }
+{
+    let mut frame = Frame::new(alloc, 65, 1, paper)?;
+    frame.put(ORIGIN, left)?;
+    Ok(frame)
+}
+
+/// Puts the tile on the right of a frame like the newest one, and adds it to the film.
+fn push_covered(film: &mut Film, mut frame: Frame, right: &Tile) -> Result<(), NoMemory>
+    requires newest { newest film.old ≡ Some frame }
+    requires width { frame.width ≡ 65 }
+    requires height { frame.height ≡ 1 }
+    ensures { OnOk result (film.new ≡ film.old ++ with_put frame SECOND right.now ∷ []) }
+{
+    frame.put(SECOND, right)?;
+    let mut fresh = Marks::none();
+    fresh.mark(SECOND);
+    film.push(frame, fresh)
+}
+
+#[test]
+fn a_film_of_two_frames(rt: HostRuntime) -> Result<(), Fail> {
+    let alloc = rt.alloc();
+    let paper = opaque(0x33, 0x66, 0x99);
+    let left = Tile::plain(alloc, opaque(1, 2, 3))?;
+    let mut film = Film::new(alloc);
+    film.push(half_covered(alloc, paper, &left)?, Marks::all())?;
+    let right = Tile::plain(alloc, opaque(4, 5, 6))?;
+    push_covered(&mut film, half_covered(alloc, paper, &left)?, &right)?;
+    let mut picture = [7; 196];
+    film.lay(0, &mut picture);
+    assert_eq!(rt; &picture[189..], [1, 2, 3, 0x33, 0x66, 0x99, 7].as_slice());
+    film.lay(1, &mut picture);
+    assert_eq!(rt; &picture[189..], [1, 2, 3, 4, 5, 6, 7].as_slice());
     Ok(())
 }

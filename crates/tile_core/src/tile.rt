@@ -10,7 +10,7 @@ ghost use Rattle.geom_core.specs.Points.{point};
 ghost use Rattle.pixel_core.specs.Rgba.{clear};
 
 use crate::Block;
-use crate::rows::{Part, has_laid, lay_part, part_of, same_part, same_tiles, with_part};
+use crate::rows::{Part, has_laid, lay_part, part_of, same_part, with_part};
 use geom_core::{NoMemory, Rect, TileKey};
 use pixel_core::Pixel;
 use std::alloc::Global;
@@ -133,13 +133,6 @@ impl Tile {
         ensures { IsTrue result ↔ SameOn rect.now self.now other.now }
     {
         same_part(self.pixels(), other.pixels(), part_in_tile(rect))
-    }
-
-    /// Whether both tiles have the same pixels.
-    pub fn same(&self, other: &Tile) -> bool
-        ensures { IsTrue result ↔ (self.now ≡ other.now) }
-    {
-        same_tiles(self.pixels(), other.pixels())
     }
 
     /// The pixels on a rectangle inside the key's tile, in row order.

@@ -9,6 +9,6 @@ abbrev pub invariant-loop-i : goal.invariant-loop-i
 invariant-loop-i g l = record {
   later : g.K.Sink.faults l.fn.out ≤ g.K.Sink.faults l.out;
   room : length l.picture ≡ length l.fn.picture;
-  shown : ShowsLast l.frames l.i l.picture;
-  so_far : Appends (g.K.Sink.taken l.fn.out) (g.K.Sink.taken l.out) (flat_map scene_bytes (take l.i l.frames));
+  shown : ShowsLast l.film l.i l.picture;
+  so_far : Appends (g.K.Sink.taken l.fn.out) (g.K.Sink.taken l.out) (flat_map scene_bytes (take l.i l.film));
 }

@@ -1,7 +1,7 @@
 use Rattle.std.proofs.Common.{◌≡◌, Some, [], ◌∷◌, ◌++◌, sym, subst, arith}
 use Rattle.std.proofs.lemmas.Grind.{common_steps}
 use Rattle.tile_core.specs.Frames.{Scene}
-use Rattle.tile_core.specs.Films.{Renews, IsFilm, newest}
+use Rattle.tile_core.specs.Films.{Renews, newest}
 use Rattle.tile_core.proofs.Films.{one_more}
 use Rattle.tile_core.proofs.film.Film.push.Goals as goal
 
