@@ -1,14 +1,18 @@
 //! Where jobs read and write, kept beside them so that they are quickly compared.
 
-ghost use Rattle.std.specs.Prelude.{◌≡◌, ◌&&◌, ◌||◌, true, not, position};
+ghost use Rattle.std.specs.Prelude.{◌≡◌, ◌≤◌, ◌-◌, ◌&&◌, ◌||◌, ◌++◌, ◌∷◌, [], true, not, position, if◌then◌else◌, OnOk, OnErr, length, take, drop, ◌<◌, vec_len, vec_capacity};
 ghost use Rattle.std.specs.List.{list_any};
 ghost use Rattle.geom_core.specs.Areas.{meets};
 ghost use Rattle.doc_model.specs.Lawful.{checks};
 ghost use Rattle.doc_model.specs.Strokes.{any_meet, is_uni};
+ghost use Rattle.stroke_core.specs.Bounds.{IsRound};
+ghost use Rattle.stroke_core.specs.Fed.{plus};
 
+use crate::bound::{Bound, any_near};
 use arrayvec::ArrayVec;
 use doc_model::{Job, Kind};
 use geom_core::Rect;
+use std::alloc::{AllocError, Global};
 use std::marker::Model;
 
 /// The rectangles of a job, and whether it is uniquely concurrent.
@@ -50,8 +54,17 @@ impl Footprint {
                 || any_meet(other.writes.as_slice(), self.reads.as_slice()))
     }
 
+    /// A rectangle round all that the job reads and writes.
+    fn bound(&self) -> Bound
+        ensures { IsRound result self.now }
+    {
+        Bound::nothing()
+            .with_all(self.reads.as_slice())
+            .with_all(self.writes.as_slice())
+    }
+
     /// The place of the first of these that clashes with it.
-    pub(crate) fn first_clash(&self, run: &[Footprint]) -> Option<usize>
+    fn first_clash(&self, run: &[Footprint]) -> Option<usize>
         ensures { result ≡ position (λ f. marks_clash f self.now) run.now }
     {
         run.iter().position(|earlier| earlier.clashes(self))
@@ -75,4 +88,128 @@ fn meets_any(rect: &Rect, others: &[Rect]) -> bool
     ensures { result ≡ list_any (λ b. meets rect.now b) others.now }
 {
     others.iter().any(|other| rect.meets(other))
+}
+
+/// How many jobs are looked over at once before they are compared one by one.
+const BLOCK: usize = 128;
+
+/// The footprints of a run of jobs, and the edges of a rectangle round each of them.
+///
+/// Most jobs lie far from each other, and that shows in the edges alone.
+#[derive(Drop)]
+pub(crate) struct Footprints {
+    exact: Vec<Footprint>,
+    lefts: Vec<u16>,
+    /// The left edges as unique jobs see them: those of other unique jobs lie outside the world.
+    lefts_for_unique: Vec<u16>,
+    rights: Vec<u16>,
+    tops: Vec<u16>,
+    bottoms: Vec<u16>,
+}
+
+impl Model for Footprints {
+    ghost use Rattle.std.specs.Prelude.{List};
+    ghost use Rattle.stroke_core.specs.Marks.{Marks};
+    ghost use Rattle.stroke_core.specs.Bounds.{AreEdges};
+
+    ghost Value = { List Marks };
+
+    ghost view = { λ f. f.exact.items };
+
+    ghost invariant = { λ f. AreEdges f.exact.items f.lefts.items f.lefts_for_unique.items f.rights.items f.tops.items f.bottoms.items };
+}
+
+impl Footprints {
+    ghost use Rattle.stroke_core.specs.Marks.{marks_clash};
+
+    pub(crate) fn new(alloc: Global) -> Footprints
+        ensures { result ≡ [] }
+    {
+        Footprints {
+            exact: Vec::new(alloc),
+            lefts: Vec::new(alloc),
+            lefts_for_unique: Vec::new(alloc),
+            rights: Vec::new(alloc),
+            tops: Vec::new(alloc),
+            bottoms: Vec::new(alloc),
+        }
+    }
+
+    /// Adds one at the end.
+    pub(crate) fn push(&mut self, footprint: Footprint) -> Result<(), AllocError>
+        ensures ok { OnOk result (self.new ≡ self.old ++ footprint ∷ []) }
+        ensures err { OnErr result (self.new ≡ self.old) }
+    {
+        let bound = footprint.bound();
+        let left_for_unique = if footprint.unique { u16::MAX } else { bound.left };
+        self.exact.reserve(1)?;
+        self.lefts.reserve(1)?;
+        self.lefts_for_unique.reserve(1)?;
+        self.rights.reserve(1)?;
+        self.tops.reserve(1)?;
+        self.bottoms.reserve(1)?;
+        push_reserved(&mut self.exact, footprint);
+        push_reserved(&mut self.lefts, bound.left);
+        push_reserved(&mut self.lefts_for_unique, left_for_unique);
+        push_reserved(&mut self.rights, bound.right);
+        push_reserved(&mut self.tops, bound.top);
+        push_reserved(&mut self.bottoms, bound.bottom);
+        Ok(())
+    }
+
+    /// Forgets all of them.
+    pub(crate) fn clear(&mut self)
+        ensures { self.new ≡ [] }
+    {
+        self.exact.clear();
+        self.lefts.clear();
+        self.lefts_for_unique.clear();
+        self.rights.clear();
+        self.tops.clear();
+        self.bottoms.clear();
+    }
+
+    /// The place of the first that clashes with a new one.
+    pub(crate) fn first_clash(&self, new: &Footprint) -> Option<usize>
+        ensures { result ≡ position (λ f. marks_clash f new.now) self.now }
+    {
+        let bound = new.bound();
+        let len = self.exact.len();
+        let mut from = 0;
+        while from < len {
+            let to = from + BLOCK.min(len - from);
+            let found = self.first_within(from, to, new, bound);
+            if found.is_some() {
+                return found;
+            }
+            from = to;
+        }
+        None
+    }
+
+    /// The place of the first in a block that clashes with a new one.
+    fn first_within(&self, from: usize, to: usize, new: &Footprint, bound: Bound) -> Option<usize>
+        requires ascending { from ≤ to }
+        requires inside { to ≤ length self.now }
+        requires bound { IsRound bound new.now }
+        ensures { result ≡ plus from (position (λ f. marks_clash f new.now) (take (to - from) (drop from self.now))) }
+    {
+        let lefts = if new.unique { &self.lefts_for_unique } else { &self.lefts };
+        if !any_near(lefts, &self.rights, &self.tops, &self.bottoms, from, to, bound) {
+            return None;
+        }
+        let place = new.first_clash(&self.exact[from..to])?;
+        Some(from + place)
+    }
+}
+
+/// Adds one where there is room for it.
+pub(crate) fn push_reserved<T: Drop>(items: &mut Vec<T>, x: T)
+    requires { vec_len items.old < vec_capacity items.old }
+    ensures { items.new.items ≡ items.old.items ++ x ∷ [] }
+{
+    match items.push(x) {
+        Ok(()) => {}
+        Err(_) => unreachable!(),
+    }
 }
