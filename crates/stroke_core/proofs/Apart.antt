@@ -35,14 +35,40 @@ apart a b x y n p q = elim (true_or_false (meets x y)) [ inl e ↦ (let t : near
 all_apart : (a b : Bound) (xs ys : List Area) → near a b ≡ false → All (LiesIn a) xs → All (LiesIn b) ys → any_meet xs ys ≡ false
 all_apart a b xs ys n p q = list_any_none (λ x. list_any (λ y. meets x y) ys) xs (λ k d l. list_any_none (λ y. meets (slice_index_or xs k d) y) ys (λ i e h. apart a b (slice_index_or xs k d) (slice_index_or ys i e) n (p k d l) (q i e h)))
 
-near_comm : (a b : Bound) → near a b ≡ near b a
-near_comm a b = (λ i. swap (nat_le a.left b.right) (nat_le b.left a.right) i && swap (nat_le a.top b.bottom) (nat_le b.top a.bottom) i)
+and_comm : (a b : Bool) → (a && b) ≡ (b && a)
+and_comm true true = refl
+and_comm true false = refl
+and_comm false true = refl
+and_comm false false = refl
+
+meets_comm : (a b : Area) → meets a b ≡ meets b a
+meets_comm a b i = and_comm (int_lt a.x (right b)) (int_lt b.x (right a)) i && and_comm (int_lt a.y (bottom b)) (int_lt b.y (bottom a)) i
+
+meet_more : (xs ys : List Area) (y : Area) → any_meet xs (y ∷ ys) ≡ (list_any (λ x. meets y x) xs || any_meet xs ys)
+meet_more [] ys y = refl
+meet_more (x ∷ xs) ys y = (λ i. (meets_comm x y i || list_any (λ b. meets x b) ys) || meet_more xs ys y i) ∙ turn (meets y x) (list_any (λ b. meets x b) ys) (list_any (λ x. meets y x) xs) (any_meet xs ys)
   where
-    swap : (a b : Bool) → (a && b) ≡ (b && a)
-    swap true true = refl
-    swap true false = refl
-    swap false true = refl
-    swap false false = refl
+    turn : (a b c d : Bool) → ((a || b) || (c || d)) ≡ ((a || c) || (b || d))
+    turn true b c d = refl
+    turn false true true d = refl
+    turn false true false d = refl
+    turn false false c d = refl
+
+any_meet_comm : (xs ys : List Area) → any_meet xs ys ≡ any_meet ys xs
+any_meet_comm [] [] = refl
+any_meet_comm (x ∷ xs) [] = any_meet_comm xs []
+any_meet_comm xs (y ∷ ys) = meet_more xs ys y ∙ ap (λ b. list_any (λ x. meets y x) xs || b) (any_meet_comm xs ys)
+
+-- where both write all that they read
+pub one_way : (reads writes reads' writes' : List Area) → writes ≡ reads → writes' ≡ reads' → any_meet writes reads' ≡ (any_meet writes reads' || any_meet writes' reads)
+one_way reads writes reads' writes' e f = rw (e, f) (same (any_meet reads reads') ∙ ap (λ b. any_meet reads reads' || b) (any_meet_comm reads reads'))
+  where
+    same : (b : Bool) → b ≡ (b || b)
+    same true = refl
+    same false = refl
+
+near_comm : (a b : Bound) → near a b ≡ near b a
+near_comm a b i = and_comm (nat_le a.left b.right) (nat_le b.left a.right) i && and_comm (nat_le a.top b.bottom) (nat_le b.top a.bottom) i
 
 no_clash : (a b : Bound) (m n : Marks) → IsRound a m → IsRound b n → near a b ≡ false → marks_clash m n ≡ false
 no_clash a b m n p q e =

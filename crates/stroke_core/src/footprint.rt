@@ -3,6 +3,7 @@
 ghost use Rattle.std.specs.Prelude.{◌≡◌, ◌≤◌, ◌-◌, ◌&&◌, ◌||◌, ◌++◌, ◌∷◌, [], true, not, position, if◌then◌else◌, OnOk, OnErr, length, take, drop, ◌<◌, vec_len, vec_capacity};
 ghost use Rattle.std.specs.List.{list_any};
 ghost use Rattle.geom_core.specs.Areas.{meets};
+ghost use Rattle.doc_model.specs.Jobs.{reads, writes};
 ghost use Rattle.doc_model.specs.Lawful.{checks};
 ghost use Rattle.doc_model.specs.Strokes.{any_meet, is_uni};
 ghost use Rattle.stroke_core.specs.Bounds.{IsRound};
@@ -20,15 +21,20 @@ use std::marker::Model;
 pub(crate) struct Footprint {
     reads: ArrayVec<Rect, 2>,
     writes: ArrayVec<Rect, 2>,
+    /// Whether it is known to write all that it reads.
+    writes_all: bool,
     unique: bool,
 }
 
 impl Model for Footprint {
+    ghost use Rattle.std.specs.Prelude.{◌≡◌, true};
     ghost use Rattle.stroke_core.specs.Marks.{Marks};
 
     ghost Value = { Marks };
 
     ghost view = { λ f. record { reads = f.reads.items; writes = f.writes.items; unique = f.unique } };
+
+    ghost invariant = { λ f. f.writes_all ≡ true → f.writes.items ≡ f.reads.items };
 }
 
 impl Footprint {
@@ -41,6 +47,7 @@ impl Footprint {
         Footprint {
             reads: job.reads(),
             writes: job.writes(),
+            writes_all: writes_all(job),
             unique: is_unique(kind),
         }
     }
@@ -49,9 +56,19 @@ impl Footprint {
     fn clashes(&self, other: &Footprint) -> bool
         ensures { result ≡ marks_clash self.now other.now }
     {
-        !(self.unique && other.unique)
-            && (any_meet(self.writes.as_slice(), other.reads.as_slice())
-                || any_meet(other.writes.as_slice(), self.reads.as_slice()))
+        !(self.unique && other.unique) && self.disturbs(other)
+    }
+
+    /// Whether one of the jobs writes what the other reads. Where each writes all that it reads, one
+    /// way tells of the other.
+    fn disturbs(&self, other: &Footprint) -> bool
+        ensures { result ≡ (any_meet self.now.writes other.now.reads || any_meet other.now.writes self.now.reads) }
+    {
+        let there = any_meet(self.writes.as_slice(), other.reads.as_slice());
+        if self.writes_all && other.writes_all {
+            return there;
+        }
+        there || any_meet(other.writes.as_slice(), self.reads.as_slice())
     }
 
     /// A rectangle round all that the job reads and writes.
@@ -75,6 +92,16 @@ fn is_unique(kind: Kind) -> bool
     ensures { result ≡ is_uni kind }
 {
     kind == Kind::Uni
+}
+
+/// Whether the job writes all that it reads.
+fn writes_all(job: &Job) -> bool
+    ensures { result ≡ true → writes job.now ≡ reads job.now }
+{
+    match job {
+        Job::Fill { .. } | Job::Dab { .. } | Job::Move { .. } => true,
+        Job::Blur { .. } => false,
+    }
 }
 
 /// Whether some rectangle of the one meets some of the other.
