@@ -1,5 +1,5 @@
 -- Jobs whose bounds have no point in common don't conflict.
-use Rattle.std.proofs.Common.{◌≡◌, ℕ, suc, zero, ◌+◌, ◌-◌, ◌<◌, ◌≤◌, Bool, true, false, ◌&&◌, ◌||◌, not, cond, List, [], ◌∷◌, ◌++◌, Option, Some, None, length, get_or, refl, sym, ap, ◌∙◌, arith, subst, inl, inr, ◌⊎◌}
+use Rattle.std.proofs.Common.{◌≡◌, ℕ, suc, zero, ◌+◌, ◌-◌, ◌<◌, ◌≤◌, Bool, true, false, ◌&&◌, ◌||◌, not, cond, List, [], ◌∷◌, ◌++◌, Some, None, length, refl, sym, ap, ◌∙◌, arith, subst, inl, inr, ◌⊎◌}
 use Rattle.std.specs.Prelude.{slice_get, slice_index, slice_index_or, nat_le, ℤ, pos, ◌+ℤ◌, ◌-ℤ◌, ◌≤ℤ◌, int_lt, All, position, drop, take}
 use Rattle.std.specs.List.{list_any}
 use borrow.Author.Differences.{ints}
@@ -35,7 +35,7 @@ apart a b x y n p q = elim (true_or_false (meets x y)) [ inl e ↦ (let t : near
 all_apart : (a b : Bound) (xs ys : List Area) → near a b ≡ false → All (LiesIn a) xs → All (LiesIn b) ys → any_meet xs ys ≡ false
 all_apart a b xs ys n p q = list_any_none (λ x. list_any (λ y. meets x y) ys) xs (λ k d l. list_any_none (λ y. meets (slice_index_or xs k d) y) ys (λ i e h. apart a b (slice_index_or xs k d) (slice_index_or ys i e) n (p k d l) (q i e h)))
 
-and_comm : (a b : Bool) → (a && b) ≡ (b && a)
+pub and_comm : (a b : Bool) → (a && b) ≡ (b && a)
 and_comm true true = refl
 and_comm true false = refl
 and_comm false true = refl

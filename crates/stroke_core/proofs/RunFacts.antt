@@ -1,10 +1,8 @@
 -- The new job is compared with the jobs of the last run alone.
-use Rattle.std.proofs.Common.{◌≡◌, ℕ, suc, zero, ◌+◌, ◌-◌, ◌<◌, ◌≤◌, Bool, true, false, ◌&&◌, not, cond, List, [], ◌∷◌, ◌++◌, map, Option, Some, None, length, drop, take, refl, sym, ap, ◌∙◌, arith, subst, inl, inr, ◌⊎◌}
-use Rattle.std.specs.Prelude.{slice_get, position, nat_lt}
-use Rattle.std.specs.List.{position_or_len}
+use Rattle.std.proofs.Common.{◌≡◌, ℕ, suc, zero, ◌+◌, ◌-◌, ◌<◌, ◌≤◌, Bool, true, false, ◌&&◌, not, cond, List, [], ◌∷◌, ◌++◌, map, Option, Some, None, length, drop, refl, sym, ap, ◌∙◌, arith, subst, inl, inr, ◌⊎◌}
+use Rattle.std.specs.Prelude.{slice_get, position}
 use Rattle.std.proofs.lemmas.List.{drop-append-le, drop_all, length-drop, length-map, map-append}
 use Rattle.std.proofs.lemmas.List.Elements.{All-append, All-cons}
-use Rattle.std.proofs.lemmas.Bool.Decides.{nat_tests}
 use Rattle.geom_core.proofs.Tests.{true_or_false, and_left}
 use Rattle.doc_model.specs.declared.job.Job.{Job}
 use Rattle.doc_model.specs.declared.job.Kind.{Kind}
@@ -14,6 +12,7 @@ use Rattle.doc_model.specs.Strokes.{Jobs, conflicting, first_conflicting, one_ru
 use Rattle.doc_model.proofs.Conflicts.{all_from_all, all_from_at}
 use Rattle.stroke_core.specs.Fed.{IsKept, pair_or, plus}
 use Rattle.stroke_core.specs.Marks.{Marks, marks_of, marks_clash}
+use Rattle.stroke_core.proofs.Apart.{and_comm}
 use Rattle.stroke_core.proofs.FirstPlace.{plus_plus, position_here, position_later}
 use Rattle.stroke_core.proofs.MoreJobs.{conflict_more, conflict_nil, length_last}
 
@@ -88,12 +87,6 @@ get_below : (jobs : Jobs) (i : ℕ) (j : Kind × Job) → slice_get jobs i ≡ S
 get_below [] i j e = cc
 get_below (k ∷ jobs) zero j e = omega arith
 get_below (k ∷ jobs) (suc i) j e = let r : i < length jobs = get_below jobs i j e in omega arith
-
-and_comm : (a b : Bool) → (a && b) ≡ (b && a)
-and_comm true true = refl
-and_comm true false = refl
-and_comm false true = refl
-and_comm false false = refl
 
 below_or : (k n : ℕ) → k < suc n → (k < n) ⊎ (k ≡ n)
 below_or zero zero h = inr refl

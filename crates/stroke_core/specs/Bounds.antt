@@ -1,5 +1,5 @@
 -- Rectangles round all that jobs read and write.
-use Rattle.std.specs.Prelude.{◌≡◌, ℕ, ◌+◌, nat_le, ℤ, pos, ◌-ℤ◌, ◌≤ℤ◌, Bool, false, ◌&&◌, Some, List, length, slice_get, slice_index, All}
+use Rattle.std.specs.Prelude.{◌≡◌, ℕ, ◌+◌, nat_le, pos, ◌-ℤ◌, ◌≤ℤ◌, Bool, false, ◌&&◌, Some, List, length, slice_get, slice_index, All}
 use Rattle.geom_core.specs.Areas.{Area, right, bottom}
 use Rattle.stroke_core.specs.declared.bound.Bound.{Bound}
 use Rattle.stroke_core.specs.Marks.{Marks}

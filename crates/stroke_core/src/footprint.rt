@@ -168,7 +168,11 @@ impl Footprints {
         ensures err { OnErr result (self.new ≡ self.old) }
     {
         let bound = footprint.bound();
-        let left_for_unique = if footprint.unique { u16::MAX } else { bound.left };
+        let left_for_unique = if footprint.unique {
+            u16::MAX
+        } else {
+            bound.left
+        };
         self.exact.reserve(1)?;
         self.lefts.reserve(1)?;
         self.lefts_for_unique.reserve(1)?;
@@ -221,8 +225,20 @@ impl Footprints {
         requires bound { IsRound bound new.now }
         ensures { result ≡ plus from (position (λ f. marks_clash f new.now) (take (to - from) (drop from self.now))) }
     {
-        let lefts = if new.unique { &self.lefts_for_unique } else { &self.lefts };
-        if !any_near(lefts, &self.rights, &self.tops, &self.bottoms, from, to, bound) {
+        let lefts = if new.unique {
+            &self.lefts_for_unique
+        } else {
+            &self.lefts
+        };
+        if !any_near(
+            lefts,
+            &self.rights,
+            &self.tops,
+            &self.bottoms,
+            from,
+            to,
+            bound,
+        ) {
             return None;
         }
         let place = new.first_clash(&self.exact[from..to])?;

@@ -1,8 +1,5 @@
-use Rattle.std.proofs.Common.{ℕ, arith, List}
-use Rattle.std.proofs.lemmas.Grind.{common_steps}
-use Rattle.std.proofs.lemmas.List.Elements.{All-more, All-same, All-weaker}
+use Rattle.std.proofs.lemmas.List.Elements.{All-more, All-weaker}
 use Rattle.std.proofs.lemmas.List.{take_all}
-use Rattle.geom_core.specs.Areas.{Area}
 use Rattle.stroke_core.specs.Bounds.{LiesIn}
 use Rattle.stroke_core.proofs.bound.Bound.with_all.Goals as goal
 

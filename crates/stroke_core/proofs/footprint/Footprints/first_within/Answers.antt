@@ -1,9 +1,8 @@
-use Rattle.std.proofs.Common.{◌≡◌, List, ℕ, true, false, cond, None, sym, ap, ◌∙◌, subst, rules, arith, take, drop, ◌-◌}
-use Rattle.std.specs.Prelude.{position}
+use Rattle.std.proofs.Common.{◌≡◌, List, true, false, cond, sym, ap, ◌∙◌, subst, arith}
 use Rattle.std.proofs.lemmas.Grind.{common_steps}
 use Rattle.stroke_core.specs.Bounds.{AreEdges, near, bound_at}
 use Rattle.stroke_core.specs.Fed.{plus}
-use Rattle.stroke_core.specs.Marks.{Marks, marks_clash}
+use Rattle.stroke_core.specs.Marks.{Marks}
 use Rattle.stroke_core.proofs.Apart.{block_apart}
 use Rattle.stroke_core.proofs.footprint.Footprints.first_within.Goals as goal
 use Rattle.stroke_core.proofs.footprint.Footprints.first_within.Goals.{then-new, else-new}
