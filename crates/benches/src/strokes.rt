@@ -125,7 +125,12 @@ fn measure_layout(rt: &(impl Print + Clock), alloc: Global, layout: Layout) -> i
 
 /// Times runs of concurrent jobs.
 pub fn measure(rt: &(impl Print + Clock), alloc: Global) -> io::Result<()> {
-    for layout in [Layout::Rows, Layout::Scattered, Layout::Unique, Layout::Moves] {
+    for layout in [
+        Layout::Rows,
+        Layout::Scattered,
+        Layout::Unique,
+        Layout::Moves,
+    ] {
         measure_layout(rt, alloc, layout)?;
     }
     Ok(())

@@ -12,7 +12,7 @@ use Rattle.geom_core.proofs.Tests.{true_or_false, and_left, and_right}
 use Rattle.geom_core.specs.Areas.{Area, meets, right, bottom}
 use Rattle.doc_model.specs.Strokes.{any_meet}
 use Rattle.stroke_core.specs.declared.bound.Bound.{Bound}
-use Rattle.stroke_core.specs.Bounds.{LiesIn, IsRound, AreEdges, near, bound_at}
+use Rattle.stroke_core.specs.Bounds.{LiesIn, Encloses, AreEdges, near, bound_at}
 use Rattle.stroke_core.specs.Marks.{Marks, marks_clash}
 use Rattle.stroke_core.proofs.FirstPlace.{position_none_within}
 
@@ -70,7 +70,7 @@ one_way reads writes reads' writes' e f = rw (e, f) (same (any_meet reads reads'
 near_comm : (a b : Bound) → near a b ≡ near b a
 near_comm a b i = and_comm (nat_le a.left b.right) (nat_le b.left a.right) i && and_comm (nat_le a.top b.bottom) (nat_le b.top a.bottom) i
 
-no_clash : (a b : Bound) (m n : Marks) → IsRound a m → IsRound b n → near a b ≡ false → marks_clash m n ≡ false
+no_clash : (a b : Bound) (m n : Marks) → Encloses a m → Encloses b n → near a b ≡ false → marks_clash m n ≡ false
 no_clash a b m n p q e =
     rw (all_apart a b m.writes n.reads e p.writes q.reads, all_apart b a n.writes m.reads (near_comm b a ∙ e) q.writes p.reads) (none (not (m.unique && n.unique)))
   where
@@ -79,7 +79,7 @@ no_clash a b m n p q e =
     none false = refl
 
 -- the marks at a place don't clash with a job whose bound isn't near
-at_place : (marks : List Marks) (lefts unique rights tops bottoms : List ℕ) (new m : Marks) (b : Bound) (k : ℕ) (u : Bool) → AreEdges marks lefts unique rights tops bottoms → IsRound b new → new.unique ≡ u → slice_get marks k ≡ Some m
+at_place : (marks : List Marks) (lefts unique rights tops bottoms : List ℕ) (new m : Marks) (b : Bound) (k : ℕ) (u : Bool) → AreEdges marks lefts unique rights tops bottoms → Encloses b new → new.unique ≡ u → slice_get marks k ≡ Some m
     → near (bound_at (cond u unique lefts) rights tops bottoms k) b ≡ false → marks_clash m new ≡ false
 at_place marks lefts unique rights tops bottoms new m b k false h r u e n = no_clash _ b m new (h.bounded k m e) r n
 at_place marks lefts unique rights tops bottoms new m b k true h r u e n = elim (true_or_false m.unique) [
@@ -88,7 +88,7 @@ at_place marks lefts unique rights tops bottoms new m b k true h r u e n = elim 
 ]
 
 -- where no bound of a block is near, no job of it clashes
-pub block_apart : (marks : List Marks) (lefts unique rights tops bottoms : List ℕ) (new : Marks) (b : Bound) (from to : ℕ) → AreEdges marks lefts unique rights tops bottoms → IsRound b new
+pub block_apart : (marks : List Marks) (lefts unique rights tops bottoms : List ℕ) (new : Marks) (b : Bound) (from to : ℕ) → AreEdges marks lefts unique rights tops bottoms → Encloses b new
     → ((k : ℕ) → from ≤ k → k < to → near (bound_at (cond new.unique unique lefts) rights tops bottoms k) b ≡ false) → position (λ f. marks_clash f new) (take (to - from) (drop from marks)) ≡ None
 block_apart marks lefts unique rights tops bottoms new b from to h r n = position_none_within (λ f. marks_clash f new) from to marks (λ k m a l e. at_place marks lefts unique rights tops bottoms new m b k new.unique h r refl e (n k a l))
 
@@ -112,7 +112,7 @@ length_more : (xs : List ℕ) (marks : List Marks) (x : ℕ) (m : Marks) → len
 length_more xs marks x m e = simp length-append (omega arith)
 
 -- one more bound
-pub edges_more : (marks : List Marks) (lefts unique rights tops bottoms : List ℕ) (m : Marks) (b : Bound) (l : ℕ) → AreEdges marks lefts unique rights tops bottoms → IsRound b m → (m.unique ≡ false → l ≡ b.left)
+pub edges_more : (marks : List Marks) (lefts unique rights tops bottoms : List ℕ) (m : Marks) (b : Bound) (l : ℕ) → AreEdges marks lefts unique rights tops bottoms → Encloses b m → (m.unique ≡ false → l ≡ b.left)
     → AreEdges (marks ++ m ∷ []) (lefts ++ b.left ∷ []) (unique ++ l ∷ []) (rights ++ b.right ∷ []) (tops ++ b.top ∷ []) (bottoms ++ b.bottom ∷ [])
 edges_more marks lefts unique rights tops bottoms m b l h r same = record {
   lefts_len = length_more lefts marks b.left m h.lefts_len;
@@ -121,8 +121,8 @@ edges_more marks lefts unique rights tops bottoms m b l h r same = record {
   tops_len = length_more tops marks b.top m h.tops_len;
   bottoms_len = length_more bottoms marks b.bottom m h.bottoms_len;
   bounded = λ k n e. elim (old_or_last marks m k n e) [
-    | inl t ↦ subst (λ (b : Bound). IsRound b n) (sym (old_bound k t.0)) (h.bounded k n t.1)
-    | inr t ↦ subst (λ (b : Bound). IsRound b n) (sym (last_bound k t.0)) (subst (λ (m : Marks). IsRound b m) (sym t.1) r)
+    | inl t ↦ subst (λ (b : Bound). Encloses b n) (sym (old_bound k t.0)) (h.bounded k n t.1)
+    | inr t ↦ subst (λ (b : Bound). Encloses b n) (sym (last_bound k t.0)) (subst (λ (m : Marks). Encloses b m) (sym t.1) r)
   ];
   seen = λ k n e u. elim (old_or_last marks m k n e) [
     | inl t ↦ index_old unique (length marks) l k h.unique_len t.0 ∙ h.seen k n t.1 u ∙ sym (index_old lefts (length marks) b.left k h.lefts_len t.0)

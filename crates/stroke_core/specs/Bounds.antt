@@ -12,7 +12,7 @@ pub record LiesIn (b : Bound) (a : Area) : Type 0 where
   pub bottom : bottom a ≤ℤ (pos (b.bottom + 1) -ℤ pos 16384)
 
 -- all that is read and written lies in the bound
-pub record IsRound (b : Bound) (m : Marks) : Type 0 where
+pub record Encloses (b : Bound) (m : Marks) : Type 0 where
   pub reads : All (LiesIn b) m.reads
   pub writes : All (LiesIn b) m.writes
 
@@ -24,12 +24,12 @@ near a b = (nat_le a.left b.right && nat_le b.left a.right) && (nat_le a.top b.b
 abbrev pub bound_at : List ℕ → List ℕ → List ℕ → List ℕ → ℕ → Bound
 bound_at lefts rights tops bottoms k = record { left = slice_index lefts k; right = slice_index rights k; top = slice_index tops k; bottom = slice_index bottoms k }
 
--- the edges at each place bound the marks at that place; a unique job need not see the left edges of other unique ones
+-- the edges at each place enclose the marks at that place; unique jobs don't conflict with each other, so for them the left edge of a unique one may be any
 pub record AreEdges (marks : List Marks) (lefts lefts_for_unique rights tops bottoms : List ℕ) : Type 0 where
   pub lefts_len : length lefts ≡ length marks
   pub unique_len : length lefts_for_unique ≡ length marks
   pub rights_len : length rights ≡ length marks
   pub tops_len : length tops ≡ length marks
   pub bottoms_len : length bottoms ≡ length marks
-  pub bounded : (k : ℕ) (m : Marks) → slice_get marks k ≡ Some m → IsRound (bound_at lefts rights tops bottoms k) m
+  pub bounded : (k : ℕ) (m : Marks) → slice_get marks k ≡ Some m → Encloses (bound_at lefts rights tops bottoms k) m
   pub seen : (k : ℕ) (m : Marks) → slice_get marks k ≡ Some m → m.unique ≡ false → slice_index lefts_for_unique k ≡ slice_index lefts k

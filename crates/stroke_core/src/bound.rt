@@ -7,8 +7,8 @@ ghost use Rattle.stroke_core.specs.Bounds.{LiesIn, near, bound_at};
 
 use geom_core::Rect;
 
-/// A rectangle by its first and last columns and rows, which count from the world's corner and are
-/// at most 32,767.
+/// A rectangle by its first and last columns and rows, which count from the world's corner. Those
+/// of the world are at most 32,767.
 #[derive(Clone, Copy)]
 pub(crate) struct Bound {
     pub(crate) left: u16,
@@ -18,7 +18,7 @@ pub(crate) struct Bound {
 }
 
 impl Bound {
-    /// The bound of nothing.
+    /// The bound of nothing: its first column and row lie behind its last.
     pub(crate) fn nothing() -> Bound {
         Bound {
             left: u16::MAX,

@@ -6,7 +6,7 @@ ghost use Rattle.geom_core.specs.Areas.{meets};
 ghost use Rattle.doc_model.specs.Jobs.{reads, writes};
 ghost use Rattle.doc_model.specs.Lawful.{checks};
 ghost use Rattle.doc_model.specs.Strokes.{any_meet, is_uni};
-ghost use Rattle.stroke_core.specs.Bounds.{IsRound};
+ghost use Rattle.stroke_core.specs.Bounds.{Encloses};
 ghost use Rattle.stroke_core.specs.Fed.{plus};
 
 use crate::bound::{Bound, any_near};
@@ -73,7 +73,7 @@ impl Footprint {
 
     /// A rectangle round all that the job reads and writes.
     fn bound(&self) -> Bound
-        ensures { IsRound result self.now }
+        ensures { Encloses result self.now }
     {
         Bound::nothing()
             .with_all(self.reads.as_slice())
@@ -222,7 +222,7 @@ impl Footprints {
     fn first_within(&self, from: usize, to: usize, new: &Footprint, bound: Bound) -> Option<usize>
         requires ascending { from ≤ to }
         requires inside { to ≤ length self.now }
-        requires bound { IsRound bound new.now }
+        requires bound { Encloses bound new.now }
         ensures { result ≡ plus from (position (λ f. marks_clash f new.now) (take (to - from) (drop from self.now))) }
     {
         let lefts = if new.unique {
