@@ -1,4 +1,4 @@
--- What nodes of a document have on one tile.
+-- What nodes of a document and frames of it have on one tile.
 use Rattle.std.specs.Prelude.{◌≡◌, ℕ, suc, ◌%◌, Bool, ◌==◌, ◌&&◌, not, true, false, if◌then◌else◌, Option, List}
 use Rattle.std.specs.FinMap as map
 use Rattle.pixel_core.specs.Rgba.{Rgba, clear}
