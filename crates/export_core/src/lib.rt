@@ -4,5 +4,7 @@
 mod frame;
 mod group;
 mod pile;
+#[cfg(test)]
+mod tests;
 
 pub use frame::{frame_after, frame_of};

@@ -1,0 +1,57 @@
+//! That frames can be made, from nothing and after another.
+
+ghost use Rattle.std.specs.Prelude.{◌≡◌, None, IfOk};
+ghost use Rattle.doc_model.specs.Canvases.{IsOfLimits};
+
+use super::*;
+use desk_steps::Store;
+use doc_model::{Canvas, Change};
+use geom_core::NoMemory;
+use pixel_core::Pixel;
+use std::alloc::Global;
+use std::test::Fail;
+use tile_core::{Frame, Marks};
+
+/// Sets a red layer in. Whether it came.
+fn add_red(store: &mut Store, alloc: Global) -> bool
+    requires { store.old.way ≡ None }
+{
+    let change = Change::Layer {
+        id: 1,
+        parent: 0,
+        place: 0,
+        ground: Pixel::new(255, 0, 0, 255),
+    };
+    match store.change(alloc, &change) {
+        Ok(_) => true,
+        Err(_) => false,
+    }
+}
+
+/// A frame from nothing, and then one after it.
+fn second_frame(alloc: Global, store: &Store, canvas: &Canvas) -> Result<Frame, NoMemory>
+    requires { IsOfLimits canvas.now }
+    ensures width { IfOk result (λ f. f.width ≡ canvas.now.w) }
+    ensures height { IfOk result (λ f. f.height ≡ canvas.now.h) }
+{
+    let first = frame_of(alloc, store, *canvas)?;
+    let unmarked = Marks::none();
+    frame_after(alloc, store, *canvas, &first, &unmarked)
+}
+
+#[test]
+fn frames_one_after_another(rt: HostRuntime) -> Result<(), Fail> {
+    let alloc = rt.alloc();
+    let canvas = Canvas {
+        w: 100,
+        h: 70,
+        paper: Pixel::new(255, 255, 255, 255),
+    };
+    let mut store = Store::new(alloc)?;
+    let paper = second_frame(alloc, &store, &canvas)?;
+    assert_eq!(rt; paper.at(99, 69), [255, 255, 255]);
+    assert!(rt; add_red(&mut store, alloc));
+    let red = second_frame(alloc, &store, &canvas)?;
+    assert_eq!(rt; red.at(99, 69), [255, 0, 0]);
+    Ok(())
+}
