@@ -9,7 +9,7 @@ use Rattle.doc_model.proofs.Parents.{Distinct}
 use Rattle.doc_model.proofs.Weights.{within_absent, tree_distinct, tree_root}
 use Rattle.doc_model.proofs.Paths.{group_has, other_than, children_absent, join_none}
 use Rattle.tree_core.specs.declared.node.Node.{Node}
-use Rattle.tree_core.specs.Nodes.{Tree, row_of, tree_of, IsKept, start_in}
+use Rattle.tree_core.specs.Nodes.{Tree, row_of, tree_of, IsKept}
 use Rattle.tree_core.proofs.Choices.{turned}
 use Rattle.tree_core.proofs.Kept.{Rows}
 use Rattle.tree_core.proofs.Passes.{nodes_after, after_node, after_nodes}

@@ -1,5 +1,5 @@
 -- The nodes of a part, and those but the part's.
-use Rattle.std.proofs.Common.{◌≡◌, ◌≢◌, ℕ, suc, ◌+◌, ◌-◌, ◌<◌, ◌≤◌, zero, Bool, true, false, ◌&&◌, not, cond, Some, is_some, List, [], ◌∷◌, ◌++◌, length, get_or, take, drop, refl, sym, ap, ◌∙◌, arith, eqb, ltb}
+use Rattle.std.proofs.Common.{◌≡◌, ℕ, suc, ◌+◌, ◌-◌, ◌<◌, ◌≤◌, zero, Bool, true, false, ◌&&◌, not, cond, Some, is_some, List, [], ◌∷◌, length, get_or, refl, sym, ap, ◌∙◌, arith, eqb, ltb}
 use Rattle.std.specs.Prelude.{slice_range}
 use Rattle.std.specs.List.{remove_range}
 use Rattle.std.proofs.lemmas.Grind.{common_steps}

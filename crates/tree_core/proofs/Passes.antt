@@ -11,7 +11,7 @@ use Rattle.doc_model.specs.Flat.{read, node}
 use Rattle.tree_core.specs.declared.node.Node.{Node}
 use Rattle.tree_core.specs.Nodes.{Tree, rows_of, content_of, start_in}
 use Rattle.doc_model.specs.Readers.{side_at}
-use Rattle.tree_core.proofs.Choices.{same_choice, turned}
+use Rattle.tree_core.proofs.Choices.{same_choice}
 
 -- the first node with the id q
 abbrev pub first_with : ℕ → List Node → Option Node
@@ -146,3 +146,7 @@ whole_rest nodes i = grind (arith, common_steps)
 -- the child at a place is found
 pub kid_found : (l k : ℕ) (nodes : List Node) (i left : ℕ) (d : Node) → kid_at l k nodes ≡ kid_at l left (drop i nodes) → i < length nodes → (get_or nodes i d).depth ≡ l → left ≡ 0 → Some (get_or nodes i d).id ≡ kid_at l k nodes
 kid_found l k nodes i left d so h e z = sym (so ∙ ap (kid_at l left) (next_node nodes i d h) ∙ kept (ltb (get_or nodes i d).depth l) _ _ (grind (arith, nat_tests)) ∙ taken (eqb (get_or nodes i d).depth l) _ _ (grind (arith, nat_tests)) ∙ taken (eqb left 0) _ _ (grind (arith, nat_tests)))
+
+-- a node above ends the children
+pub kid_none : (l k : ℕ) (nodes : List Node) (i left : ℕ) (d : Node) → kid_at l k nodes ≡ kid_at l left (drop i nodes) → i < length nodes → (get_or nodes i d).depth < l → None ≡ kid_at l k nodes
+kid_none l k nodes i left d so h above = sym (so ∙ ap (kid_at l left) (next_node nodes i d h) ∙ taken (ltb (get_or nodes i d).depth l) _ _ (grind (arith, nat_tests)))

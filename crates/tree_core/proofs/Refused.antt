@@ -1,5 +1,5 @@
 -- Why a new node can't come, and why a node can't be moved.
-use Rattle.std.proofs.Common.{◌≡◌, ◌≢◌, ℕ, suc, ◌+◌, ◌-◌, ◌<◌, ◌≤◌, Bool, true, false, ◌||◌, not, cond, Some, None, is_some, List, [], ◌∷◌, length, refl, sym, ap, ◌∙◌, arith, eqb, ltb, inl, inr}
+use Rattle.std.proofs.Common.{◌≡◌, ◌≢◌, ℕ, suc, ◌+◌, ◌-◌, ◌<◌, ◌≤◌, Bool, true, false, ◌||◌, not, cond, Some, None, List, [], ◌∷◌, length, refl, sym, ap, ◌∙◌, arith, eqb, ltb, inl, inr}
 use Rattle.std.specs.Prelude.{slice_range}
 use Rattle.std.proofs.lemmas.List.{length-map}
 use Rattle.std.proofs.lemmas.Bool.Decides.{nat_tests}
@@ -102,9 +102,6 @@ new_other id t h e = ap (λ b. b || has id t) (let z : eqb id 0 ≡ false = grin
 
 -- of a new node
 module _ (id p place : ℕ) (t : Tree) (other : there_in id t ≡ false) where
-  pub new_no_group : takes p t ≡ false → no_new id p place t ≡ Some (cond (has p t) (NotGroup p) (NoNode p))
-  new_no_group g = kept (there_in id t) _ _ other ∙ no_group p t (new_faults p place t) g
-
   module _ (g : takes p t ≡ true) where
     to_room : no_new id p place t ≡ first_of_faults (new_faults p place t)
     to_room = kept (there_in id t) _ _ other ∙ some_group p t (new_faults p place t) g

@@ -1,8 +1,7 @@
 -- Why a node with those below it can't be moved, or where it goes.
-use Rattle.std.proofs.Common.{◌≡◌, ◌≢◌, ℕ, ◌+◌, ◌-◌, ◌<◌, ◌≤◌, suc, true, false, cond, Some, None, List, ◌∷◌, ◌++◌, map, is_some, length, get_or, take, drop, refl, sym, ap, ◌∙◌, arith, ltb}
+use Rattle.std.proofs.Common.{◌≡◌, ◌≢◌, ℕ, ◌+◌, ◌-◌, ◌<◌, ◌≤◌, suc, true, false, cond, Some, None, List, ◌∷◌, ◌++◌, map, length, get_or, take, drop, sym, ap, ◌∙◌, arith, ltb}
 use Rattle.std.specs.Prelude.{slice_range}
 use Rattle.std.specs.List.{remove_range}
-use Rattle.std.proofs.lemmas.Grind.{common_steps}
 use Rattle.doc_model.specs.declared.tree.TreeFault.TheVariants.{NoNode, NotGroup, IntoItself, TooDeep, BadPlace}
 use Rattle.doc_model.specs.Forest.{has, width, height, depth, only, without}
 use Rattle.doc_model.specs.Flat.{flat, read}

@@ -1,11 +1,10 @@
 -- A part that is moved among other nodes.
-use Rattle.std.proofs.Common.{◌≡◌, ℕ, suc, ◌+◌, ◌-◌, ◌<◌, ◌≤◌, List, [], ◌∷◌, ◌++◌, map, length, get_or, set, take, drop, refl, sym, ap, ◌∙◌, arith, append_assoc}
+use Rattle.std.proofs.Common.{◌≡◌, ℕ, suc, ◌+◌, ◌-◌, ◌<◌, ◌≤◌, List, [], ◌∷◌, ◌++◌, map, length, get_or, set, take, drop, sym, ap, ◌∙◌, arith, append_assoc}
 use Rattle.std.specs.Prelude.{slice_range}
 use Rattle.std.specs.List.{remove_range}
 use Rattle.std.proofs.lemmas.List.{length-map, map_more}
 use Rattle.std.proofs.lemmas.Grind.{common_steps}
 use Rattle.std.proofs.lemmas.Slice.{between_is}
-use Rattle.std.proofs.Math.Seq.{take-append_seam, drop-append_seam}
 use borrow.Rule.Slice.PartMut.{mid_of, put_mid}
 use Rattle.tree_core.specs.declared.node.Node.{Node}
 use Rattle.tree_core.proofs.Passes.{next_node}
@@ -95,15 +94,3 @@ one_changed change old now i d so h =
 
     split : now ≡ front ++ (x ∷ rest)
     split = so ∙ ap (λ xs. front ++ xs) (next_node old i d h)
-
--- a part that is changed where it stands
-pub changed_at : (front part back : List Node) (change : Node → Node) (a k : ℕ) → a ≡ length front → k ≡ length part → put_mid a k (front ++ (part ++ back)) (map change (mid_of a k (front ++ (part ++ back)))) ≡ front ++ (map change part ++ back)
-changed_at front part back change a k e h =
-    ap (λ n. take n xs ++ (map change (take k (drop n xs)) ++ drop k (drop n xs))) e
-    ∙ ap (λ zs. zs ++ (map change (take k (drop (length front) xs)) ++ drop k (drop (length front) xs))) (take-append_seam front (part ++ back))
-    ∙ ap (λ zs. front ++ (map change (take k zs) ++ drop k zs)) (drop-append_seam front (part ++ back))
-    ∙ ap (λ n. front ++ (map change (take n (part ++ back)) ++ drop n (part ++ back))) h
-    ∙ ap (λ zs. front ++ (map change zs ++ drop (length part) (part ++ back))) (take-append_seam part back) ∙ ap (λ zs. front ++ (map change part ++ zs)) (drop-append_seam part back)
-  where
-    xs : List Node
-    xs = front ++ (part ++ back)

@@ -97,16 +97,14 @@ pub fn children_at(nodes: &[Node], depth: u8) -> usize
 pub fn child_at(nodes: &[Node], depth: u8, place: u16) -> Option<u16>
     ensures { result ≡ side_at place (read depth (rows_of nodes.now)) }
 {
-    let mut left = place;
+    let mut passed = 0;
     for n in nodes {
         if n.depth < depth {
             return None;
         }
-        if n.depth == depth {
-            if left == 0 {
-                return Some(n.id);
-            }
-            left -= 1;
+        passed += u32::from(n.depth == depth);
+        if passed > place as u32 {
+            return Some(n.id);
         }
     }
     None
@@ -136,20 +134,26 @@ pub fn place_at(nodes: &[Node], part: Part, group: Group, place: u8) -> Option<u
     ensures within { IfSome result (λ at. at ≤ length (remove_range nodes.now part.start part.end)) }
 {
     let count = nodes.len() - (part.end - part.start);
-    let mut left = place;
+    let mut passed = 0;
     for i in group.start..count {
-        let n = other(nodes, part, i);
-        if n.depth < group.depth {
-            return if left == 0 { Some(i) } else { None };
+        let depth = other(nodes, part, i).depth;
+        if depth < group.depth {
+            return if passed == place as u32 {
+                Some(i)
+            } else {
+                None
+            };
         }
-        if n.depth == group.depth {
-            if left == 0 {
-                return Some(i);
-            }
-            left -= 1;
+        passed += u32::from(depth == group.depth);
+        if passed > place as u32 {
+            return Some(i);
         }
     }
-    if left == 0 { Some(count) } else { None }
+    if passed == place as u32 {
+        Some(count)
+    } else {
+        None
+    }
 }
 
 /// Where the node with that id stands and where those below it end, or an empty part at the end where no node has the id.

@@ -166,8 +166,7 @@ impl Tree {
         ensures same { OnErr result (self.new ≡ self.old) }
     {
         let spot = new_spot(self.nodes.as_slice(), id, parent, place)?;
-        self.nodes
-            .insert(spot.at, new_node(spot.depth, id, paints));
+        self.nodes.insert(spot.at, new_node(spot.depth, id, paints));
         Ok(())
     }
 

@@ -1,7 +1,7 @@
-use Rattle.std.proofs.Common.{◌≡◌, ◌≤◌, ◌<◌, ◌+◌, false, drop, length, sym, ap, ◌∙◌, ltb, arith}
-use Rattle.doc_model.specs.Forest.{count, depth, width}
+use Rattle.std.proofs.Common.{◌≡◌, drop, sym, ap, ◌∙◌, ltb, arith}
+use Rattle.doc_model.specs.Forest.{depth, width}
 use Rattle.doc_model.specs.Flat.{read}
-use Rattle.doc_model.specs.Changes.{child_count, there}
+use Rattle.doc_model.specs.Changes.{child_count}
 use Rattle.tree_core.specs.Nodes.{rows_of, tree_of}
 use Rattle.tree_core.proofs.Kept.{count_is}
 use Rattle.tree_core.proofs.Depths.{depth_low}

@@ -1,4 +1,4 @@
-use Rattle.std.proofs.Common.{ap, ◌∙◌, sym, Some, ◌≡◌, ◌≤◌, ◌<◌, ◌+◌, ◌-◌, ◌&&◌, not, cond, ltb, get_or, arith}
+use Rattle.std.proofs.Common.{ap, ◌∙◌, sym, Some, ◌≤◌, ◌<◌, ◌-◌, ◌&&◌, not, cond, ltb, arith}
 use Rattle.tree_core.specs.Nodes.{start_in}
 use Rattle.tree_core.proofs.Depths.{depth_low}
 use Rattle.tree_core.proofs.Places.{told_there, told_lacking}

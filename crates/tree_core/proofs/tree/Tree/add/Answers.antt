@@ -10,8 +10,7 @@ use Rattle.tree_core.proofs.tree.Tree.add.Goals as goal
 pub insert-requires : goal.insert-requires
 insert-requires c =
     let same : tree_of c.as_slice.result.now ≡ c.args.self.now = ap tree_of c.as_slice.ensures.value ∙ c.self.view_is in
-    let ok : no_new c.args.id c.args.parent c.args.place c.args.self.now ≡ None = ap (no_new c.args.id c.args.parent c.args.place) (sym same) ∙ c.in_ok-spot.ensures.ok in
-    (
+    let ok : no_new c.args.id c.args.parent c.args.place c.args.self.now ≡ None = ap (no_new c.args.id c.args.parent c.args.place) (sym same) ∙ c.in_ok-spot.ensures.ok in (
       omega arith,
       (
         subst (λ (xs : List Node). c.in_ok-spot.spot.at ≤ length xs) c.as_slice.ensures.value c.in_ok-spot.ensures.within,
