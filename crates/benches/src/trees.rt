@@ -54,12 +54,14 @@ enum Work {
     Placed,
     /// `Tree::change` that moves a layer to the top of the innermost of eight groups.
     InnerPlaced,
+    /// Two `Tree::change` that move a layer to the bottom of the root and back to its top.
+    Carried,
     /// Two `Tree::change` that remove a layer and add it at the top of the innermost of eight groups.
     Renewed,
 }
 
 /// How many works there are.
-const COUNT: usize = 14;
+const COUNT: usize = 15;
 
 const WORKS: [Work; COUNT] = [
     Work::Pass,
@@ -75,6 +77,7 @@ const WORKS: [Work; COUNT] = [
     Work::Looked,
     Work::Placed,
     Work::InnerPlaced,
+    Work::Carried,
     Work::Renewed,
 ];
 
@@ -213,7 +216,7 @@ fn once(things: &mut Things, work: Work, id: u16) -> u32 {
         Work::Pass => passed(&things.plain, id),
         Work::Search => sought(&things.plain, id, things.level),
         Work::Copies => copied(&things.plain, id),
-        Work::Looked | Work::Placed | Work::InnerPlaced | Work::Renewed => altered(
+        Work::Looked | Work::Placed | Work::InnerPlaced | Work::Carried | Work::Renewed => altered(
             things, work, id,
         ),
         _ => read(things, work, id),
@@ -246,6 +249,10 @@ fn altered(things: &mut Things, work: Work, id: u16) -> u32 {
         ),
         Work::Placed => changed(&mut things.wide, &moved(id, 0, 255)),
         Work::InnerPlaced => changed(&mut things.deep, &moved(id, INNER, 247)),
+        Work::Carried => changed(&mut things.wide, &moved(id, 0, 0)).wrapping_add(changed(
+            &mut things.wide,
+            &moved(id, 0, 255),
+        )),
         _ => changed(&mut things.deep, &Change::Remove { id }).wrapping_add(changed(
             &mut things.deep,
             &layer_on_top(id),
@@ -306,10 +313,11 @@ const READERS: [&str; 7] = [
 ];
 
 /// The names of the changes, in the order of the works.
-const CHANGES: [&str; 4] = [
+const CHANGES: [&str; 5] = [
     "change of a look",
     "change of a place",
     "change of a place in a group",
+    "moved to the bottom and to the top again",
     "removed and added again",
 ];
 

@@ -1,5 +1,5 @@
 -- Where the nodes of a group stand among the nodes.
-use Rattle.std.proofs.Common.{◌≡◌, ◌≢◌, ℕ, suc, ◌+◌, Bool, true, false, ◌||◌, cond, Some, None, List, [], ◌∷◌, ◌++◌, map, refl, sym, ap, ◌∙◌, arith, eqb, subst, append_assoc, append-nil, inl, inr}
+use Rattle.std.proofs.Common.{◌≡◌, ◌≢◌, ℕ, suc, ◌+◌, Bool, true, false, ◌||◌, cond, Some, None, List, [], ◌∷◌, ◌++◌, map, drop, refl, sym, ap, ◌∙◌, arith, eqb, subst, append_assoc, append-nil, inl, inr}
 use Rattle.std.proofs.lemmas.Bool.Decides.{nat_tests}
 use Rattle.geom_core.proofs.Tests.{taken, kept, none_left, none_right, or_cases}
 use Rattle.doc_model.specs.Forest.{none, paint, group, has, is_group, width, depth, children, join, inserted, within}
@@ -9,10 +9,10 @@ use Rattle.doc_model.proofs.Parents.{Distinct}
 use Rattle.doc_model.proofs.Weights.{within_absent, tree_distinct, tree_root}
 use Rattle.doc_model.proofs.Paths.{group_has, other_than, children_absent, join_none}
 use Rattle.tree_core.specs.declared.node.Node.{Node}
-use Rattle.tree_core.specs.Nodes.{Tree, row_of, tree_of, IsKept, nodes_after}
+use Rattle.tree_core.specs.Nodes.{Tree, row_of, tree_of, IsKept}
 use Rattle.tree_core.proofs.Choices.{turned}
 use Rattle.tree_core.proofs.Kept.{Rows}
-use Rattle.tree_core.proofs.Passes.{after_node, after_nodes}
+use Rattle.tree_core.proofs.Passes.{nodes_after, after_node, after_nodes}
 use Rattle.tree_core.proofs.Depths.{depth_absent}
 
 -- the nodes of a group in their place
@@ -173,7 +173,7 @@ between q nodes k t = go (eqb q 0) refl t
       is = k.whole ∙ sym (append-nil (flat 0 f)) ∙ ap (λ d. flat d f ++ []) (sym none_up);
       changes = λ place new. ap (flat 0) (taken (eqb q 0) _ _ e) ∙ sym (append-nil (flat 0 (inserted place new f))) ∙ ap (λ d. flat d (inserted place new f) ++ []) (sym none_up);
       ends = tt;
-      rest = ap (map row_of) (taken (eqb q 0) nodes _ e) ∙ k.whole ∙ sym (append-nil (flat 0 f)) ∙ ap (λ d. flat d f ++ []) (sym none_up);
+      rest = ap (λ i. map row_of (drop i nodes)) (taken (eqb q 0) 0 _ e) ∙ k.whole ∙ sym (append-nil (flat 0 f)) ∙ ap (λ d. flat d f ++ []) (sym none_up);
       many = taken (eqb q 0) _ _ e;
     }
       where

@@ -84,10 +84,6 @@ pub depth_found : (q : ℕ) (nodes : List Node) (t : Tree) (n : Node) → IsKept
 depth_found q nodes t n k is e =
     let h : suc n.depth ≡ depth q t = ap depth_in (sym e) ∙ depth_is q nodes k ∙ ap (depth q) is in omega arith
 
--- where no node is found, the depth is 0
-pub depth_lost : (q : ℕ) (nodes : List Node) (t : Tree) → IsKept nodes → tree_of nodes ≡ t → first_with q nodes ≡ None → 0 ≡ depth q t
-depth_lost q nodes t k is e = ap depth_in (sym e) ∙ depth_is q nodes k ∙ ap (depth q) is
-
 -- a found node stands at most at depth 16
 pub depth_few : (q : ℕ) (nodes : List Node) (n : Node) → IsKept nodes → first_with q nodes ≡ Some n → n.depth + 1 ≤ 16
 depth_few q nodes n k e =

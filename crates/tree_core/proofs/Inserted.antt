@@ -11,10 +11,10 @@ use Rattle.doc_model.specs.Ids.{IsTree}
 use Rattle.doc_model.proofs.TreeChanges.{tree_changed, new_may}
 use Rattle.doc_model.proofs.Heights.{height_changed}
 use Rattle.tree_core.specs.declared.node.Node.{Node}
-use Rattle.tree_core.specs.Nodes.{Tree, row_of, content_of, tree_of, IsKept}
+use Rattle.tree_core.specs.Nodes.{Tree, row_of, content_of, tree_of, at_place, IsKept}
 use Rattle.tree_core.proofs.Choices.{not_not}
 use Rattle.tree_core.proofs.Kept.{tree_from, kept_from, count_is}
-use Rattle.tree_core.proofs.Spots.{at_place, set_rows}
+use Rattle.tree_core.proofs.Spots.{set_rows}
 
 -- the rows of nodes with one set in
 insert_rows : (nodes : List Node) (i : ℕ) (x : Node) → map row_of (insert nodes i x) ≡ take i (map row_of nodes) ++ (row_of x ∷ drop i (map row_of nodes))

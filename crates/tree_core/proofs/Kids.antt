@@ -5,8 +5,9 @@ use Rattle.doc_model.specs.Forest.{none, paint, group, is_group, width, depth, c
 use Rattle.doc_model.specs.Flat.{read, read-flat}
 use Rattle.doc_model.specs.Changes.{takes, child_count}
 use Rattle.tree_core.specs.declared.node.Node.{Node}
-use Rattle.tree_core.specs.Nodes.{Tree, rows_of, tree_of, IsKept, nodes_after}
+use Rattle.tree_core.specs.Nodes.{Tree, rows_of, tree_of, IsKept}
 use Rattle.doc_model.specs.Readers.{side_at, child_in}
+use Rattle.tree_core.proofs.Passes.{nodes_after}
 use Rattle.tree_core.proofs.Between.{Between, between}
 
 -- what is read after a group, at its children's depth, are its children

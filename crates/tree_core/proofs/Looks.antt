@@ -57,7 +57,7 @@ kept_relook q look nodes k =
     kept_from (map (node_with_look q look) nodes) (with_look q look (tree_of nodes)) (look_flat q look nodes k) (tree_look q look (tree_of nodes) k.once) (subst (λ n. n ≤ 16) (sym (height_look q look (tree_of nodes))) k.low)
 
 -- the nodes are written back whole
-filled : (nodes new : List Node) → length new ≡ length nodes → refill (length nodes) nodes new ≡ new
+pub filled : (nodes new : List Node) → length new ≡ length nodes → refill (length nodes) nodes new ≡ new
 filled nodes new e = grind (arith, common_steps, e)
 
 -- and so are those with that look
@@ -89,12 +89,12 @@ found_more q (x ∷ xs) n = go (eqb x.id q) (found_more q xs n)
     go false e = e
 
 -- a node set at a seam
-set_at : (xs : List Node) (x y : Node) (ys : List Node) → set (xs ++ (x ∷ ys)) (length xs) y ≡ xs ++ (y ∷ ys)
+pub set_at : (xs : List Node) (x y : Node) (ys : List Node) → set (xs ++ (x ∷ ys)) (length xs) y ≡ xs ++ (y ∷ ys)
 set_at [] x y ys = refl
 set_at (z ∷ xs) x y ys = ap (λ zs. z ∷ zs) (set_at xs x y ys)
 
 -- the node at a seam
-get_at : (xs : List Node) (x d : Node) (ys : List Node) → get_or (xs ++ (x ∷ ys)) (length xs) d ≡ x
+pub get_at : (xs : List Node) (x d : Node) (ys : List Node) → get_or (xs ++ (x ∷ ys)) (length xs) d ≡ x
 get_at [] x d ys = refl
 get_at (z ∷ xs) x d ys = get_at xs x d ys
 

@@ -1,17 +1,17 @@
 -- What the passes over the nodes go through, and what it comes to.
-use Rattle.std.proofs.Common.{◌≡◌, ◌≢◌, ℕ, suc, ◌+◌, ◌-◌, Bool, true, false, not, ◌&&◌, ◌<◌, cond, length, get_or, add-one, drop-cons, Option, Some, None, List, [], ◌∷◌, take, drop, refl, sym, ap, ◌∙◌, arith, eqb, ltb}
+use Rattle.std.proofs.Common.{◌≡◌, ◌≢◌, ℕ, suc, ◌+◌, ◌-◌, Bool, true, false, not, ◌<◌, cond, length, get_or, add-one, drop-cons, Option, Some, None, List, [], ◌∷◌, take, drop, refl, sym, ap, ◌∙◌, arith, eqb, ltb}
 use Rattle.std.specs.List.{find, position_or_len, take_while}
 use Rattle.std.proofs.lemmas.List.Sums.{take_while-cons}
 use Rattle.std.proofs.lemmas.Grind.{common_steps}
 use Rattle.std.proofs.lemmas.Bool.Decides.{nat_tests}
 use Rattle.geom_core.proofs.Tests.{kept, taken}
 use Rattle.doc_model.specs.declared.tree.Look.{Look}
-use Rattle.doc_model.specs.Forest.{none, paint, group, width, without}
+use Rattle.doc_model.specs.Forest.{none, width}
 use Rattle.doc_model.specs.Flat.{read, node}
 use Rattle.tree_core.specs.declared.node.Node.{Node}
-use Rattle.tree_core.specs.Nodes.{Tree, rows_of, content_of, nodes_after}
+use Rattle.tree_core.specs.Nodes.{Tree, rows_of, content_of, start_in}
 use Rattle.doc_model.specs.Readers.{side_at}
-use Rattle.tree_core.proofs.Choices.{same_choice, turned}
+use Rattle.tree_core.proofs.Choices.{same_choice}
 
 -- the first node with the id q
 abbrev pub first_with : ℕ → List Node → Option Node
@@ -27,6 +27,10 @@ abbrev pub cut : ℕ → Option ℕ → List Node → List Node
 cut q skip [] = []
 cut q skip (n ∷ ns) = cond (is_below skip n.depth) (cut q skip ns) (cond (eqb n.id q) (cut q (Some n.depth) ns) (n ∷ cut q None ns))
 
+-- the nodes after the group q, or all of them where q is the root
+abbrev pub nodes_after : ℕ → List Node → List Node
+nodes_after q nodes = drop (start_in q nodes) nodes
+
 -- the nodes after the node q
 abbrev pub after_node : ℕ → List Node → List Node
 after_node q [] = []
@@ -41,11 +45,6 @@ kids d (n ∷ ns) = cond (ltb n.depth d) 0 (cond (eqb n.depth d) (suc (kids d ns
 abbrev pub kid_at : ℕ → ℕ → List Node → Option ℕ
 kid_at d k [] = None
 kid_at d k (n ∷ ns) = cond (ltb n.depth d) None (cond (eqb n.depth d) (cond (eqb k 0) (Some n.id) (kid_at d (k - 1) ns)) (kid_at d k ns))
-
--- how many of them have another id than q
-abbrev pub others : ℕ → ℕ → List Node → ℕ
-others d q [] = 0
-others d q (n ∷ ns) = cond (ltb n.depth d) 0 (cond (eqb n.depth d && not (eqb n.id q)) (suc (others d q ns)) (others d q ns))
 
 -- the nodes at the front that are deeper
 abbrev pub deeper : ℕ → List Node → List Node
@@ -77,7 +76,7 @@ after_node_is q (n ∷ ns) = go (eqb n.id q) (after_node_is q ns)
 
 -- the nodes after a group
 pub after_nodes : (q : ℕ) (nodes : List Node) → q ≢ 0 → after_node q nodes ≡ nodes_after q nodes
-after_nodes q nodes other = after_node_is q nodes ∙ sym (kept (eqb q 0) nodes (drop (suc (position_or_len (λ n. eqb n.id q) nodes)) nodes) (grind (arith, nat_tests)))
+after_nodes q nodes other = after_node_is q nodes ∙ ap (λ i. drop i nodes) (sym (kept (eqb q 0) 0 (suc (position_or_len (λ n. eqb n.id q) nodes)) (grind (arith, nat_tests))))
 
 -- the deeper nodes, in std's words
 pub deeper_is : (d : ℕ) (nodes : List Node) → deeper d nodes ≡ take_while (λ n. ltb d n.depth) nodes
@@ -114,40 +113,6 @@ kids_is d (n ∷ ns) = go (ltb n.depth d) refl (eqb n.depth d) refl (kids_is d n
     go false h true e i = ap suc i ∙ sym (width-node (content_of n.paints) n.id n.look inner rest)
     go false h false e i = i ∙ ap (λ x. width (cond x rest none)) (sym (is_less d n.depth h e))
 
--- a node that is read counts once, unless it is q
-width-without : (q : ℕ) (c : Option (Unit {0})) (id : ℕ) (look : Look) (nodes rest : Tree) → width (without q (node c id look nodes rest)) ≡ cond (eqb q id) (width (without q rest)) (suc (width (without q rest)))
-width-without q None id look nodes rest = go (eqb q id)
-  where
-    go : (b : Bool) → width (cond b (without q rest) (group id look (without q nodes) (without q rest))) ≡ cond b (width (without q rest)) (suc (width (without q rest)))
-    go true = refl
-    go false = refl
-width-without q (Some x) id look nodes rest = go (eqb q id)
-  where
-    go : (b : Bool) → width (cond b (without q rest) (paint id look x (without q rest))) ≡ cond b (width (without q rest)) (suc (width (without q rest)))
-    go true = refl
-    go false = refl
-
--- how many nodes but q are read at a depth
-pub others_is : (d q : ℕ) (nodes : List Node) → others d q nodes ≡ width (without q (read d (rows_of nodes)))
-others_is d q [] = refl
-others_is d q (n ∷ ns) = go (ltb n.depth d) refl (eqb n.depth d) refl (others_is d q ns)
-  where
-    rest : Tree
-    rest = read d (rows_of ns)
-
-    inner : Tree
-    inner = read (suc d) (rows_of ns)
-
-    turn : (b : Bool) (m : ℕ) → cond (not b) (suc m) m ≡ cond b m (suc m)
-    turn true m = refl
-    turn false m = refl
-
-    go : (b : Bool) → ltb n.depth d ≡ b → (t : Bool) → eqb n.depth d ≡ t → others d q ns ≡ width (without q rest)
-        → cond b 0 (cond (t && not (eqb n.id q)) (suc (others d q ns)) (others d q ns)) ≡ width (without q (cond t (node (content_of n.paints) n.id n.look inner rest) (cond (ltb d n.depth) rest none)))
-    go true h t e i = sym (ap (λ x. width (without q (cond x (node (content_of n.paints) n.id n.look inner rest) (cond (ltb d n.depth) rest none)))) (sym e ∙ (not_less d n.depth h).1) ∙ ap (λ x. width (without q (cond x rest none))) ((not_less d n.depth h).0))
-    go false h true e i = ap (λ m. cond (not (eqb n.id q)) (suc m) m) i ∙ turn (eqb n.id q) (width (without q rest)) ∙ ap (λ b. cond b (width (without q rest)) (suc (width (without q rest)))) (turned n.id q) ∙ sym (width-without q (content_of n.paints) n.id n.look inner rest)
-    go false h false e i = i ∙ ap (λ x. width (without q (cond x rest none))) (sym (is_less d n.depth h e))
-
 -- a node that is read stands at one place
 side_at-node : (k : ℕ) (c : Option (Unit {0})) (id : ℕ) (look : Look) (nodes rest : Tree) → side_at k (node c id look nodes rest) ≡ cond (eqb k 0) (Some id) (side_at (k - 1) rest)
 side_at-node k None id look nodes rest = refl
@@ -181,3 +146,7 @@ whole_rest nodes i = grind (arith, common_steps)
 -- the child at a place is found
 pub kid_found : (l k : ℕ) (nodes : List Node) (i left : ℕ) (d : Node) → kid_at l k nodes ≡ kid_at l left (drop i nodes) → i < length nodes → (get_or nodes i d).depth ≡ l → left ≡ 0 → Some (get_or nodes i d).id ≡ kid_at l k nodes
 kid_found l k nodes i left d so h e z = sym (so ∙ ap (kid_at l left) (next_node nodes i d h) ∙ kept (ltb (get_or nodes i d).depth l) _ _ (grind (arith, nat_tests)) ∙ taken (eqb (get_or nodes i d).depth l) _ _ (grind (arith, nat_tests)) ∙ taken (eqb left 0) _ _ (grind (arith, nat_tests)))
+
+-- a node above ends the children
+pub kid_none : (l k : ℕ) (nodes : List Node) (i left : ℕ) (d : Node) → kid_at l k nodes ≡ kid_at l left (drop i nodes) → i < length nodes → (get_or nodes i d).depth < l → None ≡ kid_at l k nodes
+kid_none l k nodes i left d so h above = sym (so ∙ ap (kid_at l left) (next_node nodes i d h) ∙ taken (ltb (get_or nodes i d).depth l) _ _ (grind (arith, nat_tests)))

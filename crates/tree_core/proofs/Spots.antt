@@ -1,5 +1,5 @@
 -- Where a new node goes among the nodes.
-use Rattle.std.proofs.Common.{◌≡◌, ℕ, suc, zero, ◌+◌, ◌-◌, ◌<◌, ◌≤◌, true, false, cond, List, [], ◌∷◌, ◌++◌, map, length, take, drop, refl, sym, ap, ◌∙◌, arith, eqb, ltb, append_assoc, length-append}
+use Rattle.std.proofs.Common.{◌≡◌, ℕ, suc, zero, ◌+◌, ◌-◌, ◌<◌, ◌≤◌, true, false, cond, List, [], ◌∷◌, ◌++◌, map, length, take, drop, refl, sym, ap, ◌∙◌, arith, eqb, ltb, append_assoc, length-append, length-drop}
 use Rattle.std.proofs.lemmas.List.{length-map}
 use Rattle.std.proofs.Math.Seq.{take-append_seam, drop-append_seam}
 use Rattle.std.proofs.lemmas.Bool.Decides.{nat_tests}
@@ -8,9 +8,11 @@ use Rattle.doc_model.specs.Forest.{none, paint, group, depth, join, lower, upper
 use Rattle.doc_model.specs.Flat.{flat, EndsAt}
 use Rattle.doc_model.specs.Changes.{takes, set_in}
 use Rattle.tree_core.specs.declared.node.Node.{Node}
-use Rattle.tree_core.specs.Nodes.{Tree, row_of, tree_of, IsKept, nodes_after, nodes_before}
+use Rattle.tree_core.specs.Nodes.{Tree, row_of, tree_of, IsKept, start_in, nodes_before, at_place}
 use Rattle.tree_core.proofs.Choices.{same, same_choice}
 use Rattle.tree_core.proofs.Kept.{Rows, flat_join, join_split}
+use Rattle.tree_core.proofs.Passes.{nodes_after}
+use Rattle.tree_core.proofs.Starts.{start_low}
 use Rattle.tree_core.proofs.Between.{Between, between}
 
 -- where a new node goes
@@ -84,14 +86,6 @@ set_seam : (rows front back new : Rows) (i : ℕ) → rows ≡ front ++ back →
 set_seam rows front back new i e h = ap (λ rs. take i rs ++ (new ++ drop i rs)) e ∙ ap (λ n. take n (front ++ back) ++ (new ++ drop n (front ++ back))) h
     ∙ ap (λ xs. xs ++ (new ++ drop (length front) (front ++ back))) (take-append_seam front back) ∙ ap (λ xs. front ++ (new ++ xs)) (drop-append_seam front back)
 
--- where place_at finds the place
-abbrev pub at_place : ℕ → ℕ → List Node → ℕ
-at_place q place nodes = (length nodes - length (nodes_after q nodes)) + nodes_before (depth q (tree_of nodes)) place (nodes_after q nodes)
-
--- a difference
-minus_is : (a b c : ℕ) → a ≡ b + c → a - c ≡ b
-minus_is a b c e = omega arith
-
 -- rows of new nodes, set in at their place, are those of the tree with the new nodes
 pub set_rows : (q place : ℕ) (new : Tree) (nodes : List Node) → IsKept nodes → takes q (tree_of nodes) ≡ true
     → take (at_place q place nodes) (map row_of nodes) ++ (flat (depth q (tree_of nodes)) new ++ drop (at_place q place nodes) (map row_of nodes)) ≡ flat 0 (set_in q place new (tree_of nodes))
@@ -122,7 +116,8 @@ set_rows q place new nodes k t = set_seam (map row_of nodes) (b.front ++ low) (h
         let ln : length (map row_of nodes) ≡ length nodes = length-map nodes row_of in
         let la : length (map row_of (nodes_after q nodes)) ≡ length (nodes_after q nodes) = length-map (nodes_after q nodes) row_of in
         let s : nodes_before e place (nodes_after q nodes) ≡ length low = spot_rows e place (nodes_after q nodes) ∙ ap (row_spot e place) b.rest ∙ spot_is e place b.held b.more b.ends in
-        let d : length nodes - length (nodes_after q nodes) ≡ length b.front = minus_is (length nodes) (length b.front) (length (nodes_after q nodes)) (omega arith) in
+        let after : length (nodes_after q nodes) ≡ length nodes - start_in q nodes = length-drop (start_in q nodes) nodes in
+        let within : start_in q nodes ≤ length nodes = start_low q nodes k t in
         let l : length (b.front ++ low) ≡ length b.front + length low = length-append b.front low in
         omega arith
 
@@ -130,12 +125,3 @@ set_rows q place new nodes k t = set_seam (map row_of nodes) (b.front ++ low) (h
     joined = append_assoc b.front low (flat e new ++ (high ++ b.more)) ∙ ap (λ x. b.front ++ x)
         (ap (λ x. low ++ x) (sym (append_assoc (flat e new) high b.more)) ∙ sym (append_assoc low (flat e new ++ high) b.more)
         ∙ ap (λ x. x ++ b.more) (ap (λ x. low ++ x) (sym (flat_join e new (upper place b.held))) ∙ sym (flat_join e (lower place b.held) (join new (upper place b.held)))))
-
--- the place that the code finds
-pub place_now : (q place : ℕ) (nodes : List Node) (t : Tree) → tree_of nodes ≡ t → (all : ℕ) (rest : List Node) (d s : ℕ) → all ≡ length nodes → rest ≡ nodes_after q nodes → d ≡ depth q t → s ≡ nodes_before d place rest → all - length rest + s ≡ at_place q place nodes
-place_now q place nodes t is all rest d s a r e h =
-    ap (λ x. all - length rest + x) (h ∙ ap (λ x. nodes_before x place rest) (e ∙ ap (depth q) (sym is)) ∙ ap (nodes_before (depth q (tree_of nodes)) place) r) ∙ ap (λ x. x - length rest + nodes_before (depth q (tree_of nodes)) place (nodes_after q nodes)) a ∙ ap (λ x. length nodes - length x + nodes_before (depth q (tree_of nodes)) place (nodes_after q nodes)) r
-
--- the place lies within
-pub place_low : (q place : ℕ) (nodes : List Node) (all s : ℕ) (rest : List Node) → all ≡ length nodes → length rest ≤ length nodes → s ≤ length rest → all - length rest + s ≤ length nodes
-place_low q place nodes all s rest a r h = omega arith

@@ -1,11 +1,12 @@
 -- A tree as the list of its nodes, each before those in it.
-use Rattle.std.specs.Prelude.{◌≡◌, ℕ, suc, ◌+◌, ◌==◌, ◌-◌, nat_lt, ◌≤◌, Bool, true, false, if◌then◌else◌, Option, Some, None, List, [], ◌∷◌, map, drop, max, min}
-use Rattle.std.specs.List.{position_or_len}
+use Rattle.std.specs.Prelude.{◌≡◌, ℕ, suc, ◌+◌, ◌==◌, ◌-◌, nat_lt, ◌≤◌, Bool, true, false, if◌then◌else◌, Option, Some, None, List, [], ◌∷◌, ◌++◌, map, take, drop, slice_range, max, min}
+use Rattle.std.specs.List.{position_or_len, remove_range}
 use Rattle.doc_model.specs.declared.tree.Look.{Look}
-use Rattle.doc_model.specs.Forest.{Forest, height}
+use Rattle.doc_model.specs.Forest.{Forest, height, depth}
 use Rattle.doc_model.specs.Flat.{Row, flat, read}
 use Rattle.doc_model.specs.Ids.{IsTree}
 use Rattle.tree_core.specs.declared.node.Node.{Node}
+use Rattle.tree_core.specs.declared.edits.Route.{Route}
 
 -- the tree of a document without its layers' pixels
 abbrev pub Tree : Type 0
@@ -42,14 +43,22 @@ node_with_look q look n = if n.id == q then record n { look = look } else n
 abbrev pub moved_node : ℕ → ℕ → Node → Node
 moved_node a b n = record n { depth = min ((n.depth + 1 + b) - a) 255 }
 
--- the nodes after the group q, or all of them where q is the root
-abbrev pub nodes_after : ℕ → List Node → List Node
-nodes_after q nodes = if q == 0 then nodes else drop (suc (position_or_len (λ n. n.id == q) nodes)) nodes
+-- where the nodes in the group q begin: right after it, and at the front where q is the root
+abbrev pub start_in : ℕ → List Node → ℕ
+start_in q nodes = if q == 0 then 0 else suc (position_or_len (λ n. n.id == q) nodes)
 
 -- how many nodes stand before the place k among those at the depth d, up to the first above them
 abbrev pub nodes_before : ℕ → ℕ → List Node → ℕ
 nodes_before d k [] = 0
 nodes_before d k (n ∷ ns) = if nat_lt n.depth d then 0 else (if n.depth == d then (if k == 0 then 0 else suc (nodes_before d (k - 1) ns)) else suc (nodes_before d k ns))
+
+-- how many nodes stand before the place k of the group q
+abbrev pub at_place : ℕ → ℕ → List Node → ℕ
+at_place q k nodes = start_in q nodes + nodes_before (depth q (tree_of nodes)) k (drop (start_in q nodes) nodes)
+
+-- the nodes with a part taken out and set in again, at its new place and depths
+abbrev pub moved_along : Route → List Node → List Node
+moved_along r nodes = take r.at (remove_range nodes r.part.start r.part.end) ++ (map (moved_node r.from r.to) (slice_range nodes r.part.start r.part.end) ++ drop r.at (remove_range nodes r.part.start r.part.end))
 
 -- the id of the last node above the depth d, or best where there is none
 abbrev pub last_low : ℕ → ℕ → List Node → ℕ

@@ -1,28 +1,22 @@
-//! Passes over the nodes of a tree, each before those in it, that make another list of them.
+//! Changes of the nodes of a tree, each before those in it, in their place.
 
-ghost use Rattle.std.specs.Prelude.{◌≡◌, ℕ, ◌≤◌, ◌+◌, ◌-◌, length, ◌++◌, ◌==◌, map, take, drop, nat_lt, is_some};
-ghost use Rattle.std.specs.List.{find, take_while};
-ghost use Rattle.doc_model.specs.Flat.{flat};
-ghost use Rattle.doc_model.specs.Forest.{depth, only, without};
-ghost use Rattle.tree_core.specs.Nodes.{rows_of, tree_of, node_with_look, moved_node, IsKept};
+ghost use Rattle.std.specs.Prelude.{◌≡◌, ℕ, ◌≤◌, ◌+◌, ◌-◌, length, ◌++◌, ◌==◌, map, take, drop, is_some, slice_range};
+ghost use Rattle.std.specs.List.{find, remove_range};
+ghost use Rattle.tree_core.specs.Nodes.{node_with_look, moved_node, moved_along};
 
-use crate::lookup::span;
+use crate::lookup::Part;
 use crate::node::{Node, moved_node};
 use arrayvec::ArrayVec;
 use doc_model::Look;
 
-/// The nodes without that one and those below it.
-pub fn without(nodes: &[Node], id: u16) -> ArrayVec<Node, 256>
-    requires few { length nodes.now ≤ 256 }
-    requires kept { IsKept nodes.now }
-    ensures kept { IsKept result.items }
-    ensures tree { tree_of result.items ≡ without id (tree_of nodes.now) }
-{
-    let (start, end) = span(nodes, id);
-    let mut left: ArrayVec<Node, 256> = ArrayVec::new();
-    push_all(&mut left, &nodes[..start]);
-    push_all(&mut left, &nodes[end..]);
-    left
+/// Where a part goes: how many of the other nodes then come before it, the depth at which its first node's children
+/// stood, and the depth at which that node then stands.
+#[derive(Clone, Copy)]
+pub struct Route {
+    pub part: Part,
+    pub at: usize,
+    pub from: u8,
+    pub to: u8,
 }
 
 /// Gives the node with that id another look, and tells whether there is one.
@@ -40,19 +34,6 @@ pub fn set_look(nodes: &mut [Node], id: u16, look: Look) -> bool
     there
 }
 
-/// The nodes, with the moved ones set in at a place, below another depth.
-pub fn spliced(nodes: &[Node], at: usize, moved: &[Node], from: u8, to: u8) -> ArrayVec<Node, 256>
-    requires within { at ≤ length nodes.now }
-    requires room { length nodes.now + length moved.now ≤ 256 }
-    ensures { result.items ≡ take at nodes.now ++ (map (moved_node from to) moved.now ++ drop at nodes.now) }
-{
-    let mut all: ArrayVec<Node, 256> = ArrayVec::new();
-    push_all(&mut all, &nodes[..at]);
-    push_moved(&mut all, moved, from, to);
-    push_all(&mut all, &nodes[at..]);
-    all
-}
-
 /// Adds all of the nodes.
 pub fn push_all(all: &mut ArrayVec<Node, 256>, nodes: &[Node])
     requires { length all.old.items + length nodes.now ≤ 256 }
@@ -61,12 +42,47 @@ pub fn push_all(all: &mut ArrayVec<Node, 256>, nodes: &[Node])
     let _ = all.try_extend_from_slice(nodes);
 }
 
-/// Adds the nodes of a part, at their new depths.
-fn push_moved(all: &mut ArrayVec<Node, 256>, nodes: &[Node], from: u8, to: u8)
-    requires { length all.old.items + length nodes.now ≤ 256 }
-    ensures { all.new.items ≡ all.old.items ++ map (moved_node from to) nodes.now }
+/// Takes the nodes of a part out.
+pub fn take_out(nodes: &mut ArrayVec<Node, 256>, part: Part)
+    requires order { part.start ≤ part.end }
+    requires within { part.end ≤ length nodes.old.items }
+    ensures { nodes.new.items ≡ remove_range nodes.old.items part.start part.end }
 {
-    for n in nodes {
-        all.push(moved_node(*n, from, to));
+    nodes.drain(part.start..part.end);
+}
+
+/// Moves a part along its route.
+pub fn move_along(nodes: &mut [Node], route: Route)
+    requires order { route.part.start ≤ route.part.end }
+    requires within { route.part.end ≤ length nodes.old }
+    requires place { route.at + (route.part.end - route.part.start) ≤ length nodes.old }
+    ensures { nodes.new ≡ moved_along route nodes.old }
+{
+    shift(nodes, route.part, route.at);
+    let end = route.at + (route.part.end - route.part.start);
+    relevel(&mut nodes[route.at..end], route.from, route.to);
+}
+
+/// Moves the nodes of a part to where so many of the others come before them.
+fn shift(nodes: &mut [Node], part: Part, at: usize)
+    requires order { part.start ≤ part.end }
+    requires within { part.end ≤ length nodes.old }
+    requires place { at + (part.end - part.start) ≤ length nodes.old }
+    ensures { nodes.new ≡ take at (remove_range nodes.old part.start part.end) ++ (slice_range nodes.old part.start part.end ++ drop at (remove_range nodes.old part.start part.end)) }
+{
+    let count = part.end - part.start;
+    if at <= part.start {
+        nodes[at..part.end].rotate_left(part.start - at);
+    } else {
+        nodes[part.start..at + count].rotate_left(count);
+    }
+}
+
+/// Gives the nodes of a part their new depths.
+fn relevel(nodes: &mut [Node], from: u8, to: u8)
+    ensures { nodes.new ≡ map (moved_node from to) nodes.old }
+{
+    for n in nodes.iter_mut() {
+        *n = moved_node(*n, from, to);
     }
 }

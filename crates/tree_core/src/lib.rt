@@ -4,6 +4,7 @@
 mod edits;
 mod lookup;
 mod node;
+mod refusals;
 mod tree;
 
 pub use tree::Tree;

@@ -1,14 +1,28 @@
 //! Passes over the nodes of a tree, each before those in it, that look something up.
 
-ghost use Rattle.std.specs.Prelude.{◌≡◌, ℕ, ◌≤◌, ◌+◌, ◌==◌, ◌&&◌, ◌-◌, ◌++◌, not, length, take, drop, nat_lt, is_some, IfSome};
-ghost use Rattle.std.specs.List.{find, list_any, take_while};
+ghost use Rattle.std.specs.Prelude.{◌≡◌, ℕ, ◌≤◌, ◌<◌, ◌+◌, ◌==◌, ◌&&◌, ◌-◌, not, length, drop, nat_lt, is_some, IfSome, slice_range, slice_index_or};
+ghost use Rattle.std.specs.List.{find, list_any, take_while, remove_range};
 ghost use Rattle.doc_model.specs.Changes.{takes};
 ghost use Rattle.doc_model.specs.Flat.{flat, read};
-ghost use Rattle.doc_model.specs.Forest.{width, parent, depth, only, without};
+ghost use Rattle.doc_model.specs.Forest.{has, width, parent, depth, only, without};
 ghost use Rattle.doc_model.specs.Readers.{side_at};
-ghost use Rattle.tree_core.specs.Nodes.{rows_of, tree_of, nodes_after, nodes_before, last_low, greatest_depth, levels, IsKept};
+ghost use Rattle.tree_core.specs.Nodes.{rows_of, tree_of, start_in, nodes_before, last_low, greatest_depth, levels, IsKept};
 
 use crate::node::Node;
+
+/// Where a node and those below it stand: from `start` up to `end`.
+#[derive(Clone, Copy)]
+pub struct Part {
+    pub start: usize,
+    pub end: usize,
+}
+
+/// Where the nodes in the root or in a group begin, and the depth of its children.
+#[derive(Clone, Copy)]
+pub struct Group {
+    pub start: usize,
+    pub depth: u8,
+}
 
 /// The node with that id.
 pub fn find(nodes: &[Node], id: u16) -> Option<Node>
@@ -29,39 +43,34 @@ pub fn group_in(nodes: &[Node], id: u16) -> bool
     nodes.iter().any(|n| n.id == id && !n.paints)
 }
 
-/// The nodes after the one with that id; all of them after the root.
-pub fn nodes_after(nodes: &[Node], id: u16) -> &[Node]
-    ensures value { result.now ≡ nodes_after id nodes.now }
-    ensures within { length result.now ≤ length nodes.now }
+/// Whether a node has that id.
+pub fn holds(nodes: &[Node], id: u16) -> bool
+    requires kept { IsKept nodes.now }
+    ensures { result ≡ has id (tree_of nodes.now) }
 {
-    if id == 0 {
-        return nodes;
-    }
-    for i in 0..nodes.len() {
-        if nodes[i].id == id {
-            return &nodes[i + 1..];
-        }
-    }
-    &nodes[nodes.len()..]
+    find(nodes, id).is_some()
 }
 
-/// The nodes after the root or the group with that id, and the depth of its children. None where no group has the id.
-pub fn inside(nodes: &[Node], id: u16) -> Option<(&[Node], u8)>
+/// Where the nodes in the root or the group with that id begin. None where no group has the id.
+pub fn group_at(nodes: &[Node], id: u16) -> Option<Group>
     requires kept { IsKept nodes.now }
     ensures there { is_some result ≡ takes id (tree_of nodes.now) }
-    ensures rest { IfSome result (λ x. x.0.now ≡ nodes_after id nodes.now) }
-    ensures depth { IfSome result (λ x. x.1 ≡ depth id (tree_of nodes.now)) }
-    ensures few { IfSome result (λ x. length x.0.now ≤ length nodes.now) }
+    ensures start { IfSome result (λ group. group.start ≡ start_in id nodes.now) }
+    ensures depth { IfSome result (λ group. group.depth ≡ depth id (tree_of nodes.now)) }
+    ensures within { IfSome result (λ group. group.start ≤ length nodes.now) }
 {
     if id == 0 {
-        return Some((nodes, 0));
+        return Some(Group { start: 0, depth: 0 });
     }
     for i in 0..nodes.len() {
         if nodes[i].id == id {
             if nodes[i].paints {
                 return None;
             }
-            return Some((&nodes[i + 1..], nodes[i].depth + 1));
+            return Some(Group {
+                start: i + 1,
+                depth: nodes[i].depth + 1,
+            });
         }
     }
     None
@@ -88,73 +97,86 @@ pub fn children_at(nodes: &[Node], depth: u8) -> usize
 pub fn child_at(nodes: &[Node], depth: u8, place: u16) -> Option<u16>
     ensures { result ≡ side_at place (read depth (rows_of nodes.now)) }
 {
-    let mut left = place;
+    let mut passed = 0;
     for n in nodes {
         if n.depth < depth {
             return None;
         }
-        if n.depth == depth {
-            if left == 0 {
-                return Some(n.id);
-            }
-            left -= 1;
+        passed += u32::from(n.depth == depth);
+        if passed > place as u32 {
+            return Some(n.id);
         }
     }
     None
 }
 
-/// How many nodes stand before that place among those at the depth.
-pub fn place_at(nodes: &[Node], depth: u8, place: u8) -> usize
-    ensures value { result ≡ nodes_before depth place nodes.now }
-    ensures within { result ≤ length nodes.now }
+/// One of the nodes but those of the part, counted without them.
+#[inline]
+fn other(nodes: &[Node], part: Part, i: usize) -> Node
+    requires order { part.start ≤ part.end }
+    requires within { i < length (remove_range nodes.now part.start part.end) }
+    ensures { result ≡ slice_index_or (remove_range nodes.now part.start part.end) i result }
 {
-    let mut left = place;
-    for i in 0..nodes.len() {
-        let n = nodes[i];
-        if n.depth < depth {
-            return i;
-        }
-        if n.depth == depth {
-            if left == 0 {
-                return i;
-            }
-            left -= 1;
-        }
+    if i < part.start {
+        nodes[i]
+    } else {
+        nodes[i + (part.end - part.start)]
     }
-    nodes.len()
 }
 
-/// How many nodes other than that one stand at that depth before the first above it.
-pub fn others_at(nodes: &[Node], depth: u8, id: u16) -> usize
-    ensures { result ≡ width (without id (read depth (rows_of nodes.now))) }
+/// How many nodes stand before that place of a group, the part's left out. None where the group has too few children.
+pub fn place_at(nodes: &[Node], part: Part, group: Group, place: u8) -> Option<usize>
+    requires order { part.start ≤ part.end }
+    requires within { part.end ≤ length nodes.now }
+    requires start { group.start ≤ length (remove_range nodes.now part.start part.end) }
+    ensures there { is_some result ≡ not (nat_lt (width (read group.depth (rows_of (drop group.start (remove_range nodes.now part.start part.end))))) place) }
+    ensures at { IfSome result (λ at. at ≡ group.start + nodes_before group.depth place (drop group.start (remove_range nodes.now part.start part.end))) }
+    ensures within { IfSome result (λ at. at ≤ length (remove_range nodes.now part.start part.end)) }
 {
-    let mut count = 0;
-    for n in nodes {
-        if n.depth < depth {
-            return count;
+    let count = nodes.len() - (part.end - part.start);
+    let mut passed = 0;
+    for i in group.start..count {
+        let depth = other(nodes, part, i).depth;
+        if depth < group.depth {
+            return if passed == place as u32 {
+                Some(i)
+            } else {
+                None
+            };
         }
-        if n.depth == depth && n.id != id {
-            count += 1;
+        passed += u32::from(depth == group.depth);
+        if passed > place as u32 {
+            return Some(i);
         }
     }
-    count
+    if passed == place as u32 {
+        Some(count)
+    } else {
+        None
+    }
 }
 
-/// Where the node with that id stands, and where those below it end. Both are the end where no node has the id.
-pub fn span(nodes: &[Node], id: u16) -> (usize, usize)
+/// Where the node with that id stands and where those below it end, or an empty part at the end where no node has the id.
+pub fn span(nodes: &[Node], id: u16) -> Part
     requires kept { IsKept nodes.now }
-    ensures order { result.0 ≤ result.1 }
-    ensures within { result.1 ≤ length nodes.now }
-    ensures part { rows_of (take (result.1 - result.0) (drop result.0 nodes.now)) ≡ flat (depth id (tree_of nodes.now) - 1) (only id (tree_of nodes.now)) }
-    ensures left { tree_of (take result.0 nodes.now ++ drop result.1 nodes.now) ≡ without id (tree_of nodes.now) }
-    ensures kept { IsKept (take result.0 nodes.now ++ drop result.1 nodes.now) }
+    ensures order { result.start ≤ result.end }
+    ensures within { result.end ≤ length nodes.now }
+    ensures part { rows_of (slice_range nodes.now result.start result.end) ≡ flat (depth id (tree_of nodes.now) - 1) (only id (tree_of nodes.now)) }
+    ensures left { tree_of (remove_range nodes.now result.start result.end) ≡ without id (tree_of nodes.now) }
+    ensures kept { IsKept (remove_range nodes.now result.start result.end) }
 {
     for i in 0..nodes.len() {
         if nodes[i].id == id {
-            return (i, i + 1 + deeper(&nodes[i + 1..], nodes[i].depth));
+            return Part {
+                start: i,
+                end: i + 1 + deeper(&nodes[i + 1..], nodes[i].depth),
+            };
         }
     }
-    (nodes.len(), nodes.len())
+    Part {
+        start: nodes.len(),
+        end: nodes.len(),
+    }
 }
 
 /// How many nodes stand deeper before the first that doesn't.
@@ -168,15 +190,6 @@ fn deeper(nodes: &[Node], depth: u8) -> usize
         }
     }
     nodes.len()
-}
-
-/// The node with that id and those below it, or nothing where no node has it.
-pub fn part(nodes: &[Node], id: u16) -> &[Node]
-    requires kept { IsKept nodes.now }
-    ensures { rows_of result.now ≡ flat (depth id (tree_of nodes.now) - 1) (only id (tree_of nodes.now)) }
-{
-    let (start, end) = span(nodes, id);
-    &nodes[start..end]
 }
 
 /// The group round the node, sought from the end: the last node before it that stands above it, or the root. None where

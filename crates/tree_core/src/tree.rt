@@ -9,21 +9,13 @@ ghost use Rattle.tree_core.specs.Nodes.{content_of};
 ghost use Rattle.doc_model.specs.Laws.{IsDocument};
 ghost use Rattle.doc_model.specs.Readers.{look_in, child_in};
 
-use crate::edits::{push_all, set_look, spliced, without};
-use crate::lookup::{
-    above, child_at, children_at, find, group_in, inside, levels, nodes_after, others_at, part,
-    place_at,
-};
+use crate::edits::{move_along, push_all, set_look, take_out};
+use crate::lookup::{above, child_at, children_at, find, group_at, group_in, holds, span};
 use crate::node::{Node, new_node};
+use crate::refusals::{new_spot, route_of};
 use arrayvec::ArrayVec;
 use doc_model::{Change, Look, TreeFault};
 use std::marker::Model;
-
-/// The most nodes beside the root.
-const MOST_NODES: u16 = 256;
-
-/// The greatest depth of a node; the root's is 0.
-const MOST_DEPTH: u8 = 16;
 
 /// The tree of a document: the root, which is a group with id 0, and the layers and groups in it.
 ///
@@ -114,8 +106,8 @@ impl Tree {
         ensures value { result ≡ child_count id self.now }
         ensures few { result ≤ 256 }
     {
-        match inside(self.nodes.as_slice(), id) {
-            Some((rest, depth)) => children_at(rest, depth) as u16,
+        match group_at(self.nodes.as_slice(), id) {
+            Some(group) => children_at(&self.nodes.as_slice()[group.start..], group.depth) as u16,
             None => 0,
         }
     }
@@ -124,8 +116,8 @@ impl Tree {
     pub fn child(&self, id: u16, place: u16) -> Option<u16>
         ensures { result ≡ child_in id place self.now }
     {
-        match inside(self.nodes.as_slice(), id) {
-            Some((rest, depth)) => child_at(rest, depth, place),
+        match group_at(self.nodes.as_slice(), id) {
+            Some(group) => child_at(&self.nodes.as_slice()[group.start..], group.depth, place),
             None => None,
         }
     }
@@ -157,14 +149,7 @@ impl Tree {
     fn holds(&self, id: u16) -> bool
         ensures { result ≡ has id self.now }
     {
-        find(self.nodes.as_slice(), id).is_some()
-    }
-
-    /// Whether no node has that id, or it is the root's.
-    fn lacks(&self, id: u16) -> bool
-        ensures { result ≡ (not (has id self.now) || (id == 0)) }
-    {
-        !self.holds(id) || id == 0
+        holds(self.nodes.as_slice(), id)
     }
 
     /// Whether a group has that id, the root aside.
@@ -174,76 +159,15 @@ impl Tree {
         group_in(self.nodes.as_slice(), id)
     }
 
-    /// How many groups stand round the node and itself, the root aside; 0 for the root and where no node has that id.
-    fn depth(&self, id: u16) -> u8
-        ensures value { result ≡ depth id self.now }
-        ensures low { result ≤ 16 }
-    {
-        match find(self.nodes.as_slice(), id) {
-            Some(n) => n.depth + 1,
-            None => 0,
-        }
-    }
-
-    /// How many children the root or a group has.
-    fn children(&self, id: u16) -> usize
-        requires { takes id self.now ≡ true }
-        ensures value { result ≡ child_count id self.now }
-        ensures few { result ≤ 256 }
-    {
-        children_at(nodes_after(self.nodes.as_slice(), id), self.depth(id))
-    }
-
-    /// Why a new node can't come.
-    fn no_new(&self, id: u16, parent: u16, place: u8) -> Option<TreeFault>
-        ensures { result ≡ no_new id parent place self.now }
-    {
-        if self.has(id) {
-            return Some(TreeFault::Taken(id));
-        }
-        if !self.has(parent) {
-            return Some(TreeFault::NoNode(parent));
-        }
-        if !self.is_group(parent) {
-            return Some(TreeFault::NotGroup(parent));
-        }
-        if self.node_count() == MOST_NODES {
-            return Some(TreeFault::TreeFull(MOST_NODES));
-        }
-        if self.depth(parent) + 1 > MOST_DEPTH {
-            return Some(TreeFault::TooDeep(MOST_DEPTH));
-        }
-        if self.children(parent) < place as usize {
-            return Some(TreeFault::BadPlace(place));
-        }
-        None
-    }
-
     /// Sets a new node in, or tells why not.
     fn add(&mut self, id: u16, parent: u16, place: u8, paints: bool) -> Result<(), TreeFault>
         ensures ok { OnOk result (answer (no_new id parent place self.old) (set_in parent place (node (content_of paints) id new_look none none) self.old) ≡ Ok self.new) }
         ensures err { IfErr result (λ fault. answer (no_new id parent place self.old) (set_in parent place (node (content_of paints) id new_look none none) self.old) ≡ Err fault) }
         ensures same { OnErr result (self.new ≡ self.old) }
     {
-        match self.no_new(id, parent, place) {
-            Some(fault) => Err(fault),
-            None => {
-                self.set(id, parent, place, paints);
-                Ok(())
-            }
-        }
-    }
-
-    /// Sets a new node in at its place.
-    fn set(&mut self, id: u16, parent: u16, place: u8, paints: bool)
-        requires { no_new id parent place self.old ≡ None }
-        ensures { self.new ≡ set_in parent place (node (content_of paints) id new_look none none) self.old }
-    {
-        let depth = self.depth(parent);
-        let all = self.nodes.len();
-        let rest = nodes_after(self.nodes.as_slice(), parent);
-        let at = all - rest.len() + place_at(rest, depth, place);
-        self.nodes.insert(at, new_node(depth, id, paints));
+        let spot = new_spot(self.nodes.as_slice(), id, parent, place)?;
+        self.nodes.insert(spot.at, new_node(spot.depth, id, paints));
+        Ok(())
     }
 
     /// Takes the node and all below it out, or tells why not.
@@ -252,10 +176,11 @@ impl Tree {
         ensures err { IfErr result (λ fault. changed (λ _. tt) (change.Remove id) self.old ≡ Err fault) }
         ensures same { OnErr result (self.new ≡ self.old) }
     {
-        if self.lacks(id) {
+        let part = span(self.nodes.as_slice(), id);
+        if part.start == part.end {
             return Err(TreeFault::NoNode(id));
         }
-        self.nodes = without(self.nodes.as_slice(), id);
+        take_out(&mut self.nodes, part);
         Ok(())
     }
 
@@ -272,61 +197,15 @@ impl Tree {
         }
     }
 
-    /// Why a node can't be moved.
-    fn no_place(&self, id: u16, parent: u16, place: u8) -> Option<TreeFault>
-        ensures { result ≡ no_place id parent place self.now }
-    {
-        let nodes = self.nodes.as_slice();
-        let moved = part(nodes, id);
-        if moved.is_empty() {
-            return Some(TreeFault::NoNode(id));
-        }
-        let Some((rest, depth)) = inside(nodes, parent) else {
-            return Some(if self.holds(parent) {
-                TreeFault::NotGroup(parent)
-            } else {
-                TreeFault::NoNode(parent)
-            });
-        };
-        if find(moved, parent).is_some() {
-            return Some(TreeFault::IntoItself(id));
-        }
-        if depth as usize + levels(moved) > MOST_DEPTH as usize {
-            return Some(TreeFault::TooDeep(MOST_DEPTH));
-        }
-        if others_at(rest, depth, id) < place as usize {
-            return Some(TreeFault::BadPlace(place));
-        }
-        None
-    }
-
     /// Moves the node and all below it, or tells why not.
     fn place(&mut self, id: u16, parent: u16, place: u8) -> Result<(), TreeFault>
         ensures ok { OnOk result (changed (λ _. tt) (change.Place id parent place) self.old ≡ Ok self.new) }
         ensures err { IfErr result (λ fault. changed (λ _. tt) (change.Place id parent place) self.old ≡ Err fault) }
         ensures same { OnErr result (self.new ≡ self.old) }
     {
-        match self.no_place(id, parent, place) {
-            Some(fault) => Err(fault),
-            None => {
-                self.put(id, parent, place);
-                Ok(())
-            }
-        }
-    }
-
-    /// Moves the node and all below it to its new place.
-    fn put(&mut self, id: u16, parent: u16, place: u8)
-        requires { no_place id parent place self.old ≡ None }
-        ensures { self.new ≡ set_in parent place (only id self.old) (without id self.old) }
-    {
-        let from = self.depth(id);
-        let to = self.depth(parent);
-        let moved = part(self.nodes.as_slice(), id);
-        let left = without(self.nodes.as_slice(), id);
-        let rest = nodes_after(left.as_slice(), parent);
-        let at = left.len() - rest.len() + place_at(rest, to, place);
-        self.nodes = spliced(left.as_slice(), at, moved, from, to);
+        let route = route_of(self.nodes.as_slice(), id, parent, place)?;
+        move_along(self.nodes.as_mut_slice(), route);
+        Ok(())
     }
 }
 
