@@ -1,2 +1,4 @@
 pub mod MoreJobs
+pub mod FirstPlace
+pub mod Apart
 pub mod RunFacts

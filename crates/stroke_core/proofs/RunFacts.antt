@@ -1,10 +1,8 @@
 -- The new job is compared with the jobs of the last run alone.
-use Rattle.std.proofs.Common.{◌≡◌, ℕ, suc, zero, ◌+◌, ◌-◌, ◌<◌, ◌≤◌, Bool, true, false, ◌&&◌, not, cond, List, [], ◌∷◌, ◌++◌, map, Option, Some, None, length, drop, take, refl, sym, ap, ◌∙◌, arith, subst, inl, inr, ◌⊎◌}
-use Rattle.std.specs.Prelude.{slice_get, position, nat_lt}
-use Rattle.std.specs.List.{position_or_len}
-use Rattle.std.proofs.lemmas.List.{length-drop, length-map, map-append}
+use Rattle.std.proofs.Common.{◌≡◌, ℕ, suc, zero, ◌+◌, ◌-◌, ◌<◌, ◌≤◌, Bool, true, false, ◌&&◌, not, cond, List, [], ◌∷◌, ◌++◌, map, Option, Some, None, length, drop, refl, sym, ap, ◌∙◌, arith, subst, inl, inr, ◌⊎◌}
+use Rattle.std.specs.Prelude.{slice_get, position}
+use Rattle.std.proofs.lemmas.List.{drop-append-le, drop_all, length-drop, length-map, map-append}
 use Rattle.std.proofs.lemmas.List.Elements.{All-append, All-cons}
-use Rattle.std.proofs.lemmas.Bool.Decides.{nat_tests}
 use Rattle.geom_core.proofs.Tests.{true_or_false, and_left}
 use Rattle.doc_model.specs.declared.job.Job.{Job}
 use Rattle.doc_model.specs.declared.job.Kind.{Kind}
@@ -14,6 +12,8 @@ use Rattle.doc_model.specs.Strokes.{Jobs, conflicting, first_conflicting, one_ru
 use Rattle.doc_model.proofs.Conflicts.{all_from_all, all_from_at}
 use Rattle.stroke_core.specs.Fed.{IsKept, pair_or, plus}
 use Rattle.stroke_core.specs.Marks.{Marks, marks_of, marks_clash}
+use Rattle.stroke_core.proofs.Apart.{and_comm}
+use Rattle.stroke_core.proofs.FirstPlace.{plus_plus, position_here, position_later}
 use Rattle.stroke_core.proofs.MoreJobs.{conflict_more, conflict_nil, length_last}
 
 get_front : (jobs rest : Jobs) (k : ℕ) → k < length jobs → slice_get (jobs ++ rest) k ≡ slice_get jobs k
@@ -49,32 +49,11 @@ least_skip k (suc s) m (suc n) t e no_one = (λ i. cond (no_one k (omega arith) 
 least_none : (n : ℕ) (t : ℕ → Bool) → ((i : ℕ) → i < n → t i ≡ false) → least n t ≡ None
 least_none n t no_one = least_skip 0 n 0 n t (omega arith) (λ i a b. no_one i (omega arith))
 
--- the first place in a list
-position_here : {A : Type 0} (p : A → Bool) (x : A) (xs : List A) → p x ≡ true → position p (x ∷ xs) ≡ Some 0
-position_here p x xs e = ap (λ b. cond (nat_lt (cond (not b) (1 + position_or_len p xs) 0) (suc (length xs))) (Some (cond (not b) (1 + position_or_len p xs) 0)) None) e ∙ ap (λ b. cond b (Some 0) None) (zero_lt (length xs))
-  where
-    zero_lt : (n : ℕ) → nat_lt 0 (suc n) ≡ true
-    zero_lt n = grind (arith, nat_tests)
-
-position_later : {A : Type 0} (p : A → Bool) (x : A) (xs : List A) → p x ≡ false → position p (x ∷ xs) ≡ plus 1 (position p xs)
-position_later p x xs e = ap (λ b. cond (nat_lt (cond (not b) (1 + position_or_len p xs) 0) (suc (length xs))) (Some (cond (not b) (1 + position_or_len p xs) 0)) None) e ∙ ap (λ b. cond b (Some (1 + position_or_len p xs)) None) (more_lt (position_or_len p xs) (length xs)) ∙ out (nat_lt (position_or_len p xs) (length xs)) (position_or_len p xs)
-  where
-    more_lt : (m n : ℕ) → nat_lt (1 + m) (suc n) ≡ nat_lt m n
-    more_lt m n = grind (arith, nat_tests)
-
-    out : (b : Bool) (m : ℕ) → cond b (Some (1 + m)) None ≡ plus 1 (cond b (Some m) None)
-    out true m = refl
-    out false m = refl
-
 zero_more : (k : ℕ) → k ≡ k + 0
 zero_more k = omega arith
 
 next_to : (k i : ℕ) → (k + 1) + i ≡ k + suc i
 next_to k i = omega arith
-
-plus_plus : (k : ℕ) (o : Option ℕ) → plus (k + 1) o ≡ plus k (plus 1 o)
-plus_plus k None = refl
-plus_plus k (Some i) = ap Some (omega arith)
 
 -- the same as the least number
 least_position : {A : Type 0} (p : A → Bool) (xs : List A) (k : ℕ) (t : ℕ → Bool) → ((i : ℕ) (a : A) → slice_get xs i ≡ Some a → t (k + i) ≡ p a) → least_from k (length xs) t ≡ plus k (position p xs)
@@ -97,7 +76,7 @@ get_mapped zero (j ∷ jobs) f e = let same : marks_of j ≡ f = cc in (j, refl,
 get_mapped (suc i) (j ∷ jobs) f e = get_mapped i jobs f e
 
 -- the mark at a place behind the start
-get_marked : (s i m : ℕ) (jobs : Jobs) (f : Marks) → m ≡ s + i → slice_get (drop s (map marks_of jobs)) i ≡ Some f → Marked jobs m f
+get_marked : (s i m : ℕ) (jobs : Jobs) (f : Marks) → m ≡ s + i → slice_get (map marks_of (drop s jobs)) i ≡ Some f → Marked jobs m f
 get_marked zero i m jobs f h e = let same : i ≡ m = omega arith in subst (λ k. Marked jobs k f) same (get_mapped i jobs f e)
 get_marked (suc s) i zero jobs f h e = absurd (omega arith)
 get_marked (suc s) zero (suc m) [] f h e = cc
@@ -108,12 +87,6 @@ get_below : (jobs : Jobs) (i : ℕ) (j : Kind × Job) → slice_get jobs i ≡ S
 get_below [] i j e = cc
 get_below (k ∷ jobs) zero j e = omega arith
 get_below (k ∷ jobs) (suc i) j e = let r : i < length jobs = get_below jobs i j e in omega arith
-
-and_comm : (a b : Bool) → (a && b) ≡ (b && a)
-and_comm true true = refl
-and_comm true false = refl
-and_comm false true = refl
-and_comm false false = refl
 
 below_or : (k n : ℕ) → k < suc n → (k < n) ⊎ (k ≡ n)
 below_or zero zero h = inr refl
@@ -141,20 +114,20 @@ conflicting_before jobs marks start x i h b = elim (true_or_false (conflicting (
 ]
 
 -- the first of the kept jobs that conflicts with a new one stands in the last run
-pub first_in_run : (jobs : Jobs) (marks : List Marks) (start : ℕ) (x : Kind × Job) → IsKept jobs marks start → runs x.0 ≡ true → first_conflicting (jobs ++ x ∷ []) (length jobs) ≡ plus start (position (λ f. marks_clash f (marks_of x)) (drop start marks))
+first_in_run : (jobs : Jobs) (marks : List Marks) (start : ℕ) (x : Kind × Job) → IsKept jobs marks start → runs x.0 ≡ true → first_conflicting (jobs ++ x ∷ []) (length jobs) ≡ plus start (position (λ f. marks_clash f (marks_of x)) marks)
 first_in_run jobs marks start x h r =
-    least_skip 0 start (length (drop start marks)) (length jobs) _ (sizes h.inside) (λ i a b. conflicting_before jobs marks start x i h (omega arith))
-    ∙ least_position (λ f. marks_clash f (marks_of x)) (drop start marks) (0 + start) (λ i. conflicting (jobs ++ x ∷ []) i (length jobs)) at_mark
-    ∙ ap (λ s. plus s (position (λ f. marks_clash f (marks_of x)) (drop start marks))) (zero_plus start)
+    least_skip 0 start (length marks) (length jobs) _ (sizes h.inside) (λ i a b. conflicting_before jobs marks start x i h (omega arith))
+    ∙ least_position (λ f. marks_clash f (marks_of x)) marks (0 + start) (λ i. conflicting (jobs ++ x ∷ []) i (length jobs)) at_mark
+    ∙ ap (λ s. plus s (position (λ f. marks_clash f (marks_of x)) marks)) (zero_plus start)
   where
     zero_plus : (n : ℕ) → 0 + n ≡ n
     zero_plus n = omega arith
 
-    sizes : start ≤ length jobs → length jobs ≡ start + length (drop start marks)
-    sizes l = let a : length (drop start marks) ≡ length marks - start = length-drop start marks in let b : length marks ≡ length jobs = ap length h.marked ∙ length-map jobs marks_of in omega arith
+    sizes : start ≤ length jobs → length jobs ≡ start + length marks
+    sizes l = let a : length (drop start jobs) ≡ length jobs - start = length-drop start jobs in let b : length marks ≡ length (drop start jobs) = ap length h.marked ∙ length-map (drop start jobs) marks_of in omega arith
 
-    at_mark : (i : ℕ) (f : Marks) → slice_get (drop start marks) i ≡ Some f → conflicting (jobs ++ x ∷ []) ((0 + start) + i) (length jobs) ≡ marks_clash f (marks_of x)
-    at_mark i f e = go (get_marked start i (start + i) jobs f refl (subst (λ (ms : List Marks). slice_get (drop start ms) i ≡ Some f) h.marked e))
+    at_mark : (i : ℕ) (f : Marks) → slice_get marks i ≡ Some f → conflicting (jobs ++ x ∷ []) ((0 + start) + i) (length jobs) ≡ marks_clash f (marks_of x)
+    at_mark i f e = go (get_marked start i (start + i) jobs f refl (subst (λ (ms : List Marks). slice_get ms i ≡ Some f) h.marked e))
       where
         go : (j : Kind × Job) × (slice_get jobs (start + i) ≡ Some j) × (f ≡ marks_of j) → conflicting (jobs ++ x ∷ []) ((0 + start) + i) (length jobs) ≡ marks_clash f (marks_of x)
         go (j, e, same) = ap (λ k. conflicting (jobs ++ x ∷ []) (k + i) (length jobs)) (zero_plus start) ∙ conflicting_in jobs marks start x j (start + i) h r (omega arith) (get_below jobs (start + i) j e) e ∙ ap (λ m. marks_clash m (marks_of x)) (sym same)
@@ -171,12 +144,12 @@ first_outside jobs x r = least_none (length jobs) _ (λ i l. elim (true_or_false
 
 -- one more job that conflicts with none is kept
 pub kept_more : (jobs : Jobs) (marks : List Marks) (start : ℕ) (x : Kind × Job) → IsKept jobs marks start → length jobs < 4096 → checks x.1 ≡ true → first_conflicting (jobs ++ x ∷ []) (length jobs) ≡ None
-    → IsKept (jobs ++ x ∷ []) (marks ++ marks_of x ∷ []) (cond (runs x.0) start (length (jobs ++ x ∷ [])))
+    → IsKept (jobs ++ x ∷ []) (cond (runs x.0) (marks ++ marks_of x ∷ []) []) (cond (runs x.0) start (length (jobs ++ x ∷ [])))
 kept_more jobs marks start x h l c none = record {
   few = omega (arith, longer);
   checked = All-append (λ (j : Kind × Job). checks j.1 ≡ true) jobs (x ∷ []) h.checked (All-cons (λ (j : Kind × Job). checks j.1 ≡ true) x [] c (λ k d l. absurd (omega arith)));
   clear = conflict_more jobs x ∙ (λ i. pair_or (h.clear i) (pair_of (none i) (length jobs)));
-  marked = ap (λ (ms : List Marks). ms ++ marks_of x ∷ []) h.marked ∙ sym (map-append marks_of jobs (x ∷ []));
+  marked = marked (runs x.0);
   inside = inside (runs x.0);
   run = run (runs x.0) refl;
   broken = broken (runs x.0) refl;
@@ -187,6 +160,10 @@ kept_more jobs marks start x h l c none = record {
 
     in_jobs : start ≤ length jobs
     in_jobs = h.inside
+
+    marked : (b : Bool) → cond b (marks ++ marks_of x ∷ []) [] ≡ map marks_of (drop (cond b start (length (jobs ++ x ∷ []))) (jobs ++ x ∷ []))
+    marked true = ap (λ (ms : List Marks). ms ++ marks_of x ∷ []) h.marked ∙ sym (map-append marks_of (drop start jobs) (x ∷ [])) ∙ ap (map marks_of) (sym (drop-append-le start jobs (x ∷ []) in_jobs))
+    marked false = ap (map marks_of) (sym (drop_all (length (jobs ++ x ∷ [])) (jobs ++ x ∷ []) (omega arith)))
 
     inside : (b : Bool) → cond b start (length (jobs ++ x ∷ [])) ≤ length (jobs ++ x ∷ [])
     inside true = omega (arith, longer, in_jobs)
@@ -200,17 +177,10 @@ kept_more jobs marks start x h l c none = record {
     broken true r a = runs_front jobs x (start - 1) (omega (arith, in_jobs)) ∙ h.broken a
     broken false r a = runs_last jobs x (length (jobs ++ x ∷ []) - 1) (omega (arith, longer)) ∙ r
 
-take_all : (xs : List Marks) (n : ℕ) → n ≡ length xs → take n xs ≡ xs
-take_all [] zero e = refl
-take_all [] (suc n) e = refl
-take_all (x ∷ xs) zero e = absurd (omega arith)
-take_all (x ∷ xs) (suc n) e = ap (λ ys. x ∷ ys) (take_all xs n (omega arith))
-
 -- what the search in the last run tells
-pub first_told : (jobs : Jobs) (marks near : List Marks) (start : ℕ) (kind : Kind) (job : Job) (mark : Marks) (o : Option ℕ) → IsKept jobs marks start → runs kind ≡ true → near ≡ marks → mark ≡ marks_of (kind, job) → o ≡ position (λ f. marks_clash f mark) (take (length near - start) (drop start near)) → plus 1 (plus start o) ≡ plus 1 (first_conflicting (jobs ++ (kind, job) ∷ []) (length jobs))
-first_told jobs marks near start kind job mark o h r same m e =
-    let whole : take (length near - start) (drop start near) ≡ drop start near = take_all (drop start near) (length near - start) (sym (length-drop start near)) in
-    ap (λ o. plus 1 (plus start o)) (e ∙ ap (position (λ f. marks_clash f mark)) whole ∙ (λ i. position (λ f. marks_clash f (m i)) (drop start (same i)))) ∙ sym (ap (plus 1) (first_in_run jobs marks start (kind, job) h r))
+pub first_told : (jobs : Jobs) (marks : List Marks) (start : ℕ) (kind : Kind) (job : Job) (mark : Marks) (o : Option ℕ) → IsKept jobs marks start → runs kind ≡ true → mark ≡ marks_of (kind, job) → o ≡ position (λ f. marks_clash f mark) marks → plus 1 (plus start o) ≡ plus 1 (first_conflicting (jobs ++ (kind, job) ∷ []) (length jobs))
+first_told jobs marks start kind job mark o h r m e =
+    ap (λ o. plus 1 (plus start o)) (e ∙ (λ i. position (λ f. marks_clash f (m i)) marks)) ∙ sym (ap (plus 1) (first_in_run jobs marks start (kind, job) h r))
 
 pub kept_none : IsKept [] [] 0
 kept_none = record {

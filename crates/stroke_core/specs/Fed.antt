@@ -1,5 +1,5 @@
 -- Strokes as callers see them.
-use Rattle.std.specs.Prelude.{◌≡◌, ℕ, ◌+◌, ◌-◌, ◌<◌, ◌≤◌, Bool, true, false, Option, Some, None, List, [], ◌∷◌, ◌++◌, length, map, All}
+use Rattle.std.specs.Prelude.{◌≡◌, ℕ, ◌+◌, ◌-◌, ◌<◌, ◌≤◌, Bool, true, false, Option, Some, None, List, [], ◌∷◌, ◌++◌, length, map, drop, All}
 use Rattle.doc_model.specs.Lawful.{checks}
 use Rattle.doc_model.specs.declared.job.Job.{Job}
 use Rattle.doc_model.specs.declared.job.Kind.{Kind}
@@ -38,12 +38,12 @@ pub record StandsFor (jobs : Jobs) (s : Fed) : Type 0 where
   pub kept_is : s.jobs ≡ kept jobs
   pub conflict_is : s.overlap ≡ conflict jobs
 
--- what holds of the kept jobs, with the marks of each and the place where the last run began
+-- what holds of the kept jobs, with the place where the last run began and the marks of the jobs from there on
 pub record IsKept (jobs : Jobs) (marks : List Marks) (start : ℕ) : Type 0 where
   pub few : length jobs ≤ 4096
   pub checked : All (λ (j : Kind × Job). checks j.1 ≡ true) jobs
   pub clear : conflict jobs ≡ None
-  pub marked : marks ≡ map marks_of jobs
+  pub marked : marks ≡ map marks_of (drop start jobs)
   pub inside : start ≤ length jobs
   pub run : (k : ℕ) → start ≤ k → k < length jobs → runs_at jobs k ≡ true
   pub broken : 0 < start → runs_at jobs (start - 1) ≡ false

@@ -1,14 +1,19 @@
 //! Where jobs read and write, kept beside them so that they are quickly compared.
 
-ghost use Rattle.std.specs.Prelude.{◌≡◌, ◌&&◌, ◌||◌, true, not, position};
+ghost use Rattle.std.specs.Prelude.{◌≡◌, ◌≤◌, ◌-◌, ◌&&◌, ◌||◌, ◌++◌, ◌∷◌, [], true, not, position, if◌then◌else◌, OnOk, OnErr, length, take, drop, ◌<◌, vec_len, vec_capacity};
 ghost use Rattle.std.specs.List.{list_any};
 ghost use Rattle.geom_core.specs.Areas.{meets};
+ghost use Rattle.doc_model.specs.Jobs.{reads, writes};
 ghost use Rattle.doc_model.specs.Lawful.{checks};
 ghost use Rattle.doc_model.specs.Strokes.{any_meet, is_uni};
+ghost use Rattle.stroke_core.specs.Bounds.{Encloses};
+ghost use Rattle.stroke_core.specs.Fed.{plus};
 
+use crate::bound::{Bound, any_near};
 use arrayvec::ArrayVec;
 use doc_model::{Job, Kind};
 use geom_core::Rect;
+use std::alloc::{AllocError, Global};
 use std::marker::Model;
 
 /// The rectangles of a job, and whether it is uniquely concurrent.
@@ -16,15 +21,20 @@ use std::marker::Model;
 pub(crate) struct Footprint {
     reads: ArrayVec<Rect, 2>,
     writes: ArrayVec<Rect, 2>,
+    /// Whether it is known to write all that it reads.
+    writes_all: bool,
     unique: bool,
 }
 
 impl Model for Footprint {
+    ghost use Rattle.std.specs.Prelude.{◌≡◌, true};
     ghost use Rattle.stroke_core.specs.Marks.{Marks};
 
     ghost Value = { Marks };
 
     ghost view = { λ f. record { reads = f.reads.items; writes = f.writes.items; unique = f.unique } };
+
+    ghost invariant = { λ f. f.writes_all ≡ true → f.writes.items ≡ f.reads.items };
 }
 
 impl Footprint {
@@ -37,6 +47,7 @@ impl Footprint {
         Footprint {
             reads: job.reads(),
             writes: job.writes(),
+            writes_all: writes_all(job),
             unique: is_unique(kind),
         }
     }
@@ -45,13 +56,32 @@ impl Footprint {
     fn clashes(&self, other: &Footprint) -> bool
         ensures { result ≡ marks_clash self.now other.now }
     {
-        !(self.unique && other.unique)
-            && (any_meet(self.writes.as_slice(), other.reads.as_slice())
-                || any_meet(other.writes.as_slice(), self.reads.as_slice()))
+        !(self.unique && other.unique) && self.disturbs(other)
+    }
+
+    /// Whether one of the jobs writes what the other reads. Where each writes all that it reads, one
+    /// way tells of the other.
+    fn disturbs(&self, other: &Footprint) -> bool
+        ensures { result ≡ (any_meet self.now.writes other.now.reads || any_meet other.now.writes self.now.reads) }
+    {
+        let there = any_meet(self.writes.as_slice(), other.reads.as_slice());
+        if self.writes_all && other.writes_all {
+            return there;
+        }
+        there || any_meet(other.writes.as_slice(), self.reads.as_slice())
+    }
+
+    /// A rectangle round all that the job reads and writes.
+    fn bound(&self) -> Bound
+        ensures { Encloses result self.now }
+    {
+        Bound::nothing()
+            .with_all(self.reads.as_slice())
+            .with_all(self.writes.as_slice())
     }
 
     /// The place of the first of these that clashes with it.
-    pub(crate) fn first_clash(&self, run: &[Footprint]) -> Option<usize>
+    fn first_clash(&self, run: &[Footprint]) -> Option<usize>
         ensures { result ≡ position (λ f. marks_clash f self.now) run.now }
     {
         run.iter().position(|earlier| earlier.clashes(self))
@@ -62,6 +92,16 @@ fn is_unique(kind: Kind) -> bool
     ensures { result ≡ is_uni kind }
 {
     kind == Kind::Uni
+}
+
+/// Whether the job writes all that it reads.
+fn writes_all(job: &Job) -> bool
+    ensures { result ≡ true → writes job.now ≡ reads job.now }
+{
+    match job {
+        Job::Fill { .. } | Job::Dab { .. } | Job::Move { .. } => true,
+        Job::Blur { .. } => false,
+    }
 }
 
 /// Whether some rectangle of the one meets some of the other.
@@ -75,4 +115,144 @@ fn meets_any(rect: &Rect, others: &[Rect]) -> bool
     ensures { result ≡ list_any (λ b. meets rect.now b) others.now }
 {
     others.iter().any(|other| rect.meets(other))
+}
+
+/// How many jobs are looked over at once before they are compared one by one.
+const BLOCK: usize = 128;
+
+/// The footprints of a run of jobs, and the edges of a rectangle round each of them.
+///
+/// Most jobs lie far from each other, and that shows in the edges alone.
+#[derive(Drop)]
+pub(crate) struct Footprints {
+    exact: Vec<Footprint>,
+    lefts: Vec<u16>,
+    /// The left edges as unique jobs see them: those of other unique jobs lie outside the world.
+    lefts_for_unique: Vec<u16>,
+    rights: Vec<u16>,
+    tops: Vec<u16>,
+    bottoms: Vec<u16>,
+}
+
+impl Model for Footprints {
+    ghost use Rattle.std.specs.Prelude.{List};
+    ghost use Rattle.stroke_core.specs.Marks.{Marks};
+    ghost use Rattle.stroke_core.specs.Bounds.{AreEdges};
+
+    ghost Value = { List Marks };
+
+    ghost view = { λ f. f.exact.items };
+
+    ghost invariant = { λ f. AreEdges f.exact.items f.lefts.items f.lefts_for_unique.items f.rights.items f.tops.items f.bottoms.items };
+}
+
+impl Footprints {
+    ghost use Rattle.stroke_core.specs.Marks.{marks_clash};
+
+    pub(crate) fn new(alloc: Global) -> Footprints
+        ensures { result ≡ [] }
+    {
+        Footprints {
+            exact: Vec::new(alloc),
+            lefts: Vec::new(alloc),
+            lefts_for_unique: Vec::new(alloc),
+            rights: Vec::new(alloc),
+            tops: Vec::new(alloc),
+            bottoms: Vec::new(alloc),
+        }
+    }
+
+    /// Adds one at the end.
+    pub(crate) fn push(&mut self, footprint: Footprint) -> Result<(), AllocError>
+        ensures ok { OnOk result (self.new ≡ self.old ++ footprint ∷ []) }
+        ensures err { OnErr result (self.new ≡ self.old) }
+    {
+        let bound = footprint.bound();
+        let left_for_unique = if footprint.unique {
+            u16::MAX
+        } else {
+            bound.left
+        };
+        self.exact.reserve(1)?;
+        self.lefts.reserve(1)?;
+        self.lefts_for_unique.reserve(1)?;
+        self.rights.reserve(1)?;
+        self.tops.reserve(1)?;
+        self.bottoms.reserve(1)?;
+        push_reserved(&mut self.exact, footprint);
+        push_reserved(&mut self.lefts, bound.left);
+        push_reserved(&mut self.lefts_for_unique, left_for_unique);
+        push_reserved(&mut self.rights, bound.right);
+        push_reserved(&mut self.tops, bound.top);
+        push_reserved(&mut self.bottoms, bound.bottom);
+        Ok(())
+    }
+
+    /// Forgets all of them.
+    pub(crate) fn clear(&mut self)
+        ensures { self.new ≡ [] }
+    {
+        self.exact.clear();
+        self.lefts.clear();
+        self.lefts_for_unique.clear();
+        self.rights.clear();
+        self.tops.clear();
+        self.bottoms.clear();
+    }
+
+    /// The place of the first that clashes with a new one.
+    pub(crate) fn first_clash(&self, new: &Footprint) -> Option<usize>
+        ensures { result ≡ position (λ f. marks_clash f new.now) self.now }
+    {
+        let bound = new.bound();
+        let len = self.exact.len();
+        let mut from = 0;
+        while from < len {
+            let to = from + BLOCK.min(len - from);
+            let found = self.first_within(from, to, new, bound);
+            if found.is_some() {
+                return found;
+            }
+            from = to;
+        }
+        None
+    }
+
+    /// The place of the first in a block that clashes with a new one.
+    fn first_within(&self, from: usize, to: usize, new: &Footprint, bound: Bound) -> Option<usize>
+        requires ascending { from ≤ to }
+        requires inside { to ≤ length self.now }
+        requires bound { Encloses bound new.now }
+        ensures { result ≡ plus from (position (λ f. marks_clash f new.now) (take (to - from) (drop from self.now))) }
+    {
+        let lefts = if new.unique {
+            &self.lefts_for_unique
+        } else {
+            &self.lefts
+        };
+        if !any_near(
+            lefts,
+            &self.rights,
+            &self.tops,
+            &self.bottoms,
+            from,
+            to,
+            bound,
+        ) {
+            return None;
+        }
+        let place = new.first_clash(&self.exact[from..to])?;
+        Some(from + place)
+    }
+}
+
+/// Adds one where there is room for it.
+pub(crate) fn push_reserved<T: Drop>(items: &mut Vec<T>, x: T)
+    requires { vec_len items.old < vec_capacity items.old }
+    ensures { items.new.items ≡ items.old.items ++ x ∷ [] }
+{
+    match items.push(x) {
+        Ok(()) => {}
+        Err(_) => unreachable!(),
+    }
 }

@@ -2,6 +2,7 @@
 //! that conflicts with an earlier one of its run.
 #![tactic(auto)]
 
+mod bound;
 mod footprint;
 mod stroke;
 #[cfg(test)]

@@ -6,7 +6,7 @@ ghost use Rattle.doc_model.specs.Strokes.{Jobs, first_conflicting, runs};
 ghost use Rattle.stroke_core.specs.Fed.{found, plus, StandsFor};
 ghost use Rattle.stroke_core.specs.Marks.{marks_of};
 
-use crate::footprint::Footprint;
+use crate::footprint::{Footprint, Footprints, push_reserved};
 use doc_model::{Job, Kind};
 use std::alloc::{AllocError, AllocFailed, Global};
 use std::marker::Model;
@@ -54,7 +54,8 @@ pub struct OpenStroke {
     layer: u16,
     exclusive: bool,
     jobs: Vec<(Kind, Job)>,
-    footprints: Vec<Footprint>,
+    /// Those of the last run.
+    footprints: Footprints,
     start: usize,
     overlap: Option<(u32, u32)>,
 }
@@ -72,7 +73,7 @@ impl Model for OpenStroke {
       overlap = s.overlap;
     } };
 
-    ghost invariant = { λ s. IsKept s.jobs.items s.footprints.items s.start };
+    ghost invariant = { λ s. IsKept s.jobs.items s.footprints s.start };
 }
 
 impl OpenStroke {
@@ -86,7 +87,7 @@ impl OpenStroke {
             layer,
             exclusive,
             jobs: Vec::new(alloc),
-            footprints: Vec::new(alloc),
+            footprints: Footprints::new(alloc),
             start: 0,
             overlap: None,
         }
@@ -131,7 +132,7 @@ impl OpenStroke {
         if !runs(kind) {
             return None;
         }
-        let place = footprint.first_clash(&self.footprints[self.start..])?;
+        let place = self.footprints.first_clash(footprint)?;
         Some((self.start + place) as u32 + 1)
     }
 
@@ -144,12 +145,13 @@ impl OpenStroke {
         ensures ok { OnOk result (self.new ≡ record self.old { jobs = self.old.jobs ++ (kind, job) ∷ [] }) }
         ensures err { OnErr result (self.new ≡ self.old) }
     {
-        self.footprints.reserve(1)?;
-        self.jobs.push((kind, job))?;
-        match self.footprints.push(footprint) {
-            Ok(()) => {}
-            Err(_) => unreachable!(),
+        self.jobs.reserve(1)?;
+        if runs(kind) {
+            self.footprints.push(footprint)?;
+        } else {
+            self.footprints.clear();
         }
+        push_reserved(&mut self.jobs, (kind, job));
         self.start = run_start(kind, self.start, self.jobs.len());
         Ok(())
     }
