@@ -1,4 +1,5 @@
 pub mod Fronts
+pub mod Marked
 pub mod Published
 pub mod Scripts
 pub mod Stories
