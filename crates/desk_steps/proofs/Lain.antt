@@ -15,10 +15,10 @@ use Rattle.memento_core.specs.Planes.{tile_under}
 use Rattle.doc_model.specs.Layers.{Layer, at, at-painted, default-painted, layer_ext}
 use Rattle.doc_model.specs.Jobs.{writes, published, in_tile}
 use Rattle.job_core.specs.Paints as paints
-use Rattle.job_core.specs.Paints.{Paint, IsPainted, HasValue}
+use Rattle.job_core.specs.Paints.{Paint, Stuff, Makes, HasValue}
 use Rattle.paint_device.specs.Seen.{layer_of}
-use Rattle.paint_device.specs.Sheets.{Sheet, sheet_at, tile_or, with_under, readied}
-use Rattle.desk_steps.specs.Tiles.{made, IsLaid}
+use Rattle.paint_device.specs.Sheets.{Sheet, sheet_at, tile_or, with_under, readied, WritesBlock}
+use Rattle.desk_steps.specs.Tiles.{made, IsLaid, IsLaidFrom}
 use Rattle.paint_device.proofs.Shown.{at-layer_of, default-layer_of}
 use Rattle.paint_device.proofs.Writes.{pixel_or-tile_or, seen_after_exchange, ready_keeps_pixels}
 
@@ -36,13 +36,17 @@ some_same x y e = cc
 some_none : {A : Type 0} (x : A) → Some x ≡ None → ⊥
 some_none x e = cc
 
--- these blocks are laid
-pub LaidSoFar : Paint → Sheet → Pixels → List Piece → Type 0
-LaidSoFar w s t bs = (p : Point) → in_tile w.key p ≡ true → pixel_at t p ≡ cond (any_holds (map (λ (b : Piece). b.rect) bs) p) (made w p) (sheet_at s p)
+-- the key of what a painting left
+pub key_made : (w : Paint) (x : Stuff) → Makes w x → x.key ≡ w.key
+key_made w x m = ap (λ (x : Stuff). x.key) (sym m.is)
 
-pub none_laid : (w : Paint) (s : Sheet) (t : Pixels) (k : Key) → k ≡ w.key → ((p : Point) → in_tile k p ≡ true → pixel_at t p ≡ sheet_at s p) → LaidSoFar w s t (take 0 w.blocks)
+-- these blocks are laid
+pub LaidSoFar : Stuff → Sheet → Pixels → List Piece → Type 0
+LaidSoFar x s t bs = (w : Paint) → Makes w x → (p : Point) → in_tile w.key p ≡ true → pixel_at t p ≡ cond (any_holds (map (λ (b : Piece). b.rect) bs) p) (made w p) (sheet_at s p)
+
+pub none_laid : (x : Stuff) (s : Sheet) (t : Pixels) (k : Key) → k ≡ x.key → ((p : Point) → in_tile k p ≡ true → pixel_at t p ≡ sheet_at s p) → LaidSoFar x s t (take 0 x.blocks)
 unfolding LaidSoFar
-none_laid w s t k e same p h = same p (ap (λ m. in_tile m p) e ∙ h)
+none_laid x s t k e same w m p h = same p (ap (λ m. in_tile m p) (e ∙ key_made w x m) ∙ h)
 
 or_end : (a : Bool) → a ≡ (a || false)
 or_end true = refl
@@ -63,14 +67,20 @@ value_at w bs i b all e = elim (slice_get_cases bs i).1 [
   | inr f ↦ absurd (some_none b (e ∙ f.1))
 ]
 
+value_made : (w : Paint) (x : Stuff) (i : ℕ) (b : Piece) → Makes w x → Some b ≡ slice_get x.blocks i → HasValue w.job w.shot w.key b
+value_made w x i b m e = value_at w x.blocks i b (subst (λ (x : Stuff). All (HasValue w.job w.shot w.key) x.blocks) m.is m.painted.values) e
+
+covers_made : (w : Paint) (x : Stuff) → Makes w x → (p : Point) → any_holds (map (λ (b : Piece). b.rect) x.blocks) p ≡ (any_holds (writes w.job) p && in_tile w.key p)
+covers_made w x m p = ap (λ (x : Stuff). any_holds (map (λ (b : Piece). b.rect) x.blocks) p) (sym m.is) ∙ m.painted.covers p
+
 -- one block more
-pub one_laid : (w : Paint) (s : Sheet) (t new : Pixels) (i : ℕ) (b : Piece) → IsPainted w → Some b ≡ slice_get w.blocks i → LaysBlock t new b → LaidSoFar w s t (take i w.blocks) → LaidSoFar w s new (take (i + 1) w.blocks)
+pub one_laid : (x : Stuff) (s : Sheet) (t new : Pixels) (i : ℕ) (b : Piece) → Some b ≡ slice_get x.blocks i → LaysBlock t new b → LaidSoFar x s t (take i x.blocks) → LaidSoFar x s new (take (i + 1) x.blocks)
 unfolding LaidSoFar
-one_laid w s t new i b is e lays so p h =
-    let v : HasValue w.job w.shot w.key b = value_at w w.blocks i b is.values e in
+one_laid x s t new i b e lays so w m p h =
+    let v : HasValue w.job w.shot w.key b = value_made w x i b m e in
     let inside : holds (tile b.key) p ≡ true = ap (λ k. holds (tile k) p) (v.key_is ∙ sym (key_same (key_of p) w.key h)) ∙ own_tile p in
     lays p inside ∙ go (holds b.rect p) refl v.value_is
-    ∙ ap (λ c. cond c (made w p) (sheet_at s p)) (sym (more_held w.blocks i b p e)) ∙ ap (λ n. cond (any_holds (map (λ (b : Piece). b.rect) (take n w.blocks)) p) (made w p) (sheet_at s p)) (next i)
+    ∙ ap (λ c. cond c (made w p) (sheet_at s p)) (sym (more_held x.blocks i b p e)) ∙ ap (λ n. cond (any_holds (map (λ (b : Piece). b.rect) (take n x.blocks)) p) (made w p) (sheet_at s p)) (next i)
   where
     next : (i : ℕ) → suc i ≡ i + 1
     next i = omega arith
@@ -80,25 +90,25 @@ one_laid w s t new i b is e lays so p h =
     or_true false = refl
 
     go : (c : Bool) → holds b.rect p ≡ c → ((p : Point) → holds b.rect p ≡ true → piece_at b p ≡ made w p)
-        → cond c (piece_at b p) (pixel_at t p) ≡ cond (any_holds (map (λ (b : Piece). b.rect) (take i w.blocks)) p || holds b.rect p) (made w p) (sheet_at s p)
-    go true held value = value p held ∙ ap (λ c. cond c (made w p) (sheet_at s p)) (or_true (any_holds (map (λ (b : Piece). b.rect) (take i w.blocks)) p) ∙ ap (λ c. any_holds (map (λ (b : Piece). b.rect) (take i w.blocks)) p || c) (sym held))
-    go false held value = so p h ∙ ap (λ c. cond c (made w p) (sheet_at s p)) (or_end (any_holds (map (λ (b : Piece). b.rect) (take i w.blocks)) p) ∙ ap (λ c. any_holds (map (λ (b : Piece). b.rect) (take i w.blocks)) p || c) (sym held))
+        → cond c (piece_at b p) (pixel_at t p) ≡ cond (any_holds (map (λ (b : Piece). b.rect) (take i x.blocks)) p || holds b.rect p) (made w p) (sheet_at s p)
+    go true held value = value p held ∙ ap (λ c. cond c (made w p) (sheet_at s p)) (or_true (any_holds (map (λ (b : Piece). b.rect) (take i x.blocks)) p) ∙ ap (λ c. any_holds (map (λ (b : Piece). b.rect) (take i x.blocks)) p || c) (sym held))
+    go false held value = so w m p h ∙ ap (λ c. cond c (made w p) (sheet_at s p)) (or_end (any_holds (map (λ (b : Piece). b.rect) (take i x.blocks)) p) ∙ ap (λ c. any_holds (map (λ (b : Piece). b.rect) (take i x.blocks)) p || c) (sym held))
 
 -- the tile with all of the blocks
-pub all_laid : (w : Paint) (s : Sheet) (t : Pixels) (n : ℕ) → n ≡ length w.blocks → IsPainted w → LaidSoFar w s t (take n w.blocks) → IsLaid w s t
+pub all_laid : (x : Stuff) (s : Sheet) (t : Pixels) (n : ℕ) → n ≡ length x.blocks → LaidSoFar x s t (take n x.blocks) → IsLaidFrom x s t
 unfolding LaidSoFar
-all_laid w s t n e is so p h = so p h ∙ ap (λ bs. cond (any_holds (map (λ (b : Piece). b.rect) bs) p) (made w p) (sheet_at s p)) (ap (λ n. take n w.blocks) e ∙ take-length w.blocks)
-    ∙ ap (λ c. cond c (made w p) (sheet_at s p)) (is.covers p ∙ ap (λ c. any_holds (writes w.job) p && c) h ∙ and_true (any_holds (writes w.job) p))
+all_laid x s t n e so w m p h = so w m p h ∙ ap (λ bs. cond (any_holds (map (λ (b : Piece). b.rect) bs) p) (made w p) (sheet_at s p)) (ap (λ n. take n x.blocks) e ∙ take-length x.blocks)
+    ∙ ap (λ c. cond c (made w p) (sheet_at s p)) (covers_made w x m p ∙ ap (λ c. any_holds (writes w.job) p && c) h ∙ and_true (any_holds (writes w.job) p))
   where
     and_true : (a : Bool) → (a && true) ≡ a
     and_true true = refl
     and_true false = refl
 
 -- what the one block makes of any tile is the tile with all of the blocks
-pub one_block_laid : (w : Paint) (s : Sheet) (t : Pixels) (b : Piece) → IsPainted w → length w.blocks ≡ 1 → Some b ≡ slice_get w.blocks 0 → IsLaidBy t b → IsLaid w s t
-one_block_laid w s t b is one e by =
-    let old : Pixels = tile_or (tile_under s.tiles w.key) s.default_pixel in
-    all_laid w s t 1 (sym one) is (one_laid w s old t 0 b is e (by old) (none_laid w s old w.key refl (old_at w.key)))
+pub one_block_laid : (x : Stuff) (s : Sheet) (t : Pixels) (b : Piece) → length x.blocks ≡ 1 → Some b ≡ slice_get x.blocks 0 → IsLaidBy t b → IsLaidFrom x s t
+one_block_laid x s t b one e by =
+    let old : Pixels = tile_or (tile_under s.tiles x.key) s.default_pixel in
+    all_laid x s t 1 (sym one) (one_laid x s old t 0 b e (by old) (none_laid x s old x.key refl (old_at x.key)))
   where
     old_at : (k : Key) (p : Point) → in_tile k p ≡ true → pixel_at (tile_or (tile_under s.tiles k) s.default_pixel) p ≡ sheet_at s p
     old_at k p h = sym (pixel_or-tile_or (tile_under s.tiles k) s.default_pixel p) ∙ ap (λ m. pixel_or (tile_under s.tiles m) s.default_pixel p) (sym (key_same (key_of p) k h))
@@ -146,3 +156,18 @@ laid_layer w s t is = layer_ext _ _
     go : (p : Point) (b : Bool) → in_tile w.key p ≡ b → cond (in_tile w.key p) (pixel_at t p) (sheet_at (readied s w.key) p) ≡ cond (any_holds (writes w.job) p && in_tile w.key p) (made w p) (sheet_at s p)
     go p true h = taken (in_tile w.key p) _ _ h ∙ is p h ∙ ap (λ c. cond c (made w p) (sheet_at s p)) (and_true (any_holds (writes w.job) p) ∙ ap (λ c. any_holds (writes w.job) p && c) (sym h))
     go p false h = kept (in_tile w.key p) _ _ h ∙ ready_keeps_pixels s w.key p ∙ ap (λ c. cond c (made w p) (sheet_at s p)) (and_false (any_holds (writes w.job) p) ∙ ap (λ c. any_holds (writes w.job) p && c) (sym h))
+
+one_held : (bs : List Piece) (b : Piece) (p : Point) → length bs ≡ 1 → Some b ≡ slice_get bs 0 → holds b.rect p ≡ any_holds (map (λ (b : Piece). b.rect) bs) p
+one_held bs b p one e = sym (more_held bs 0 b p e) ∙ ap (λ cs. any_holds (map (λ (b : Piece). b.rect) cs) p) (ap (λ n. take n bs) (sym one) ∙ take-length bs)
+
+-- with the one block written the layer has what was painted
+pub written_layer : (x : Stuff) (old new : Sheet) (b : Piece) → length x.blocks ≡ 1 → Some b ≡ slice_get x.blocks 0 → WritesBlock old new b → (w : Paint) → Makes w x → layer_of new ≡ published w.job (paints.layer_of w.shot) w.key (layer_of old)
+written_layer x old new b one e wrote w m = layer_ext _ _
+    (default-layer_of new ∙ wrote.default_pixel ∙ sym (default_published w (layer_of old) ∙ default-layer_of old))
+    (λ p. at-layer_of new p ∙ wrote.at p ∙ go p (holds b.rect p) refl
+    ∙ ap (λ c. cond c (made w p) (sheet_at old p)) (one_held x.blocks b p one e ∙ covers_made w x m p)
+    ∙ sym (at_published w (layer_of old) p ∙ ap (cond _ (made w p)) (at-layer_of old p)))
+  where
+    go : (p : Point) (c : Bool) → holds b.rect p ≡ c → cond c (piece_at b p) (sheet_at old p) ≡ cond c (made w p) (sheet_at old p)
+    go p true h = (value_made w x 0 b m e).value_is p h
+    go p false h = refl

@@ -42,6 +42,14 @@ inserted_is old new k puts = set.same_set key_cmp_total key_cmp-IsAntisymmetric 
     set.contains-from_list key_cmp_total new.keys q ∙ puts.0 q ∙ cond_or (eq_by_cmp key_cmp k q) _ ∙ ap (λ b. b || list_any (eq_by_cmp key_cmp q) old.keys) ((eq_by_cmp_equiv key_cmp_total).symm k q)
     ∙ ap (λ b. eq_by_cmp key_cmp q k || b) (sym (set.contains-from_list key_cmp_total old.keys q)) ∙ sym (set.contains-insert key_cmp_total (set.from_list old.keys) k q))
 
+-- a key that is there already
+pub inserted_again : (s : set.FinSet key_cmp) (k : Key) → set.contains s k ≡ true → set.insert s k ≡ s
+inserted_again s k there = set.same_set key_cmp_total key_cmp-IsAntisymmetric _ _ (λ q. set.contains-insert key_cmp_total s k q ∙ go q (same_key q k) refl)
+  where
+    go : (q : Key) (b : Bool) → same_key q k ≡ b → (b || set.contains s q) ≡ set.contains s q
+    go q true e = sym (ap (set.contains s) (key_same q k e) ∙ there)
+    go q false e = refl
+
 pub one_fits : (n m : ℕ) (added : Bool) → m ≡ n + (if added then 1 else 0) → n < 2 ^ 32 - 1 → m ≤ 2 ^ 32 - 1
 one_fits n m true e h = omega arith
 one_fits n m false e h = omega arith

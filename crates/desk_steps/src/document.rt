@@ -11,6 +11,7 @@ ghost use Rattle.doc_model.specs.Changes.{changed};
 ghost use Rattle.doc_model.specs.Laws.{IsDocument};
 ghost use Rattle.doc_model.specs.declared.tree.TreeFault.{TreeFault};
 ghost use Rattle.job_core.specs.Paints as paints;
+ghost use Rattle.job_core.specs.Paints.{Paint, Makes};
 ghost use Rattle.paint_device.specs.Seen.{layer_of};
 ghost use Rattle.desk_steps.specs.declared.reach.TreeRefusal.TheVariants as refusal;
 ghost use Rattle.desk_steps.specs.Archives.{shape};
@@ -21,7 +22,7 @@ use crate::laying::lay;
 use crate::reach::TreeRefusal;
 use doc_model::Change;
 use geom_core::NoMemory;
-use job_core::Painted;
+use job_core::Made;
 use paint_device::Device;
 use std::alloc::Global;
 use std::collections::BTreeMap;
@@ -94,15 +95,16 @@ impl Document {
         alloc: Global,
         id: u16,
         keys: &mut KeySet,
-        painted: &Painted<'_>,
+        made: &Made,
     ) -> Result<(), NoMemory>
         requires { is_some (content id self.old) ≡ true }
-        ensures ok { OnOk result (self.new ≡ adjusted id (published painted.now.job (paints.layer_of painted.now.shot) painted.now.key) self.old) }
-        ensures keys { OnOk result (keys.new ≡ set.insert keys.old painted.now.key) }
+        ensures ok { (w : Paint) → Makes w made.now → OnOk result (self.new ≡ adjusted id (published w.job (paints.layer_of w.shot) w.key) self.old) }
+        ensures keys { OnOk result (keys.new ≡ set.insert keys.old made.now.key) }
         ensures err { OnErr result (self.new ≡ self.old) }
         ensures no_key { OnErr result (keys.new ≡ keys.old) }
     {
-        lay_under(alloc, &mut self.devices, id, keys, painted)
+        let _key = made.key();
+        lay_under(alloc, &mut self.devices, id, keys, made)
     }
 
     /// The document after a change of the tree. The tiles of the layers that stay are shared.
@@ -142,16 +144,16 @@ fn lay_under(
     devices: &mut BTreeMap<u16, Device>,
     id: u16,
     keys: &mut KeySet,
-    painted: &Painted<'_>,
+    made: &Made,
 ) -> Result<(), NoMemory>
     requires { is_some (btree.get nat_cmp devices.old id) ≡ true }
-    ensures ok { OnOk result (AdjustsDevice devices.old devices.new id (published painted.now.job (paints.layer_of painted.now.shot) painted.now.key)) }
-    ensures keys { OnOk result (keys.new ≡ set.insert keys.old painted.now.key) }
+    ensures ok { (w : Paint) → Makes w made.now → OnOk result (AdjustsDevice devices.old devices.new id (published w.job (paints.layer_of w.shot) w.key)) }
+    ensures keys { OnOk result (keys.new ≡ set.insert keys.old made.now.key) }
     ensures err { OnErr result (AdjustsDevice devices.old devices.new id (λ l. l)) }
     ensures no_key { OnErr result (keys.new ≡ keys.old) }
 {
     match devices.get_mut(&id) {
-        Some(device) => lay(alloc, device, keys, painted),
+        Some(device) => lay(alloc, device, keys, made),
         None => unreachable!(),
     }
 }

@@ -58,6 +58,13 @@ impl KeySet {
         Ok(())
     }
 
+    /// Whether the tile is in the set.
+    pub fn has(&self, key: TileKey) -> bool
+        ensures { result ≡ set.contains self.now key }
+    {
+        self.tiles.contains(&key)
+    }
+
     /// How many there are, and the rectangle round them.
     pub fn touched(&self) -> Touched
         ensures { HasTouched self.now result }

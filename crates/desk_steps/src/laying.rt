@@ -1,6 +1,6 @@
 //! Laying what was painted on a device.
 
-ghost use Rattle.std.specs.Prelude.{◌≡◌, true, IfOk, IfSome, OnOk, OnErr};
+ghost use Rattle.std.specs.Prelude.{◌≡◌, true, false, IfOk, IfSome, OnOk, OnErr};
 ghost use Rattle.std.specs.Option.{option_copied};
 ghost use Rattle.std.specs.FinSet as set;
 ghost use Rattle.geom_core.specs.Grid.{IsWorldKey};
@@ -8,13 +8,14 @@ ghost use Rattle.geom_core.specs.Points.{Point};
 ghost use Rattle.tile_core.specs.Pixels.{pixel_at};
 ghost use Rattle.doc_model.specs.Jobs.{published, in_tile};
 ghost use Rattle.job_core.specs.Paints as paints;
+ghost use Rattle.job_core.specs.Paints.{Paint, Makes};
 ghost use Rattle.paint_device.specs.Seen.{layer_of};
 ghost use Rattle.paint_device.specs.Sheets.{sheet_at};
-ghost use Rattle.desk_steps.specs.Tiles.{IsLaid, beside};
+ghost use Rattle.desk_steps.specs.Tiles.{IsLaidFrom, beside};
 
 use crate::keys::KeySet;
 use geom_core::{NoMemory, TileKey};
-use job_core::Painted;
+use job_core::Made;
 use paint_device::Device;
 use std::alloc::Global;
 use tile_core::Tile;
@@ -25,15 +26,49 @@ pub fn lay(
     alloc: Global,
     device: &mut Device,
     keys: &mut KeySet,
-    painted: &Painted<'_>,
+    made: &Made,
 ) -> Result<(), NoMemory>
-    ensures ok { OnOk result (layer_of device.new ≡ published painted.now.job (paints.layer_of painted.now.shot) painted.now.key (layer_of device.old)) }
-    ensures keys { OnOk result (keys.new ≡ set.insert keys.old painted.now.key) }
+    ensures ok { (w : Paint) → Makes w made.now → OnOk result (layer_of device.new ≡ published w.job (paints.layer_of w.shot) w.key (layer_of device.old)) }
+    ensures keys { OnOk result (keys.new ≡ set.insert keys.old made.now.key) }
     ensures err { OnErr result (layer_of device.new ≡ layer_of device.old) }
     ensures no_key { OnErr result (keys.new ≡ keys.old) }
 {
-    let key = painted.key();
-    let tile = laid(alloc, device, painted)?;
+    if laid_in_place(device, keys, made) {
+        Ok(())
+    } else {
+        lay_anew(alloc, device, keys, made)
+    }
+}
+
+/// Lays one block in place, where its tile is among the keys and nobody shares it. It tells whether
+/// it did; else nothing changes. No memory.
+fn laid_in_place(device: &mut Device, keys: &KeySet, made: &Made) -> bool
+    ensures laid { (w : Paint) → Makes w made.now → result ≡ true → layer_of device.new ≡ published w.job (paints.layer_of w.shot) w.key (layer_of device.old) }
+    ensures among { result ≡ true → set.contains keys.now made.now.key ≡ true }
+    ensures kept { result ≡ false → device.new ≡ device.old }
+{
+    if made.block_count() == 1 && keys.has(made.key()) {
+        device.write_alone(made.block(0))
+    } else {
+        false
+    }
+}
+
+/// Lays what was painted on the device as a tile that it shares or that is new, and adds the tile to
+/// the keys.
+fn lay_anew(
+    alloc: Global,
+    device: &mut Device,
+    keys: &mut KeySet,
+    made: &Made,
+) -> Result<(), NoMemory>
+    ensures ok { (w : Paint) → Makes w made.now → OnOk result (layer_of device.new ≡ published w.job (paints.layer_of w.shot) w.key (layer_of device.old)) }
+    ensures keys { OnOk result (keys.new ≡ set.insert keys.old made.now.key) }
+    ensures err { OnErr result (layer_of device.new ≡ layer_of device.old) }
+    ensures no_key { OnErr result (keys.new ≡ keys.old) }
+{
+    let key = made.key();
+    let tile = laid(alloc, device, made)?;
     device.ready(key)?;
     keys.insert(key)?;
     device.set_tile(key, tile);
@@ -42,21 +77,21 @@ pub fn lay(
 
 /// The tile under the painted key, with the painted pixels. Where a neighbour has just these, its
 /// tile is shared.
-fn laid(alloc: Global, device: &Device, painted: &Painted<'_>) -> Result<Tile, NoMemory>
-    ensures { IfOk result (IsLaid painted.now device.now) }
+fn laid(alloc: Global, device: &Device, made: &Made) -> Result<Tile, NoMemory>
+    ensures { IfOk result (IsLaidFrom made.now device.now) }
 {
-    match shared_neighbour(device, painted) {
+    match shared_neighbour(device, made) {
         Some(tile) => tile.share(),
-        None => laid_anew(alloc, device, painted),
+        None => laid_anew(alloc, device, made),
     }
 }
 
 /// A neighbour's tile, where it is the tile under the painted key with the painted pixels.
-fn shared_neighbour<'a>(device: &'a Device, painted: &Painted<'_>) -> Option<&'a Tile>
-    ensures { IfSome result (λ t. IsLaid painted.now device.now t.now) }
+fn shared_neighbour<'a>(device: &'a Device, made: &Made) -> Option<&'a Tile>
+    ensures { IfSome result (λ t. IsLaidFrom made.now device.now t.now) }
 {
-    match neighbour(device, painted.key()) {
-        Some(tile) if painted.block_count() == 1 && tile.is_laid_by(painted.block(0)) => Some(tile),
+    match neighbour(device, made.key()) {
+        Some(tile) if made.block_count() == 1 && tile.is_laid_by(made.block(0)) => Some(tile),
         _ => None,
     }
 }
@@ -81,13 +116,13 @@ fn neighbour(device: &Device, key: TileKey) -> Option<&Tile>
 }
 
 /// The tile under the painted key, with one painted block laid on it after another.
-fn laid_anew(alloc: Global, device: &Device, painted: &Painted<'_>) -> Result<Tile, NoMemory>
-    ensures { IfOk result (IsLaid painted.now device.now) }
+fn laid_anew(alloc: Global, device: &Device, made: &Made) -> Result<Tile, NoMemory>
+    ensures { IfOk result (IsLaidFrom made.now device.now) }
 {
-    let key = painted.key();
+    let key = made.key();
     let mut tile = tile_under(alloc, device, key)?;
-    for i in 0..painted.block_count() {
-        tile = tile.with_region(alloc, painted.block(i))?;
+    for i in 0..made.block_count() {
+        tile = tile.with_region(alloc, made.block(i))?;
     }
     Ok(tile)
 }

@@ -11,7 +11,7 @@ ghost use Rattle.doc_model.specs.Forest.{content};
 ghost use Rattle.doc_model.specs.Changes.{changed, there};
 ghost use Rattle.doc_model.specs.declared.tree.TreeFault.{TreeFault};
 ghost use Rattle.machine_model.specs.Effects.{layer_in};
-ghost use Rattle.job_core.specs.Paints.{layer_of};
+ghost use Rattle.job_core.specs.Paints.{Paint, Makes, layer_of};
 ghost use Rattle.desk_steps.specs.declared.reach.Reach.TheVariants as tells;
 ghost use Rattle.desk_steps.specs.declared.reach.TreeRefusal.TheVariants as refusal;
 ghost use Rattle.desk_steps.specs.declared.reach.Begun.TheVariants.{Ready, NoLayer, NotPaint};
@@ -24,7 +24,7 @@ use crate::reach::{Begun, Reach, TreeRefusal};
 use doc_model::Change;
 use geom_core::{NoMemory, Rect, TileKey, Touched};
 use history_core::UndoStack;
-use job_core::Painted;
+use job_core::{Made, Painted};
 use memento_core::Steps;
 use pixel_core::Pixel;
 use std::alloc::Global;
@@ -128,8 +128,19 @@ impl Store {
         ensures ok { OnOk result (self.new ≡ with_put self.old.way painted.now self.old) }
         ensures err { OnErr result (self.new ≡ self.old) }
     {
+        self.put_made(alloc, painted.made())
+    }
+
+    /// The same by the blocks alone. Where the stroke has put their tile before and nobody shares it,
+    /// one block is laid in place, and takes no memory.
+    pub fn put_made(&mut self, alloc: Global, made: &Made) -> Result<(), NoMemory>
+        requires { is_some self.old.way ≡ true }
+        ensures ok { (w : Paint) → Makes w made.now → OnOk result (self.new ≡ with_put self.old.way w self.old) }
+        ensures err { OnErr result (self.new ≡ self.old) }
+    {
+        let _key = made.key();
         match &mut self.way {
-            Some(way) => self.doc.put(alloc, way.id, &mut way.keys, painted),
+            Some(way) => self.doc.put(alloc, way.id, &mut way.keys, made),
             None => unreachable!(),
         }
     }

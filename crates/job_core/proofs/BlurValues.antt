@@ -1,5 +1,5 @@
 -- What a blur leaves.
-use Rattle.std.proofs.Common.{◌≡◌, ℕ, ◌+◌, ◌*◌, Bool, true, ◌&&◌, List, [], ◌∷◌, map, get_or, refl, sym, ap, ◌∙◌, subst, arith}
+use Rattle.std.proofs.Common.{◌≡◌, ℕ, ◌+◌, ◌*◌, true, ◌&&◌, List, [], ◌∷◌, map, get_or, refl, sym, ap, ◌∙◌, arith}
 use Rattle.std.specs.Prelude.{ℤ, pos, ◌+ℤ◌, ◌-ℤ◌, ◌≤ℤ◌, int_le, int_lt, Result, Ok, Err, IfOk}
 use Rattle.std.specs.List.{list_any}
 use borrow.Author.Differences.{ints}
@@ -10,17 +10,14 @@ use Rattle.geom_core.specs.Areas.{Area, holds, right, bottom, lies_in, meets, pl
 use Rattle.geom_core.specs.Grid.{Key, tile, IsWorldKey}
 use Rattle.geom_core.proofs.Members.{any-points_of}
 use Rattle.geom_core.proofs.Tests.{and_left, and_right, both_true, or_left, or_right}
-use Rattle.geom_core.proofs.Lying.{lies_trans}
 use Rattle.tile_core.specs.Blocks.{Piece, piece_at}
 use Rattle.tile_core.specs.Shots.{Sight, sight_at}
 use Rattle.doc_model.specs.declared.job.Job.TheVariants.{Blur}
 use Rattle.doc_model.specs.Jobs.{grown, square, mean}
-use Rattle.doc_model.specs.Lawful.{of_limits}
 use Rattle.doc_model.specs.Layers.{at}
 use Rattle.blur_core.specs.Blur.{blurred}
 use Rattle.job_core.specs.Paints.{paint, layer_of, IsPainted}
 use Rattle.job_core.specs.Due.{IsDue}
-use Rattle.job_core.specs.Made.{IsBlock}
 use Rattle.job_core.proofs.Values.{one_met, world_key, some_of_limits, seen_at, painted_once}
 
 -- the points near one of a rectangle lie in the grown rectangle

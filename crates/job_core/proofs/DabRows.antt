@@ -1,7 +1,6 @@
 -- Rows of a dab, one after another.
-use Rattle.std.proofs.Common.{◌≡◌, ℕ, ◌+◌, ◌-◌, ◌*◌, ◌≤◌, ◌<◌, Bool, true, false, ◌&&◌, cond, List, ◌++◌, length, get_or, take, drop, refl, sym, ap, ◌∙◌, arith, ltb, leb, length-drop}
-use Rattle.std.specs.Prelude.{ℤ, pos, ◌+ℤ◌, ◌-ℤ◌, int_le, int_lt, nat_abs}
-use borrow.Author.Differences.{ints}
+use Rattle.std.proofs.Common.{◌≡◌, ℕ, ◌+◌, ◌-◌, ◌*◌, ◌≤◌, ◌<◌, true, ◌&&◌, cond, List, ◌++◌, length, get_or, take, drop, refl, sym, ap, ◌∙◌, arith, ltb, leb, length-drop}
+use Rattle.std.specs.Prelude.{ℤ, pos, ◌+ℤ◌}
 use borrow.Rule.Slice.PartMut.{put_mid}
 use Rattle.std.proofs.lemmas.Bool.Decides.{nat_tests}
 use Rattle.std.proofs.lemmas.List.{get_or-take, get_or-drop, drop-drop, append_assoc, length-take-le}

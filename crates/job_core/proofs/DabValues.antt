@@ -1,5 +1,5 @@
 -- What a dab leaves.
-use Rattle.std.proofs.Common.{◌≡◌, ℕ, ◌+◌, ◌*◌, ◌<◌, ◌≤◌, Bool, true, ◌&&◌, List, [], ◌∷◌, length, get_or, refl, sym, ap, ◌∙◌, subst, arith}
+use Rattle.std.proofs.Common.{◌≡◌, ℕ, ◌+◌, ◌*◌, ◌<◌, ◌≤◌, Bool, true, ◌&&◌, List, [], ◌∷◌, get_or, refl, sym, ap, ◌∙◌, subst, arith}
 use Rattle.std.specs.Prelude.{ℤ, pos, ◌+ℤ◌, ◌-ℤ◌, ◌≤ℤ◌, int_le, int_lt, nat_abs}
 use borrow.Author.Differences.{ints}
 use Rattle.pixel_core.specs.declared.blending.Op.{Op}
@@ -7,8 +7,7 @@ use Rattle.pixel_core.specs.Rgba.{Rgba, clear}
 use Rattle.pixel_core.specs.Bytes.{mul}
 use Rattle.pixel_core.specs.Compose.{compose}
 use Rattle.brush_mask.specs.Mask.{mask}
-use Rattle.geom_core.specs.Points.{Point}
-use Rattle.geom_core.specs.Areas.{Area, holds, right, bottom, lies_in, meets, place_in, world, IsWithin, IsShared}
+use Rattle.geom_core.specs.Areas.{Area, right, lies_in, meets, place_in, world, IsWithin, IsShared}
 use Rattle.geom_core.specs.Grid.{Key, tile, IsWorldKey}
 use Rattle.geom_core.proofs.Tests.{and_left, and_right}
 use Rattle.tile_core.specs.Blocks.{Piece}

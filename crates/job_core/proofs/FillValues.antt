@@ -1,11 +1,10 @@
 -- What a fill leaves.
-use Rattle.std.proofs.Common.{◌≡◌, ℕ, ◌*◌, true, List, [], ◌∷◌, length, get_or, refl, sym, ap, ◌∙◌}
-use Rattle.std.specs.List.{list_any}
+use Rattle.std.proofs.Common.{◌≡◌, ℕ, ◌*◌, true, List, [], ◌∷◌, length, refl, sym, ap, ◌∙◌}
 use Rattle.pixel_core.specs.declared.blending.Op.{Op}
-use Rattle.pixel_core.specs.Rgba.{Rgba, clear}
+use Rattle.pixel_core.specs.Rgba.{Rgba}
 use Rattle.pixel_core.specs.Compose.{compose}
 use Rattle.geom_core.specs.Points.{Point}
-use Rattle.geom_core.specs.Areas.{Area, holds, lies_in, meets, place_in, IsShared}
+use Rattle.geom_core.specs.Areas.{Area, meets, place_in, IsShared}
 use Rattle.geom_core.specs.Grid.{Key, tile, IsWorldKey}
 use Rattle.geom_core.proofs.Tests.{and_left}
 use Rattle.tile_core.specs.Blocks.{Piece}

@@ -1,5 +1,5 @@
 -- The first tile of a list of rectangles is one of theirs.
-use Rattle.std.proofs.Common.{◌≡◌, true, Bool, List, [], ◌∷◌, ◌++◌, get_or, ap, ◌∙◌, sym, arith, Option, Some, None, ◌||◌, ◌<◌, length}
+use Rattle.std.proofs.Common.{◌≡◌, true, List, [], ◌∷◌, get_or, ap, ◌∙◌, sym, arith, Some, ◌<◌, length}
 use Rattle.std.specs.Prelude.{slice_get}
 use Rattle.std.specs.List.{list_any}
 use Rattle.std.proofs.lemmas.List.Folds.{list_any-append}

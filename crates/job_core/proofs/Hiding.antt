@@ -1,11 +1,11 @@
 -- An opaque colour laid over a pixel.
-use Rattle.std.proofs.Common.{◌≡◌, ◌≢◌, ℕ, ◌+◌, ◌-◌, ◌*◌, ◌≤◌, arith, ap, sym, ◌∙◌, refl}
+use Rattle.std.proofs.Common.{◌≡◌, ℕ, ◌+◌, ◌-◌, ◌*◌, ◌≤◌, arith, ap, sym, ◌∙◌, refl}
 use Rattle.pixel_core.specs.declared.blending.Op.TheVariants.{Over}
 use Rattle.pixel_core.specs.Bytes.{mul, nearest}
 use Rattle.pixel_core.specs.Rgba.{Rgba, rgba}
 use Rattle.pixel_core.specs.Compose.{weight, laid, compose}
 use Rattle.pixel_core.proofs.Rounding.{exact_at, whole}
-use Rattle.pixel_core.proofs.Sums.{same_rgba, laid_open, composed_laid}
+use Rattle.pixel_core.proofs.Sums.{same_rgba, laid_open}
 
 -- full alpha over any destination
 hides : (da s d : ℕ) → da ≤ 255 → nearest ((255 - 255) * da * d + (255 - da) * 255 * s + 255 * da * s) (weight 255 da) ≡ s

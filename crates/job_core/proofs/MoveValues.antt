@@ -1,23 +1,23 @@
 -- What a move leaves.
-use Rattle.std.proofs.Common.{◌≡◌, ℕ, ◌+◌, ◌*◌, ◌<◌, ◌≤◌, Bool, true, false, ◌&&◌, ◌||◌, cond, List, [], ◌∷◌, ◌++◌, map, length, get_or, replicate, refl, sym, ap, ◌∙◌, subst, arith, ◌⊎◌, inl, inr, append-nil, Option, Some, None}
+use Rattle.std.proofs.Common.{◌≡◌, ℕ, ◌+◌, ◌*◌, ◌≤◌, Bool, true, false, ◌&&◌, ◌||◌, cond, List, [], ◌∷◌, ◌++◌, get_or, replicate, refl, sym, ap, ◌∙◌, subst, arith, ◌⊎◌, inl, inr, append-nil, Option, Some, None}
 use Rattle.std.specs.Prelude.{ℤ, pos, ◌+ℤ◌, ◌-ℤ◌, ◌≤ℤ◌, negsuc, int_le, int_lt, nat_abs, Result, Ok, Err, OnErr, IfOk, IfSome, IfNone, option_to_list}
 use Rattle.std.specs.Result.{IsOk}
-use Rattle.std.specs.List.{list_any, All}
+use Rattle.std.specs.List.{list_any}
 use borrow.Author.Differences.{ints}
 use Rattle.std.proofs.lemmas.List.Folds.{list_any-append}
 use Rattle.std.proofs.lemmas.List.Elements.{All-from_recursion}
 use Rattle.pixel_core.specs.Rgba.{Rgba, clear}
 use Rattle.geom_core.specs.Points.{Point, point}
 use Rattle.geom_core.specs.Areas.{Area, holds, any_holds, right, bottom, lies_in, meets, moved, place_in, clipped, common, world, IsWithin, IsShared}
-use Rattle.geom_core.specs.Grid.{Key, same_key, tile, keys_of, all_keys_of, IsWorldKey}
-use Rattle.geom_core.proofs.Tests.{true_or_false, and_left, and_right, both_true, or_left, or_right, or_cases, taken}
+use Rattle.geom_core.specs.Grid.{Key, same_key, tile, keys_of, IsWorldKey}
+use Rattle.geom_core.proofs.Tests.{and_left, and_right, both_true, or_left, or_right, or_cases, taken}
 use Rattle.tile_core.specs.Blocks.{Piece}
 use Rattle.tile_core.specs.Shots.{Sight, sight_at}
 use Rattle.tile_core.specs.Pixels.{HasPixels}
 use Rattle.tile_core.proofs.Taken.{within_holds, plain_pixels}
 use Rattle.doc_model.specs.declared.job.Job.TheVariants.{Move}
 use Rattle.doc_model.specs.Jobs.{apply, value}
-use Rattle.doc_model.specs.Layers.{Layer, at, painted, plain, default-painted, default-plain}
+use Rattle.doc_model.specs.Layers.{at, plain, default-painted, default-plain}
 use Rattle.job_core.specs.Paints.{layer_of, paint, HasValue, IsPainted}
 use Rattle.job_core.specs.Due.{IsDue}
 use Rattle.job_core.specs.Laid.{LaysOver}

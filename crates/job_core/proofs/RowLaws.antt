@@ -1,13 +1,11 @@
 -- Rows laid over the pixels of a rectangle.
-use Rattle.std.proofs.Common.{◌≡◌, ℕ, ◌+◌, ◌-◌, ◌*◌, ◌≤◌, ◌<◌, Bool, true, false, ◌&&◌, cond, List, ◌++◌, length, get_or, take, drop, refl, sym, ap, ◌∙◌, arith, ltb, leb, length-drop}
+use Rattle.std.proofs.Common.{◌≡◌, ℕ, ◌+◌, ◌-◌, ◌*◌, ◌≤◌, ◌<◌, Bool, true, false, ◌&&◌, cond, List, ◌++◌, length, get_or, take, drop, refl, ap, ◌∙◌, arith, ltb, leb}
 use Rattle.std.specs.Prelude.{ℤ, pos, ◌+ℤ◌, ◌-ℤ◌, ◌≤ℤ◌, int_le, int_lt, nat_abs, slice_range}
 use borrow.Author.Differences.{ints}
-use borrow.Rule.Slice.PartMut.{put_mid}
 use Rattle.std.proofs.lemmas.Bool.Decides.{nat_tests}
-use Rattle.std.proofs.lemmas.List.{get_or-take, get_or-drop, drop-drop, append_assoc, length-take-le}
+use Rattle.std.proofs.lemmas.List.{get_or-take, get_or-drop}
 use Rattle.pixel_core.specs.Rgba.{Rgba, clear}
-use Rattle.geom_core.specs.Points.{Point}
-use Rattle.geom_core.specs.Areas.{Area, holds, place_in, IsWithin}
+use Rattle.geom_core.specs.Areas.{Area, holds, IsWithin}
 use Rattle.geom_core.specs.Place.{IsOffset}
 use Rattle.geom_core.proofs.Tests.{and_left, and_right}
 use Rattle.tile_core.specs.Parts.{in_part, pixel_in}

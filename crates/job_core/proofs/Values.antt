@@ -1,6 +1,6 @@
 -- Blocks that have a job's value.
-use Rattle.std.proofs.Common.{◌≡◌, ℕ, ◌+◌, ◌*◌, ◌<◌, ◌≤◌, Bool, true, false, ◌&&◌, ◌||◌, cond, List, [], ◌∷◌, ◌++◌, map, take, drop, length, get_or, refl, sym, ap, ◌∙◌, subst, arith, ◌⊎◌, inl, inr, append-nil}
-use Rattle.std.specs.List.{list_any, list_all, All}
+use Rattle.std.proofs.Common.{◌≡◌, ℕ, ◌≤◌, Bool, true, false, ◌&&◌, ◌||◌, List, [], ◌∷◌, ◌++◌, take, drop, length, get_or, refl, sym, ap, ◌∙◌, subst, arith, inl, inr, append-nil}
+use Rattle.std.specs.List.{list_any}
 use Rattle.std.specs.Prelude.{ℤ, pos, ◌+ℤ◌, ◌*ℤ◌, ◌≤ℤ◌, ◌<ℤ◌, negsuc, int_le, int_lt}
 use borrow.Author.Differences.{ints}
 use Rattle.std.proofs.Math.Seq.{take-append_seam}
@@ -14,14 +14,13 @@ use Rattle.geom_core.proofs.Tests.{and_left, and_right, both_true, or_left, or_r
 use Rattle.geom_core.proofs.Bounds.{lies_held}
 use Rattle.geom_core.proofs.Axes.{tiles_met}
 use Rattle.geom_core.proofs.Tiles.{key_of_holder, key_is, key_same, own_tile}
-use Rattle.tile_core.specs.Blocks.{Piece, piece, piece_at}
+use Rattle.tile_core.specs.Blocks.{Piece, piece}
 use Rattle.tile_core.specs.Shots.{Sight, sight_at}
 use Rattle.tile_core.specs.Pixels.{HasPixels}
-use Rattle.tile_core.proofs.Taken.{place_small}
 use Rattle.doc_model.specs.declared.job.Job.{Job}
-use Rattle.doc_model.specs.Jobs.{apply, writes, reads, value, in_tile}
+use Rattle.doc_model.specs.Jobs.{apply, writes, value, in_tile}
 use Rattle.doc_model.specs.Lawful.{of_limits}
-use Rattle.doc_model.specs.Layers.{at, painted, plain, at-painted}
+use Rattle.doc_model.specs.Layers.{at, plain, at-painted}
 use Rattle.doc_model.proofs.JobLaws.{at-apply}
 use Rattle.job_core.specs.Paints.{layer_of, paint, HasValue, IsPainted}
 use Rattle.job_core.specs.Made.{IsBlock}

@@ -1,5 +1,5 @@
 -- What painting one tile of a job leaves.
-use Rattle.std.specs.Prelude.{◌≡◌, Bool, true, ◌&&◌, List, map, All, refl}
+use Rattle.std.specs.Prelude.{◌≡◌, true, ◌&&◌, List, map, All, refl}
 use Rattle.std.specs.Coded.{Coded, code_by, coded×, coded_list}
 use Rattle.pixel_core.specs.Rgba.{Rgba, pixel_code}
 use Rattle.geom_core.specs.Points.{Point}
@@ -23,6 +23,19 @@ pub record Paint : Type 0 where
   pub key : Key
   pub blocks : List Piece
 
+-- a tile's key, and blocks
+pub record Stuff : Type 0 where
+  pub key : Key
+  pub blocks : List Piece
+
+-- these parts together
+abbrev pub stuff : Key → List Piece → Stuff
+stuff k bs = record { key = k; blocks = bs }
+
+-- the key and the blocks, without the job and its shot
+abbrev pub made_of : Paint → Stuff
+made_of w = stuff w.key w.blocks
+
 -- these parts together
 abbrev pub paint : Job → Sight → Key → List Piece → Paint
 paint j s k bs = record { job = j; shot = s; key = k; blocks = bs }
@@ -38,9 +51,23 @@ pub record IsPainted (w : Paint) : Type 0 where
   pub values : All (HasValue w.job w.shot w.key) w.blocks
   pub covers : (p : Point) → any_holds (map (λ (b : Piece). b.rect) w.blocks) p ≡ (any_holds (writes w.job) p && in_tile w.key p)
 
+-- painting left this key with these blocks
+pub record Makes (w : Paint) (s : Stuff) : Type 0 where
+  pub painted : IsPainted w
+  pub is : made_of w ≡ s
+
+-- some painting left them
+pub record IsMade (s : Stuff) : Type 0 where
+  pub work : Paint
+  pub makes : Makes work s
+
 abbrev piece_code : Coded Piece
 piece_code = code_by (Key × (Area × List Rgba)) (coded× key_code (coded× area_code (coded_list pixel_code))) (λ b. (b.key, (b.rect, b.pixels))) (λ t. piece t.0 t.1.0 t.1.1) (λ _. refl)
 
 -- the code by which contracts tell what was painted apart
 abbrev pub paint_code : Coded Paint
 paint_code = code_by (Job × (Sight × (Key × List Piece))) (coded× (job.the_row).coded (coded× sight_code (coded× key_code (coded_list piece_code)))) (λ w. (w.job, (w.shot, (w.key, w.blocks)))) (λ t. paint t.0 t.1.0 t.1.1.0 t.1.1.1) (λ _. refl)
+
+-- the code by which contracts tell keys with blocks apart
+abbrev pub stuff_code : Coded Stuff
+stuff_code = code_by (Key × List Piece) (coded× key_code (coded_list piece_code)) (λ s. (s.key, s.blocks)) (λ t. stuff t.0 t.1) (λ _. refl)

@@ -6,11 +6,13 @@ mod blurs;
 mod dabs;
 mod fills;
 mod ink;
+mod made;
 mod moves;
 mod painted;
 mod part;
 mod rows;
 
+pub use made::Made;
 pub use painted::{Painted, paint_tile};
 
 #[cfg(test)]

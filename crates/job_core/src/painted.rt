@@ -6,7 +6,7 @@ ghost use Rattle.geom_core.specs.Grid.{same_key, all_keys_of};
 ghost use Rattle.geom_core.specs.Areas.{lies_in};
 ghost use Rattle.doc_model.specs.Jobs.{reads, writes};
 ghost use Rattle.doc_model.specs.Lawful.{checks, within_limits};
-ghost use Rattle.job_core.specs.Paints.{paint, IsPainted};
+ghost use Rattle.job_core.specs.Paints.{paint, made_of, IsPainted};
 ghost use Rattle.job_core.specs.Due.{IsDue};
 
 use crate::blocks::{Blocks, alone};
@@ -14,6 +14,7 @@ use crate::blurs::blurred;
 use crate::dabs::{Brush, dabbed};
 use crate::fills::filled;
 use crate::ink::Ink;
+use crate::made::Made;
 use crate::moves::moved;
 use doc_model::Job;
 use geom_core::{NoMemory, Rect, TileKey};
@@ -27,22 +28,19 @@ use tile_core::{Block, Shot};
 pub struct Painted<'a> {
     job: &'a Job,
     shot: &'a Shot,
-    key: TileKey,
-    first: Block,
-    second: Option<Block>,
+    made: Made,
 }
 
 impl<'a> Model for Painted<'a> {
-    ghost use Rattle.std.specs.Prelude.{◌∷◌, option_to_list};
     ghost use Rattle.job_core.specs.Paints.{Paint, paint, paint_code, IsPainted};
 
     ghost Value = { Paint };
 
     ghost coded = { paint_code };
 
-    ghost view = { λ p. paint p.job.now p.shot.now p.key (p.first ∷ option_to_list p.second) };
+    ghost view = { λ p. paint p.job.now p.shot.now p.made.key p.made.blocks };
 
-    ghost invariant = { λ p. IsPainted (paint p.job.now p.shot.now p.key (p.first ∷ option_to_list p.second)) };
+    ghost invariant = { λ p. IsPainted (paint p.job.now p.shot.now p.made.key p.made.blocks) };
 }
 
 impl<'a> Painted<'a> {
@@ -65,17 +63,14 @@ impl<'a> Painted<'a> {
         ensures value { result ≡ self.now.key }
         ensures known { IsPainted self.now }
     {
-        self.key
+        self.made.key()
     }
 
     /// How many blocks there are: one or two.
     pub fn block_count(&self) -> usize
         ensures { result ≡ length self.now.blocks }
     {
-        match self.second {
-            None => 1,
-            Some(_) => 2,
-        }
+        self.made.block_count()
     }
 
     /// The block with that index, which counts from 0.
@@ -83,10 +78,23 @@ impl<'a> Painted<'a> {
         requires { i < length self.now.blocks }
         ensures { Some result.now ≡ slice_get self.now.blocks i }
     {
-        match &self.second {
-            Some(second) if i == 1 => second,
-            _ => &self.first,
-        }
+        self.made.block(i)
+    }
+
+    /// The blocks on their own.
+    pub fn made(&self) -> &Made
+        ensures value { result.now ≡ made_of self.now }
+        ensures known { IsPainted self.now }
+    {
+        &self.made
+    }
+
+    /// The blocks on their own. The shot may be let go afterwards.
+    pub fn into_made(self) -> Made
+        ensures value { result ≡ made_of self.entry }
+        ensures known { IsPainted self.entry }
+    {
+        self.made
     }
 }
 
@@ -106,13 +114,8 @@ pub fn paint_tile<'a>(
     ensures key { IfOk result (λ w. w.key ≡ key) }
 {
     let Blocks { first, second } = blocks_of(alloc, job, shot, key)?;
-    Ok(Painted {
-        job,
-        shot,
-        key,
-        first,
-        second,
-    })
+    let made = Made { key, first, second };
+    Ok(Painted { job, shot, made })
 }
 
 /// The blocks that the job leaves in the key's tile.

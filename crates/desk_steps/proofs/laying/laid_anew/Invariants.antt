@@ -4,4 +4,4 @@ use Rattle.desk_steps.proofs.laying.laid_anew.Given as goal
 
 -- the blocks so far are laid
 abbrev pub invariant-loop-i : goal.invariant-loop-i
-invariant-loop-i l = LaidSoFar l.painted l.device l.tile (take l.i l.painted.blocks)
+invariant-loop-i l = LaidSoFar l.made l.device l.tile (take l.i l.made.blocks)

@@ -1,19 +1,6 @@
-use Rattle.std.proofs.Common.{◌≡◌, Some, ap, ◌∙◌}
-use Rattle.std.specs.FinMap as map
-use Rattle.paint_device.specs.Seen.{layer_of}
-use Rattle.paint_device.specs.Sheets.{Sheet, with_under, readied}
-use Rattle.desk_steps.proofs.Devices.{on_err}
-use Rattle.desk_steps.proofs.Lain.{ready_layer, ready_there, laid_layer}
+use Rattle.std.proofs.Common.{sym}
+use Rattle.desk_steps.proofs.Sets.{inserted_again}
 use Rattle.desk_steps.proofs.laying.lay.Goals as goal
 
-pub returns-in_err-insert-clause-err : goal.returns-in_err-insert-clause-err
-returns-in_err-insert-clause-err c = on_err c.from_residual-in_err-insert.result (ap layer_of c.in_ok-ready.ensures.ok ∙ ready_layer c.args.device.now c.key-key.result)
-
-pub set_tile-requires : goal.set_tile-requires
-set_tile-requires c = ap (λ (s : Sheet). map.contains_key s.tiles c.key-key.result) c.in_ok-ready.ensures.ok ∙ ready_there c.args.device.now c.key-key.result
-
-pub returns-clause-ok : goal.returns-clause-ok
-returns-clause-ok c =
-    let put : c.set_tile.new.self ≡ with_under (readied c.args.device.now c.args.painted.now.key) c.args.painted.now.key (Some c.in_ok-tile.tile) =
-    c.set_tile.ensures ∙ ap (λ s. with_under s c.key-key.result (Some c.in_ok-tile.tile)) c.in_ok-ready.ensures.ok ∙ ap (λ k. with_under (readied c.args.device.now k) k (Some c.in_ok-tile.tile)) c.key-key.ensures.value in
-    ap layer_of put ∙ laid_layer c.args.painted.now c.args.device.now c.in_ok-tile.tile c.in_ok-tile.ensures
+pub returns-then-laid_in_place-clause-keys : goal.returns-then-laid_in_place-clause-keys
+returns-then-laid_in_place-clause-keys c = sym (inserted_again c.args.keys.now c.args.made.now.key (c.laid_in_place.ensures.among c.if-laid_in_place.true))

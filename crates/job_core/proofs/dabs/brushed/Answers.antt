@@ -1,6 +1,5 @@
-use Rattle.std.proofs.Common.{◌≡◌, ◌∙◌, arith}
+use Rattle.std.proofs.Common.{◌∙◌, arith}
 use borrow.Author.Differences.{ints}
-use Rattle.job_core.specs.Dabs.{DabsRows}
 use Rattle.job_core.proofs.Values.{refilled}
 use Rattle.job_core.proofs.DabValues.{dabbed_pixels}
 use Rattle.job_core.proofs.dabs.brushed.Goals as goal

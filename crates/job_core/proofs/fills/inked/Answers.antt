@@ -1,4 +1,4 @@
-use Rattle.std.proofs.Common.{◌≡◌, ◌∙◌, sym}
+use Rattle.std.proofs.Common.{◌∙◌, sym}
 use Rattle.tile_core.specs.Shots.{sight_at}
 use Rattle.job_core.specs.Inks.{LaysInk}
 use Rattle.job_core.proofs.Values.{refilled}

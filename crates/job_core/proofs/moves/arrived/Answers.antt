@@ -1,4 +1,4 @@
-use Rattle.std.proofs.Common.{◌≡◌, to_z, of_z, w32, arith}
+use Rattle.std.proofs.Common.{arith}
 use borrow.Author.Differences.{ints}
 use Rattle.job_core.proofs.Values.{block_of}
 use Rattle.job_core.proofs.MoveValues.{brought_as}

@@ -1,4 +1,4 @@
-use Rattle.std.proofs.Common.{◌∙◌, ◌≡◌, true, ap, sym, List, arith, length}
+use Rattle.std.proofs.Common.{◌∙◌, ◌≡◌, ap, sym, List, arith, length}
 use Rattle.std.specs.List.{list_any}
 use Rattle.geom_core.specs.Areas.{Area}
 use Rattle.geom_core.specs.Grid.{same_key, all_keys_of}

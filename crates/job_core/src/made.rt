@@ -1,0 +1,61 @@
+//! Blocks on their own, without the shot that they were painted on.
+
+ghost use Rattle.std.specs.Prelude.{◌≡◌, length, ◌<◌, Some, slice_get};
+ghost use Rattle.job_core.specs.Paints.{IsMade};
+
+use geom_core::TileKey;
+use std::marker::Model;
+use tile_core::Block;
+
+/// The blocks that a job leaves in one tile, on their own: the shot that they were painted on may
+/// be let go.
+#[derive(Drop)]
+pub struct Made {
+    pub(crate) key: TileKey,
+    pub(crate) first: Block,
+    pub(crate) second: Option<Block>,
+}
+
+impl Model for Made {
+    ghost use Rattle.std.specs.Prelude.{◌∷◌, option_to_list};
+    ghost use Rattle.job_core.specs.Paints.{Stuff, stuff, stuff_code, IsMade};
+
+    ghost Value = { Stuff };
+
+    ghost coded = { stuff_code };
+
+    ghost view = { λ m. stuff m.key (m.first ∷ option_to_list m.second) };
+
+    ghost invariant = { λ m. IsMade (stuff m.key (m.first ∷ option_to_list m.second)) };
+}
+
+impl Made {
+    /// The key of the tile.
+    pub fn key(&self) -> TileKey
+        ensures value { result ≡ self.now.key }
+        ensures known { IsMade self.now }
+    {
+        self.key
+    }
+
+    /// How many blocks there are: one or two.
+    pub fn block_count(&self) -> usize
+        ensures { result ≡ length self.now.blocks }
+    {
+        match self.second {
+            None => 1,
+            Some(_) => 2,
+        }
+    }
+
+    /// The block with that index, which counts from 0.
+    pub fn block(&self, i: usize) -> &Block
+        requires { i < length self.now.blocks }
+        ensures { Some result.now ≡ slice_get self.now.blocks i }
+    {
+        match &self.second {
+            Some(second) if i == 1 => second,
+            _ => &self.first,
+        }
+    }
+}
