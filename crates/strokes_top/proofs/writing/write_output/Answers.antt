@@ -8,31 +8,31 @@ use Rattle.strokes_top.proofs.Outputs.{one_each, pictures_are, room_each, summar
 use Rattle.strokes_top.proofs.writing.write_output.Goals as goal
 
 pub write_log-requires : goal.write_log-requires
-write_log-requires g c = record { each = rw c.deref-in-Log.ensures.value (one_each _ _ _ c.requires.shows) }
+write_log-requires g c = record { each = rw c.deref.ensures.value (one_each _ _ _ c.requires.shows) }
 
 pub write_frames-requires : goal.write_frames-requires
-write_frames-requires g c = record { room = rw c.deref.ensures.value (room_each _ _ _ (subst (λ e. HasRoom e c.args.script.now.canvas c.args.room.now) c.in-Picture.is c.requires.room) c.requires.shows.sides) }
+write_frames-requires g c = record { room = room_each _ _ _ (subst (λ e. HasRoom e c.args.script.now.canvas c.args.room.now) c.in-Picture.is c.requires.room) c.requires.shows.sides }
 
 pub returns-in-Picture-clause-ok : goal.returns-in-Picture-clause-ok
 returns-in-Picture-clause-ok g c =
-    let is : flat_map scene_bytes c.deref.result.now ≡ output c.args.emit c.args.script.now =
-    ap (flat_map scene_bytes) c.deref.ensures.value ∙ pictures_are _ _ _ c.requires.shows ∙ ap (λ e. output e c.args.script.now) (sym c.in-Picture.is) in
+    let is : flat_map scene_bytes c.args.shown.now.film ≡ output c.args.emit c.args.script.now =
+    pictures_are _ _ _ c.requires.shows ∙ ap (λ e. output e c.args.script.now) (sym c.in-Picture.is) in
     whole_is _ _ _ _ _ c.write_frames.ensures.ok is
 
 pub returns-in-Picture-clause-err : goal.returns-in-Picture-clause-err
 returns-in-Picture-clause-err g c =
-    let is : flat_map scene_bytes c.deref.result.now ≡ output c.args.emit c.args.script.now =
-    ap (flat_map scene_bytes) c.deref.ensures.value ∙ pictures_are _ _ _ c.requires.shows ∙ ap (λ e. output e c.args.script.now) (sym c.in-Picture.is) in
+    let is : flat_map scene_bytes c.args.shown.now.film ≡ output c.args.emit c.args.script.now =
+    pictures_are _ _ _ c.requires.shows ∙ ap (λ e. output e c.args.script.now) (sym c.in-Picture.is) in
     prefix_is _ _ _ _ _ c.write_frames.ensures.err is
 
 pub returns-in-Sum-clause-ok : goal.returns-in-Sum-clause-ok
 returns-in-Sum-clause-ok g c =
-    let is : sum_text (map sheet_of c.deref-in-Sum.result.now) c.deref-in-Sum-2.result.now ≡ output c.args.emit c.args.script.now =
-    ap₂ (λ frames outcomes. sum_text (map sheet_of frames) outcomes) c.deref-in-Sum.ensures.value c.deref-in-Sum-2.ensures.value ∙ summary_is _ _ _ c.requires.shows ∙ ap (λ e. output e c.args.script.now) (sym c.in-Sum.is) in
+    let is : sum_text (map sheet_of c.frames.result.now) c.deref-in-Sum.result.now ≡ output c.args.emit c.args.script.now =
+    ap₂ (λ frames outcomes. sum_text (map sheet_of frames) outcomes) c.frames.ensures c.deref-in-Sum.ensures.value ∙ summary_is _ _ _ c.requires.shows ∙ ap (λ e. output e c.args.script.now) (sym c.in-Sum.is) in
     whole_is _ _ _ _ _ c.write_sum.ensures.ok is
 
 pub returns-in-Sum-clause-err : goal.returns-in-Sum-clause-err
 returns-in-Sum-clause-err g c =
-    let is : sum_text (map sheet_of c.deref-in-Sum.result.now) c.deref-in-Sum-2.result.now ≡ output c.args.emit c.args.script.now =
-    ap₂ (λ frames outcomes. sum_text (map sheet_of frames) outcomes) c.deref-in-Sum.ensures.value c.deref-in-Sum-2.ensures.value ∙ summary_is _ _ _ c.requires.shows ∙ ap (λ e. output e c.args.script.now) (sym c.in-Sum.is) in
+    let is : sum_text (map sheet_of c.frames.result.now) c.deref-in-Sum.result.now ≡ output c.args.emit c.args.script.now =
+    ap₂ (λ frames outcomes. sum_text (map sheet_of frames) outcomes) c.frames.ensures c.deref-in-Sum.ensures.value ∙ summary_is _ _ _ c.requires.shows ∙ ap (λ e. output e c.args.script.now) (sym c.in-Sum.is) in
     prefix_is _ _ _ _ _ c.write_sum.ensures.err is
