@@ -1,3 +1,4 @@
 pub mod Shows
 pub mod Painting
+pub mod Left
 pub mod Told
