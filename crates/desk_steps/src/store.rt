@@ -206,6 +206,7 @@ impl Store {
         ensures none { IsNone result ↔ (self.old.past ≡ []) }
         ensures new { self.new ≡ undone self.old.past self.old }
         ensures reach { IfSome result (TellsFirst self.old.past self.new.present) }
+        ensures known { IsArchive self.old }
         ensures counts { steps.new ≤ steps.old + tiles_in_first self.old.past }
     {
         let entry = self.history.undo()?;
@@ -219,6 +220,7 @@ impl Store {
         ensures none { IsNone result ↔ (self.old.future ≡ []) }
         ensures new { self.new ≡ redone self.old.future self.old }
         ensures reach { IfSome result (TellsFirst self.old.future self.new.present) }
+        ensures known { IsArchive self.old }
         ensures counts { steps.new ≤ steps.old + tiles_in_first self.old.future }
     {
         let entry = self.history.redo()?;

@@ -4,4 +4,6 @@ pub mod LoneNodes
 pub mod NextNodes
 pub mod Piles
 pub mod GroupSteps
+pub mod CanvasKeys
+pub mod Staying
 pub mod RootTiles

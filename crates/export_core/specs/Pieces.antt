@@ -1,12 +1,15 @@
--- What nodes of a document have on one tile.
-use Rattle.std.specs.Prelude.{◌≡◌, ℕ, suc, ◌%◌, Bool, ◌==◌, ◌&&◌, not, true, false, if◌then◌else◌, List}
+-- What nodes of a document and frames of it have on one tile.
+use Rattle.std.specs.Prelude.{◌≡◌, ℕ, suc, ◌%◌, Bool, ◌==◌, ◌&&◌, not, true, false, if◌then◌else◌, Option, List}
+use Rattle.std.specs.FinMap as map
 use Rattle.pixel_core.specs.Rgba.{Rgba, clear}
 use Rattle.pixel_core.specs.declared.blending.Op.{Op}
 use Rattle.pixel_core.specs.declared.blending.Op.TheVariants.{Erase}
 use Rattle.geom_core.specs.Points.{Point}
 use Rattle.geom_core.specs.Place.{across, down}
 use Rattle.geom_core.specs.Grid.{Key, key_of, same_key}
-use Rattle.tile_core.specs.Frames.{Scene, put_at}
+use Rattle.tile_core.specs.Pixels.{Pixels, pixel_or}
+use Rattle.tile_core.specs.Frames.{Scene, SameCanvas}
+use Rattle.tile_core.specs.Marks.{Grid, has_mark}
 use Rattle.doc_model.specs.declared.tree.Look.{Look}
 use Rattle.doc_model.specs.Layers.{at}
 use Rattle.doc_model.specs.Forest.{upper}
@@ -74,11 +77,17 @@ shows_itself look = (look.visible && (look.opacity == 255)) && not (is_erase loo
     is_erase Erase = true
     is_erase op = false
 
--- on the key's tile the new frame looks like these pixels, if the old one did or had nothing there. All else stays
-pub record ShowsTile (shown : Point → Rgba) (key : Key) (old new : Scene) : Type 0 where
-  pub width : new.width ≡ old.width
-  pub height : new.height ≡ old.height
-  pub paper : new.paper ≡ old.paper
-  pub on_tile : (p : Point) → same_key (key_of p) key ≡ true → Alike (put_at old p) clear → Alike (put_at new p) (shown p)
-  pub kept : (p : Point) → same_key (key_of p) key ≡ true → Alike (put_at old p) (shown p) → Alike (put_at new p) (shown p)
-  pub elsewhere : (p : Point) → same_key (key_of p) key ≡ false → put_at new p ≡ put_at old p
+-- what is under the key, a tile or none, looks like these pixels on the key's tile
+abbrev pub LooksOn : (Point → Rgba) → Key → Option Pixels → Type 0
+LooksOn shown key o = (p : Point) → same_key (key_of p) key ≡ true → Alike (pixel_or o clear p) (shown p)
+
+-- what a new frame has under the key: where it is marked the document's picture, and else what the frame before has
+pub record IsRenewed (doc : Doc) (before : Scene) (stale : Grid) (key : Key) (o : Option Pixels) : Type 0 where
+  pub marked : has_mark stale key ≡ true → LooksOn (picture doc) key o
+  pub unmarked : has_mark stale key ≡ false → o ≡ map.get before.tiles key
+
+-- what the new frame has under the key fits. All else stays
+pub record PutsOn (key : Key) (fits : Option Pixels → Type 0) (old new : Scene) : Type 0 where
+  pub canvas : SameCanvas old new
+  pub there : fits (map.get new.tiles key)
+  pub elsewhere : (k : Key) → same_key k key ≡ false → map.get new.tiles k ≡ map.get old.tiles k

@@ -1,13 +1,13 @@
 //! Frames of a document.
 
-ghost use Rattle.std.specs.Prelude.{IfOk, OnOk};
+ghost use Rattle.std.specs.Prelude.{◌≡◌, None, IfOk, OnOk};
+ghost use Rattle.std.specs.FinMap as map;
 ghost use Rattle.doc_model.specs.Canvases.{IsOfLimits};
 ghost use Rattle.doc_model.specs.Picture.{picture};
-ghost use Rattle.doc_model.specs.Laws.{IsDocument};
-ghost use Rattle.export_core.specs.Exports.{ShowsDoc, ShowsElsewhere};
 ghost use Rattle.tile_core.specs.Films.{Renews};
 ghost use Rattle.tile_core.specs.Marks.{no_marks};
-ghost use Rattle.export_core.specs.Pieces.{ShowsTile};
+ghost use Rattle.export_core.specs.Exports.{ShowsDoc, ShowsElsewhere};
+ghost use Rattle.export_core.specs.Pieces.{LooksOn, IsRenewed, PutsOn};
 
 use crate::group::node_on;
 use compose_core::Given;
@@ -30,7 +30,8 @@ pub fn frame_of(alloc: Global, store: &Store, canvas: Canvas) -> Result<Frame, N
     ensures shows { IfOk result (ShowsDoc store.now.present canvas) }
     ensures everywhere { IfOk result (ShowsElsewhere no_marks store.now.present canvas) }
 {
-    Err(NoMemory)
+    let paper = Frame::new(alloc, canvas.w, canvas.h, canvas.paper)?;
+    frame_after(alloc, store, canvas, &paper, &Marks::all())
 }
 
 /// The same, where a frame of an earlier document is at hand, which looks like this one outside the
@@ -48,14 +49,43 @@ pub fn frame_after(
     ensures everywhere { IfOk result (ShowsElsewhere no_marks store.now.present canvas) }
     ensures renews { IfOk result (λ f. Renews f before.now stale.now) }
 {
-    Err(NoMemory)
+    let mut frame = Frame::new(alloc, canvas.w, canvas.h, canvas.paper)?;
+    let shown = canvas.rect();
+    for i in 0..shown.tile_count() {
+        put_tile(alloc, store, shown.tile_at(i), before, stale, &mut frame)?;
+    }
+    Ok(frame)
 }
 
-/// Puts the root's picture on one tile into the frame.
-fn put_root(alloc: Global, store: &Store, key: TileKey, frame: &mut Frame) -> Result<(), NoMemory>
-    requires { IsDocument store.now.present }
-    ensures { OnOk result (ShowsTile (picture store.now.present) key frame.old frame.new) }
+/// Puts one tile into the frame: composed where it is marked, and else that of the frame before.
+fn put_tile(
+    alloc: Global,
+    store: &Store,
+    key: TileKey,
+    before: &Frame,
+    stale: &Marks,
+    frame: &mut Frame,
+) -> Result<(), NoMemory>
+    requires { map.get frame.old.tiles key ≡ None }
+    ensures { OnOk result (PutsOn key (IsRenewed store.now.present before.now stale.now key) frame.old frame.new) }
 {
+    if stale.has(key) {
+        return put_root(alloc, store, key, frame);
+    }
+    match before.tile(key) {
+        Some(tile) => frame.put(key, tile),
+        None => Ok(()),
+    }
+}
+
+/// Puts the root's picture on one tile into the frame. A document without nodes needs no tile.
+fn put_root(alloc: Global, store: &Store, key: TileKey, frame: &mut Frame) -> Result<(), NoMemory>
+    requires { map.get frame.old.tiles key ≡ None }
+    ensures { OnOk result (PutsOn key (LooksOn (picture store.now.present) key) frame.old frame.new) }
+{
+    if store.tree().node_count() == 0 {
+        return Ok(());
+    }
     match node_on(alloc, store, ROOT, MOST_LEVELS, key)? {
         Given::Held(tile) => frame.put(key, &tile),
         Given::Plain(pixel) => put_plain(alloc, pixel, key, frame),
@@ -64,7 +94,8 @@ fn put_root(alloc: Global, store: &Store, key: TileKey, frame: &mut Frame) -> Re
 
 /// Puts one pixel at every point of a tile. A clear one needs no tile, since the paper shows there.
 fn put_plain(alloc: Global, pixel: Pixel, key: TileKey, frame: &mut Frame) -> Result<(), NoMemory>
-    ensures { OnOk result (ShowsTile (λ _. pixel) key frame.old frame.new) }
+    requires { map.get frame.old.tiles key ≡ None }
+    ensures { OnOk result (PutsOn key (LooksOn (λ _. pixel) key) frame.old frame.new) }
 {
     if pixel == Pixel::CLEAR {
         return Ok(());

@@ -1,4 +1,4 @@
-//! The picture of a store's document, composed from scratch.
+//! The picture of a store's document, composed tile by tile: all of it, or what may have changed.
 #![tactic(auto)]
 
 mod frame;

@@ -1,4 +1,5 @@
 pub mod Fronts
+pub mod Marked
 pub mod Published
 pub mod Left
 pub mod Scripts

@@ -4,6 +4,7 @@ use Rattle.std.specs.Prelude.{slice_get, int_le, ℤ, pos, ◌+ℤ◌}
 use Rattle.std.specs.List.{list_any, list_all}
 use Rattle.std.specs.FinSet as set
 use Rattle.std.specs.FinSet.{FinSet}
+use Rattle.std.proofs.lemmas.List.{append-nil, append_assoc}
 use Rattle.std.proofs.lemmas.List.Folds.{list_any-append}
 use borrow.Author.Differences.{ints}
 use Rattle.pixel_core.specs.Rgba.{Rgba}
@@ -68,17 +69,10 @@ apply_all-last : (jobs : List Job) (job : Job) (layer : Layer) → apply_all (jo
 apply_all-last [] job layer = refl
 apply_all-last (j ∷ jobs) job layer = apply_all-last jobs job (apply j layer)
 
-all_keys-last : (rects : List Area) (r : Area) → all_keys_of (rects ++ r ∷ []) ≡ all_keys_of rects ++ keys_of r
-all_keys-last [] r = no_more (keys_of r)
-  where
-    no_more : (ks : List Key) → ks ++ [] ≡ ks
-    no_more [] = refl
-    no_more (k ∷ ks) = ap (λ ls. k ∷ ls) (no_more ks)
-all_keys-last (a ∷ rects) r = ap (λ ks. keys_of a ++ ks) (all_keys-last rects r) ∙ sym (assoc (keys_of a) (all_keys_of rects) (keys_of r))
-  where
-    assoc : (ks ls ms : List Key) → (ks ++ ls) ++ ms ≡ ks ++ (ls ++ ms)
-    assoc [] ls ms = refl
-    assoc (k ∷ ks) ls ms = ap (λ ns. k ∷ ns) (assoc ks ls ms)
+-- the tiles of some rectangles after those of others
+pub all_keys-append : (ls rs : List Area) → all_keys_of (ls ++ rs) ≡ all_keys_of ls ++ all_keys_of rs
+all_keys-append [] rs = refl
+all_keys-append (a ∷ ls) rs = ap (λ ks. keys_of a ++ ks) (all_keys-append ls rs) ∙ sym (append_assoc (keys_of a) (all_keys_of ls) (all_keys_of rs))
 
 jobs_only-last : (jobs : Jobs) (j : Kind × Job) → jobs_only (jobs ++ j ∷ []) ≡ jobs_only jobs ++ j.1 ∷ []
 jobs_only-last [] j = refl
@@ -134,7 +128,7 @@ tile_more job shot ks i k a b c e one two = paints_as (λ layer. published job s
 -- one rectangle more
 pub rect_more : (job : Job) (shot : Layer) (rects : List Area) (i : ℕ) (r : Area) (a b c : Archive) → slice_get rects i ≡ Some r → PaintsOn (published_in job shot (all_keys_of (take i rects))) a b → PaintsOn (published_in job shot (keys_of r)) b c → PaintsOn (published_in job shot (all_keys_of (take (i + 1) rects))) a c
 rect_more job shot rects i r a b c e one two = paints_as (λ layer. published_in job shot (keys_of r) (published_in job shot (all_keys_of (take i rects)) layer)) (published_in job shot (all_keys_of (take (i + 1) rects))) a c
-    (λ id layer p. sym (ap (λ ks. published_in job shot ks layer) (ap all_keys_of (take_more rects i r e) ∙ all_keys-last (take i rects) r) ∙ published_in-append job shot (all_keys_of (take i rects)) (keys_of r) layer))
+    (λ id layer p. sym (ap (λ ks. published_in job shot ks layer) (ap all_keys_of (take_more rects i r e) ∙ all_keys-append (take i rects) (r ∷ []) ∙ ap (λ ks. all_keys_of (take i rects) ++ ks) (append-nil (keys_of r))) ∙ published_in-append job shot (all_keys_of (take i rects)) (keys_of r) layer))
     (paints_then (published_in job shot (all_keys_of (take i rects))) (published_in job shot (keys_of r)) a b c one two)
 
 -- one job more

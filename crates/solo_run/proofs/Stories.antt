@@ -1,12 +1,18 @@
 -- What the entries of a queue mean, and what becomes of the story.
-use Rattle.std.proofs.Common.{◌≡◌, ℕ, suc, zero, ◌+◌, ◌<◌, Bool, true, false, not, Option, Some, None, is_some, List, [], ◌∷◌, ◌++◌, map, length, drop, take, cond, refl, sym, ap, ◌∙◌, subst, arith}
-use Rattle.std.specs.Prelude.{slice_get, All, Result, Ok, Err, IfOk}
+use Rattle.std.proofs.Common.{◌≡◌, ℕ, suc, zero, ◌+◌, ◌-◌, ◌<◌, replicate, Bool, true, false, not, Option, Some, None, is_some, List, [], ◌∷◌, ◌++◌, map, length, drop, take, cond, refl, sym, ap, ◌∙◌, subst, arith}
+use Rattle.std.proofs.lemmas.List.{length-append, map-append}
+use Rattle.std.proofs.lemmas.List.Elements.{All-append, All-cons, All-nil}
+use Rattle.std.proofs.lemmas.Option.{slice_get_read}
+use Rattle.std.proofs.Math.Seq.{get_or-append_seam}
+use Rattle.std.specs.Prelude.{pos, slice_get, All, Result, Ok, Err, IfOk}
 use Rattle.std.specs.List.{list_all, AllByRecursion}
 use Rattle.std.specs.FinSet as set
 use Rattle.std.specs.FinSet.{FinSet}
+use Rattle.geom_core.specs.Points.{point}
 use Rattle.geom_core.specs.Grid.{key_cmp}
 use Rattle.geom_core.proofs.Tests.{and_left, and_right, or_right}
 use Rattle.doc_model.specs.declared.canvas.Canvas.{Canvas}
+use Rattle.doc_model.specs.declared.tree.Change.{Change}
 use Rattle.doc_model.specs.declared.command.Command.{Command}
 use Rattle.doc_model.specs.declared.command.Outcome.{Outcome}
 use Rattle.doc_model.specs.declared.command.Outcome.TheVariants as outcome
@@ -14,28 +20,39 @@ use Rattle.doc_model.specs.Layers.{Layer}
 use Rattle.doc_model.specs.Jobs.{apply_all}
 use Rattle.doc_model.specs.Forest.{content, with_content}
 use Rattle.doc_model.specs.Changes.{there}
-use Rattle.doc_model.specs.Picture.{Doc}
+use Rattle.doc_model.specs.Picture.{Doc, frame}
 use Rattle.doc_model.specs.Laws.{IsDocument, EachDoc}
 use Rattle.doc_model.specs.Lawful.{is_closed_entry, is_open, lawful}
-use Rattle.doc_model.specs.Meaning.{Story, start, told, told_all, told_stroke, closed_stroke, laid_stroke, meaning, ends_with}
+use Rattle.doc_model.specs.Meaning.{Story, start, told, told_all, told_stroke, closed_stroke, laid_stroke, told_change, undone, redone, meaning, ends_with}
 use Rattle.doc_model.specs.Strokes as doc
 use Rattle.doc_model.specs.Strokes.{Fate, Open, Ended, Cancelled, Stroke, Jobs, conflict, entries, fed}
 use Rattle.doc_model.proofs.Limits.{meaning_keeps_limits}
 use Rattle.doc_model.proofs.SameContent.{content_has, with_same}
 use Rattle.doc_model.proofs.Weights.{tree_distinct}
 use Rattle.machine_model.specs.State.{Reach, Part}
+use Rattle.machine_model.specs.Effects.{writes_of}
+use Rattle.tile_core.specs.Frames.{Scene}
+use Rattle.tile_core.specs.Films.{newest}
+use Rattle.tile_core.specs.Marks.{Grid, no_marks}
+use Rattle.ppm_out.specs.Pictures.{colours_of}
+use Rattle.export_core.specs.Exports.{ShowsDoc, ShowsElsewhere}
+use Rattle.export_core.proofs.CanvasKeys.{canvas_key}
+use Rattle.export_core.proofs.Staying.{stays}
 use Rattle.stroke_core.specs.Fed.{Closed}
 use Rattle.entry_queue.specs.declared.entry.Entry.{Entry}
 use Rattle.entry_queue.specs.declared.entry.Entry.TheVariants.{Waiting, Whole, Other}
 use Rattle.entry_queue.specs.Pushed.{Pending, StandsFor, kept_of, may_leave, queued, stroke_of}
 use Rattle.entry_queue.proofs.Taking.{Fits, kept_fit, lawful_fits}
+use Rattle.desk_steps.specs.Archives as archives
 use Rattle.desk_steps.specs.Archives.{Archive, finished}
 use Rattle.solo_run.proofs.Fronts.{take_more}
+use Rattle.solo_run.proofs.Marked.{all_marks, stroke_marks}
 use Rattle.solo_run.specs.declared.solo.Solo.{Solo}
 use Rattle.solo_run.specs.Painting.{Paints, PaintsOn, jobs_only}
 use Rattle.script_text.specs.Script.{Contents}
 use Rattle.solo_run.specs.Shows.{HasSides, Shows}
-use Rattle.solo_run.specs.Told.{Ends, GoesOn, HasCome, IsReady, Rests, docs, fits, story_of}
+use Rattle.solo_run.specs.Stale.{MarksTiles, MarksChanges}
+use Rattle.solo_run.specs.Told.{Ends, GoesOn, HasCome, IsReady, Rests, docs, done_or, fits, story_of}
 
 abbrev pub fate_of : Bool → Fate
 fate_of true = Cancelled
@@ -73,7 +90,7 @@ told_whole canvas story (doc.Purges k) c h = cc
 told_whole canvas story doc.Exports c h = cc
 
 goes_as : (one other : Story → Story) (old new : Solo) (o : Outcome) → ((story : Story) → one story ≡ other story) → GoesOn one old new o → GoesOn other old new o
-goes_as one other old new o same g = record { rests = g.rests; canvas = g.canvas; story = λ outcomes. g.story outcomes ∙ same (story_of old outcomes) }
+goes_as one other old new o same g = record { rests = g.rests; canvas = g.canvas; story = λ outcomes. g.story outcomes ∙ same (story_of old outcomes); unmarked = g.unmarked }
 
 if_goes : {E : Type 0} (one other : Story → Story) (old new : Solo) (r : Result Outcome E) → ((story : Story) → one story ≡ other story) → IfOk r (GoesOn one old new) → IfOk r (GoesOn other old new)
 if_goes one other old new (Ok o) same g = goes_as one other old new o same g
@@ -93,12 +110,24 @@ absent id doc h = go (content id doc) refl
     go None e = refl
     go (Some x) e = let t : there id doc ≡ true = or_right _ _ (content_has id x doc e) in cc
 
+-- another store, where the marks tell what changed
+rests_on : (s : Solo) (new : Archive) (stale : Grid) → Rests s → new.way ≡ None → new.present ≡ new.base → MarksChanges s.store.present new.present s.stale stale → Rests (record s { store = new; stale = stale })
+rests_on s new stale r way present changes = record {
+  canvas = r.canvas;
+  no_way = way;
+  present = present;
+  sides = r.sides;
+  newest = λ f e. stays s.stale stale s.store.present new.present s.canvas f changes.stays
+      (λ x y h k m. changes.same (point (pos x) (pos y)) (canvas_key x y (omega (arith, h, r.canvas.w.1)) (omega (arith, k, r.canvas.h.1))) m) (r.newest f e);
+}
+
 -- room was taken, and nothing but an outcome was added
 roomy : (s : Solo) (a : Archive) → a ≡ record s.store { room = true } → (next : Story → Story) (o : Outcome) → Rests s → ((outcomes : List Outcome) → next (story_of s outcomes) ≡ ends_with (story_of s outcomes) o) → GoesOn next s (record s { store = a }) o
 roomy s a is next o r e = subst (λ b. GoesOn next s (record s { store = b }) o) (sym is) (record {
-  rests = record { canvas = r.canvas; no_way = r.no_way; present = r.present; sides = r.sides };
+  rests = record { canvas = r.canvas; no_way = r.no_way; present = r.present; sides = r.sides; newest = r.newest };
   canvas = refl;
   story = λ outcomes. sym (e outcomes);
+  unmarked = λ _. refl;
 })
 
 -- a stroke whose layer isn't there
@@ -117,20 +146,21 @@ abbrev after : Archive → ℕ → FinSet key_cmp → Doc → Archive
 after a id keys new = record { past = (a.base, Part id keys) ∷ a.past; base = new; present = new; future = []; way = None; room = false }
 
 -- a stroke that was painted
-pub painted_goes : (s : Solo) (begun done new : Archive) (layer : ℕ) (jobs : Jobs) (stroke : Stroke) → Rests s → IsDocument s.store.base
+pub painted_goes : (s : Solo) (begun done new : Archive) (stale : Grid) (layer : ℕ) (jobs : Jobs) (stroke : Stroke) → Rests s → IsDocument s.store.base → MarksTiles (writes_of jobs) s.stale stale
     → is_some (content layer s.store.present) ≡ true → begun ≡ record s.store { room = true; way = Some (layer, set.empty) } → PaintsOn (apply_all (jobs_only jobs)) begun done → new ≡ finished done.way done → stroke.layer ≡ layer → stroke.jobs ≡ jobs
-    → GoesOn (λ story. laid_stroke story stroke (content stroke.layer story.document)) s (record s { store = new }) outcome.Done
-painted_goes s begun done new layer jobs stroke r document h b on n sl sj = go (content layer s.store.base) refl (ap (λ d. is_some (content layer d)) (sym r.present) ∙ h)
+    → GoesOn (λ story. laid_stroke story stroke (content stroke.layer story.document)) s (record s { store = new; stale = stale }) outcome.Done
+painted_goes s begun done new stale layer jobs stroke r document marks h b on n sl sj = go (content layer s.store.base) refl (ap (λ d. is_some (content layer d)) (sym r.present) ∙ h)
   where
     a : Archive
     a = s.store
 
-    go : (o : Option Layer) → content layer s.store.base ≡ o → is_some o ≡ true → GoesOn (λ story. laid_stroke story stroke (content stroke.layer story.document)) s (record s { store = new }) outcome.Done
+    go : (o : Option Layer) → content layer s.store.base ≡ o → is_some o ≡ true → GoesOn (λ story. laid_stroke story stroke (content stroke.layer story.document)) s (record s { store = new; stale = stale }) outcome.Done
     go None e k = cc
-    go (Some x) e k = subst (λ st. GoesOn (λ story. laid_stroke story stroke (content stroke.layer story.document)) s (record s { store = st }) outcome.Done) (sym is) (record {
-      rests = record { canvas = r.canvas; no_way = refl; present = refl; sides = r.sides };
+    go (Some x) e k = subst (λ st. GoesOn (λ story. laid_stroke story stroke (content stroke.layer story.document)) s (record s { store = st; stale = stale }) outcome.Done) (sym is) (record {
+      rests = rests_on s (after s.store layer paints.keys painted) stale r refl refl changes;
       canvas = refl;
       story = λ outcomes. sym (ap (laid_stroke (story_of s outcomes) stroke) ((λ i. content (sl i) s.store.base) ∙ e) ∙ (λ i. laid_stroke (story_of s outcomes) (record stroke { layer = sl i; jobs = sj i }) (Some x)));
+      unmarked = λ n. absurd (n refl);
     })
       where
         begins : Paints layer x begun
@@ -145,10 +175,16 @@ painted_goes s begun done new layer jobs stroke r document h b on n sl sj = go (
         past : done.past ≡ s.store.past
         past = ap (λ (q : Archive). q.past) on.keeps ∙ ap (λ (q : Archive). q.past) b
 
-        doc_is : done.present ≡ with_content layer (apply_all (jobs_only jobs) x) s.store.base
+        painted : Doc
+        painted = with_content layer (apply_all (jobs_only jobs) x) s.store.base
+
+        changes : MarksChanges s.store.present painted s.stale stale
+        changes = subst (λ d. MarksChanges d painted s.stale stale) (sym r.present) (stroke_marks layer jobs x s.store.base s.stale stale document.tree e marks)
+
+        doc_is : done.present ≡ painted
         doc_is = paints.now ∙ ap (with_content layer (apply_all (jobs_only jobs) x)) base
 
-        is : new ≡ after s.store layer paints.keys (with_content layer (apply_all (jobs_only jobs) x) s.store.base)
+        is : new ≡ after s.store layer paints.keys painted
         is = n ∙ ap (λ o. finished o done) paints.on ∙ (λ i. record { past = (base i, Part layer paints.keys) ∷ past i; base = doc_is i; present = doc_is i; future = []; way = None; room = false })
 
 docs_take : (n : ℕ) (history : List (Doc × Reach)) → docs (take n history) ≡ take n (docs history)
@@ -159,10 +195,80 @@ docs_take (suc n) (e ∷ history) = ap (λ ds. e.0 ∷ ds) (docs_take n history)
 -- a purge
 pub purge_goes : (s : Solo) (keep : ℕ) (new : Archive) → Rests s → new ≡ record s.store { past = take keep s.store.past } → Ends (doc.Purges keep) s (record s { store = new }) outcome.Done
 purge_goes s keep new r e = subst (λ a. Ends (doc.Purges keep) s (record s { store = a }) outcome.Done) (sym e) (record {
-  rests = record { canvas = r.canvas; no_way = r.no_way; present = r.present; sides = r.sides };
+  rests = record { canvas = r.canvas; no_way = r.no_way; present = r.present; sides = r.sides; newest = r.newest };
   canvas = refl;
   story = λ outcomes i. record (story_of s (outcomes ++ outcome.Done ∷ [])) { past = docs_take keep s.store.past i };
+  unmarked = λ _. refl;
 })
+
+-- a change of the tree
+pub change_goes : (s : Solo) (change : Change) (new : Archive) (stale : Grid) → Rests s → archives.Changes change s.store new → stale ≡ replicate 1024 true → Ends (doc.Changes change) s (record s { store = new; stale = stale }) outcome.Done
+change_goes s change new stale r c all = record {
+  rests = rests_on s new stale r (ap (λ (a : Archive). a.way) c.new_is) (ap (λ (a : Archive). a.present) c.new_is) (all_marks s.store.present new.present s.stale stale all);
+  canvas = refl;
+  story = λ outcomes. (λ i. story_of (record s { store = c.new_is i; stale = stale }) (outcomes ++ outcome.Done ∷ [])) ∙ sym (ap (told_change (story_of s outcomes)) c.gives);
+  unmarked = λ n. absurd (n refl);
+}
+
+-- an undo
+pub undo_goes : (s : Solo) (new : Archive) (stale : Grid) (o : Outcome) → Rests s → new ≡ archives.undone s.store.past s.store → o ≡ done_or outcome.NothingToUndo s.store.past → MarksChanges s.store.present new.present s.stale stale → (s.store.past ≡ [] → stale ≡ s.stale) → Ends doc.Undoes s (record s { store = new; stale = stale }) o
+undo_goes s new stale o r e h m u = let g : GoesOn (λ t. undone t (docs s.store.past)) s (record s { store = new; stale = stale }) o = go s.store.past refl e h in record { rests = g.rests; canvas = g.canvas; story = g.story; unmarked = g.unmarked }
+  where
+    go : (past : List (Doc × Reach)) → s.store.past ≡ past → new ≡ archives.undone past s.store → o ≡ done_or outcome.NothingToUndo past → GoesOn (λ t. undone t (docs past)) s (record s { store = new; stale = stale }) o
+    go [] p e h = record {
+      rests = rests_on s new stale r (ap (λ (a : Archive). a.way) e ∙ r.no_way) (ap (λ (a : Archive). a.present) e ∙ r.present ∙ ap (λ (a : Archive). a.base) (sym e)) m;
+      canvas = refl;
+      story = λ outcomes i. story_of (record s { store = e i; stale = stale }) (outcomes ++ h i ∷ []);
+      unmarked = λ _. u p;
+    }
+    go (x ∷ past) p e h = record {
+      rests = rests_on s new stale r (ap (λ (a : Archive). a.way) e ∙ r.no_way) (ap (λ (a : Archive). a.present) e ∙ ap (λ (a : Archive). a.base) (sym e)) m;
+      canvas = refl;
+      story = λ outcomes i. story_of (record s { store = e i; stale = stale }) (outcomes ++ h i ∷ []);
+      unmarked = λ n. absurd (n h);
+    }
+
+-- a redo
+pub redo_goes : (s : Solo) (new : Archive) (stale : Grid) (o : Outcome) → Rests s → new ≡ archives.redone s.store.future s.store → o ≡ done_or outcome.NothingToRedo s.store.future → MarksChanges s.store.present new.present s.stale stale → (s.store.future ≡ [] → stale ≡ s.stale) → Ends doc.Redoes s (record s { store = new; stale = stale }) o
+redo_goes s new stale o r e h m u = let g : GoesOn (λ t. redone t (docs s.store.future)) s (record s { store = new; stale = stale }) o = go s.store.future refl e h in record { rests = g.rests; canvas = g.canvas; story = g.story; unmarked = g.unmarked }
+  where
+    go : (future : List (Doc × Reach)) → s.store.future ≡ future → new ≡ archives.redone future s.store → o ≡ done_or outcome.NothingToRedo future → GoesOn (λ t. redone t (docs future)) s (record s { store = new; stale = stale }) o
+    go [] p e h = record {
+      rests = rests_on s new stale r (ap (λ (a : Archive). a.way) e ∙ r.no_way) (ap (λ (a : Archive). a.present) e ∙ r.present ∙ ap (λ (a : Archive). a.base) (sym e)) m;
+      canvas = refl;
+      story = λ outcomes i. story_of (record s { store = e i; stale = stale }) (outcomes ++ h i ∷ []);
+      unmarked = λ _. u p;
+    }
+    go (x ∷ future) p e h = record {
+      rests = rests_on s new stale r (ap (λ (a : Archive). a.way) e ∙ r.no_way) (ap (λ (a : Archive). a.present) e ∙ ap (λ (a : Archive). a.base) (sym e)) m;
+      canvas = refl;
+      story = λ outcomes i. story_of (record s { store = e i; stale = stale }) (outcomes ++ h i ∷ []);
+      unmarked = λ n. absurd (n h);
+    }
+
+newest_last : (scenes : List Scene) (f : Scene) → newest (scenes ++ f ∷ []) ≡ Some f
+newest_last scenes f =
+    let n : length (scenes ++ f ∷ []) ≡ length scenes + 1 = length-append scenes (f ∷ []) in
+    ap (slice_get (scenes ++ f ∷ [])) (let e : length (scenes ++ f ∷ []) - 1 ≡ length scenes = omega arith in e)
+    ∙ slice_get_read (scenes ++ f ∷ []) (length (scenes ++ f ∷ [])) (length scenes) f refl (omega arith) (sym (get_or-append_seam scenes f [] f))
+
+same_some : (f g : Scene) → Some f ≡ Some g → f ≡ g
+same_some f g e = cc
+
+-- an export
+pub export_goes : (s : Solo) (film : List Scene) (stale : Grid) (f : Scene) → Rests s → ShowsDoc s.store.present s.canvas f → ShowsElsewhere no_marks s.store.present s.canvas f → film ≡ s.film ++ f ∷ [] → stale ≡ no_marks → Ends doc.Exports s (record s { film = film; stale = stale }) outcome.Done
+export_goes s film stale f r shows everywhere e none = subst (λ g. Ends doc.Exports s (record s { film = film; stale = g }) outcome.Done) (sym none) (subst (λ scenes. Ends doc.Exports s (record s { film = scenes; stale = no_marks }) outcome.Done) (sym e) (record {
+  rests = record {
+    canvas = r.canvas;
+    no_way = r.no_way;
+    present = r.present;
+    sides = All-append (HasSides s.canvas) s.film (f ∷ []) r.sides (All-cons (HasSides s.canvas) f [] (record { width = shows.width; height = shows.height }) (All-nil (HasSides s.canvas)));
+    newest = λ g h. subst (ShowsElsewhere no_marks s.store.present s.canvas) (same_some f g (sym (newest_last s.film f) ∙ h)) everywhere;
+  };
+  canvas = refl;
+  story = λ outcomes i. record (story_of s (outcomes ++ outcome.Done ∷ [])) { frames = (map-append colours_of s.film (f ∷ []) ∙ ap (λ c. map colours_of s.film ++ c ∷ []) (shows.colours ∙ ap (λ d. frame d s.canvas) r.present)) i };
+  unmarked = λ n. absurd (n refl);
+}))
 
 pub told_all-last : (canvas : Canvas) (s : Story) (es : List doc.Entry) (e : doc.Entry) → told_all canvas s (es ++ e ∷ []) ≡ told canvas (told_all canvas s es) e
 told_all-last canvas s [] e = refl
@@ -249,10 +355,6 @@ document_right commands s q h =
     let each : EachDoc (IsDocument {A = Layer}) (meaning s.canvas (take (length q.outcomes) (entries commands))) = meaning_keeps_limits s.canvas (take (length q.outcomes) (entries commands)) in
     subst (λ (t : Story). IsDocument t.document) (sym h.story) each.document
 
-pub length_last : {A : Type 0} (xs : List A) (x : A) → length (xs ++ x ∷ []) ≡ length xs + 1
-length_last [] x = refl
-length_last (y ∷ xs) x = let h : length (xs ++ x ∷ []) ≡ length xs + 1 = length_last xs x in omega arith
-
 -- one entry more
 pub come_further : (commands : List Command) (old new : Solo) (q r : Pending) (x : Entry) (o : Outcome) → HasCome commands old q → Some x ≡ slice_get q.left 0
     → ((e : doc.Entry) → queued e ≡ x → Ends e old new o) → r.outcomes ≡ q.outcomes ++ o ∷ [] → StandsFor commands r → HasCome commands new r
@@ -267,7 +369,7 @@ come_further commands old new q r x o h e ends outcomes stands =
           ∙ on.story q.outcomes
           ∙ ap (λ t. told old.canvas t next.entry) h.story
           ∙ sym (told_all-last old.canvas start (take (length q.outcomes) (entries commands)) next.entry)
-          ∙ ap (told_all old.canvas start) (sym (take_more (entries commands) (length q.outcomes) next.entry next.at) ∙ ap (λ n. take n (entries commands)) (sym (ap length outcomes ∙ length_last q.outcomes o)))
+          ∙ ap (told_all old.canvas start) (sym (take_more (entries commands) (length q.outcomes) next.entry next.at) ∙ ap (λ n. take n (entries commands)) (sym (ap length outcomes ∙ length-append q.outcomes (o ∷ []))))
           ∙ ap (λ c. meaning c (take (length r.outcomes) (entries commands))) (sym on.canvas);
     }
 
@@ -290,11 +392,11 @@ come_none fed commands s q same r stands none begins = record {
 }
 
 -- the frames and the outcomes after all entries
-pub come_shows : (script : Contents) (s : Solo) (q : Pending) → HasCome script.commands s q → s.canvas ≡ script.canvas → q.left ≡ [] → Shows script s.frames.items q.outcomes
+pub come_shows : (script : Contents) (s : Solo) (q : Pending) → HasCome script.commands s q → s.canvas ≡ script.canvas → q.left ≡ [] → Shows script s.film q.outcomes
 come_shows script s q h c e =
     let told : story_of s q.outcomes ≡ meaning script.canvas (entries script.commands) = come_all script.commands s q h e ∙ ap (λ d. meaning d (entries script.commands)) c in
     record {
-      sides = subst (λ d. All (HasSides d) s.frames.items) c h.rests.sides;
+      sides = subst (λ d. All (HasSides d) s.film) c h.rests.sides;
       colours = ap (λ (t : Story). t.frames) told;
       outcomes_are = ap (λ (t : Story). t.outcomes) told;
     }

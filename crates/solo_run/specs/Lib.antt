@@ -2,3 +2,4 @@ pub mod Shows
 pub mod Painting
 pub mod Left
 pub mod Told
+pub mod Stale

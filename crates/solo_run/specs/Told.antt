@@ -1,5 +1,5 @@
 -- What is told of a document that is painted entry by entry.
-use Rattle.std.specs.Prelude.{◌≡◌, true, Bool, None, List, [], ◌∷◌, ◌++◌, map, take, length, All}
+use Rattle.std.specs.Prelude.{◌≡◌, ◌≢◌, true, Bool, Some, None, List, [], ◌∷◌, ◌++◌, map, take, length, All}
 use Rattle.std.specs.List.{list_all}
 use Rattle.doc_model.specs.declared.job.Job.{Job}
 use Rattle.doc_model.specs.declared.job.Kind.{Kind}
@@ -13,7 +13,10 @@ use Rattle.doc_model.specs.Strokes.{entries}
 use Rattle.doc_model.specs.Lawful.{is_closed_entry, within_limits}
 use Rattle.doc_model.specs.Meaning.{Story, told, meaning}
 use Rattle.machine_model.specs.State.{Reach}
+use Rattle.tile_core.specs.Frames.{Scene}
+use Rattle.tile_core.specs.Films.{newest}
 use Rattle.ppm_out.specs.Pictures.{colours_of}
+use Rattle.export_core.specs.Exports.{ShowsElsewhere}
 use Rattle.entry_queue.specs.declared.entry.Entry.{Entry}
 use Rattle.entry_queue.specs.declared.entry.Entry.TheVariants.{Waiting, Whole, Other}
 use Rattle.entry_queue.specs.Pushed.{Pending, StandsFor, queued}
@@ -30,22 +33,28 @@ story_of s outcomes = record {
   past = docs s.store.past;
   document = s.store.base;
   future = docs s.store.future;
-  frames = map colours_of s.frames.items;
+  frames = map colours_of s.film;
   outcomes = outcomes;
 }
 
--- between two entries: no stroke is under way, the frames have the canvas's sides, and the canvas is one of the limits
+-- the newest frame, if there is one, shows the present document outside the stale tiles
+abbrev pub ShowsNewest : Solo → Type 0
+ShowsNewest s = (f : Scene) → newest s.film ≡ Some f → ShowsElsewhere s.stale s.store.present s.canvas f
+
+-- between two entries: no stroke is under way, the frames have the canvas's sides, what may look different from the newest is known, and the canvas is one of the limits
 pub record Rests (s : Solo) : Type 0 where
   pub canvas : IsOfLimits s.canvas
   pub no_way : s.store.way ≡ None
   pub present : s.store.present ≡ s.store.base
-  pub sides : All (HasSides s.canvas) s.frames.items
+  pub sides : All (HasSides s.canvas) s.film
+  pub newest : ShowsNewest s
 
--- an entry ended with that outcome, and the story went on as told
+-- an entry ended with that outcome, and the story went on as told. One that wasn't done marks no tile
 pub record GoesOn (next : Story → Story) (old new : Solo) (o : Outcome) : Type 0 where
   pub rests : Rests new
   pub canvas : new.canvas ≡ old.canvas
   pub story : (outcomes : List Outcome) → story_of new (outcomes ++ o ∷ []) ≡ next (story_of old outcomes)
+  pub unmarked : o ≢ Done → new.stale ≡ old.stale
 
 -- it went on as the entry means
 abbrev pub Ends : doc.Entry → Solo → Solo → Outcome → Type 0

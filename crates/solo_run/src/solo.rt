@@ -1,34 +1,41 @@
 //! A document that is painted entry by entry.
 
-ghost use Rattle.std.specs.Prelude.{◌≡◌, [], IfOk, All, true};
+ghost use Rattle.std.specs.Prelude.{◌≡◌, [], IfOk, All, true, Some};
 ghost use Rattle.doc_model.specs.Canvases.{IsOfLimits};
 ghost use Rattle.doc_model.specs.Lawful.{within_limits, checks};
 ghost use Rattle.doc_model.specs.Forest.{content};
 ghost use Rattle.doc_model.specs.Laws.{IsDocument};
 ghost use Rattle.doc_model.specs.Meaning.{start, laid_stroke};
 ghost use Rattle.doc_model.specs.Strokes as doc;
+ghost use Rattle.tile_core.specs.Frames.{Scene};
+ghost use Rattle.tile_core.specs.Films.{Renews, newest};
+ghost use Rattle.tile_core.specs.Marks.{no_marks};
+ghost use Rattle.export_core.specs.Exports.{ShowsDoc, ShowsElsewhere};
 ghost use Rattle.entry_queue.specs.declared.entry.Entry.TheVariants.{Whole, Other};
 ghost use Rattle.entry_queue.specs.Pushed.{queued};
 ghost use Rattle.solo_run.specs.Told.{Ends, GoesOn, IsReady, Rests, story_of};
 
 use crate::steps;
-use crate::strokes::paint_jobs;
+use crate::strokes::{mark_jobs, paint_jobs};
 use desk_steps::{Begun, Store, TreeRefusal};
 use doc_model::{Canvas, Change, Command, Job, Kind, Outcome};
 use entry_queue::Entry;
-use export_core::frame_of;
+use export_core::{frame_after, frame_of};
 use geom_core::NoMemory;
 use std::alloc::Global;
+use std::mem;
 use stroke_core::ClosedStroke;
-use tile_core::Frame;
+use tile_core::{Film, Frame, Marks};
 
-/// A document on a canvas, and the frames that were exported so far.
+/// A document on a canvas, the frames that were exported so far, and the tiles that may look
+/// different from the newest of them.
 #[derive(Drop)]
 pub(crate) struct Solo {
     alloc: Global,
     canvas: Canvas,
     store: Store,
-    frames: Vec<Frame>,
+    film: Film,
+    stale: Marks,
 }
 
 impl Solo {
@@ -43,7 +50,8 @@ impl Solo {
             alloc,
             canvas,
             store: Store::new(alloc)?,
-            frames: Vec::new(alloc),
+            film: Film::new(alloc),
+            stale: Marks::all(),
         })
     }
 
@@ -62,10 +70,10 @@ impl Solo {
     }
 
     /// The frames.
-    pub(crate) fn into_frames(self) -> Vec<Frame>
-        ensures { result ≡ self.frames }
+    pub(crate) fn into_film(self) -> Film
+        ensures { result ≡ self.film }
     {
-        self.frames
+        self.film
     }
 
     /// Paints a closed stroke. One whose jobs conflict or that was cancelled leaves nothing.
@@ -100,6 +108,7 @@ impl Solo {
         }
         paint_jobs(self.alloc, &mut self.store, jobs)?;
         self.store.finish();
+        mark_jobs(jobs, &mut self.stale);
         Ok(Outcome::Done)
     }
 
@@ -125,7 +134,10 @@ impl Solo {
         ensures { IfOk result (Ends (doc.Changes change.now) self.old self.new) }
     {
         match self.store.change(self.alloc, change) {
-            Ok(_) => Ok(Outcome::Done),
+            Ok(_) => {
+                self.stale = Marks::all();
+                Ok(Outcome::Done)
+            }
             Err(TreeRefusal::Tree(fault)) => Ok(Outcome::Tree(fault)),
             Err(TreeRefusal::NoMemory) => Err(NoMemory),
         }
@@ -136,7 +148,7 @@ impl Solo {
         requires { Rests self.old }
         ensures { Ends doc.Undoes self.old self.new result }
     {
-        steps::undo(&mut self.store)
+        steps::undo(&mut self.store, &mut self.stale)
     }
 
     /// Redoes the change that was undone last.
@@ -144,7 +156,7 @@ impl Solo {
         requires { Rests self.old }
         ensures { Ends doc.Redoes self.old self.new result }
     {
-        steps::redo(&mut self.store)
+        steps::redo(&mut self.store, &mut self.stale)
     }
 
     /// Forgets all that can be undone but the newest `keep` changes.
@@ -161,8 +173,24 @@ impl Solo {
         requires { Rests self.old }
         ensures { IfOk result (Ends doc.Exports self.old self.new) }
     {
-        let frame = frame_of(self.alloc, &self.store, self.canvas)?;
-        self.frames.push(frame)?;
+        let frame = self.next_frame()?;
+        let fresh = mem::replace(&mut self.stale, Marks::none());
+        self.film.push(frame, fresh)?;
         Ok(Outcome::Done)
+    }
+
+    /// The document's picture. Tiles that look as in the newest frame are shared with it.
+    fn next_frame(&self) -> Result<Frame, NoMemory>
+        requires { Rests self.now }
+        ensures shows { IfOk result (ShowsDoc self.now.store.present self.now.canvas) }
+        ensures everywhere { IfOk result (ShowsElsewhere no_marks self.now.store.present self.now.canvas) }
+        ensures renews { (before : Scene) → newest self.now.film ≡ Some before → IfOk result (λ f. Renews f before self.now.stale) }
+    {
+        match self.film.newest() {
+            Some(before) => {
+                frame_after(self.alloc, &self.store, self.canvas, before, &self.stale)
+            }
+            None => frame_of(self.alloc, &self.store, self.canvas),
+        }
     }
 }

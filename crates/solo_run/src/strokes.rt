@@ -5,17 +5,19 @@ ghost use Rattle.std.specs.List.{list_any};
 ghost use Rattle.geom_core.specs.Grid.{same_key, keys_of, all_keys_of};
 ghost use Rattle.doc_model.specs.Lawful.{checks, within_limits};
 ghost use Rattle.doc_model.specs.Jobs.{reads, writes, apply, apply_all, published};
+ghost use Rattle.machine_model.specs.Effects.{writes_of};
 ghost use Rattle.job_core.specs.Paints.{layer_of};
 ghost use Rattle.desk_steps.specs.Archives.{layer_under_way};
 ghost use Rattle.solo_run.specs.Left.{IsLeft, IsLeftIn, IsLeftOf, AddsLeft, PutsLeft};
 ghost use Rattle.solo_run.specs.Painting.{PaintsOn, published_in, jobs_only};
+ghost use Rattle.solo_run.specs.Stale.{MarksTiles};
 
 use desk_steps::Store;
 use doc_model::{Job, Kind};
 use geom_core::{NoMemory, Rect, TileKey};
 use job_core::{Made, paint_tile};
 use std::alloc::Global;
-use tile_core::Shot;
+use tile_core::{Marks, Shot};
 
 /// The most tiles of a rectangle that are few.
 const FEW_TILES: u32 = 16;
@@ -202,4 +204,25 @@ fn paint_in(
 {
     let painted = paint_tile(alloc, job, shot, key)?;
     store.put(alloc, &painted)
+}
+
+/// Marks the tiles that the jobs may change.
+pub(crate) fn mark_jobs(jobs: &[(Kind, Job)], stale: &mut Marks)
+    requires { All (λ job. checks job.1 ≡ true) jobs.now }
+    ensures { MarksTiles (writes_of jobs.now) stale.old stale.new }
+{
+    for entry in jobs {
+        mark_job(&entry.1, stale);
+    }
+}
+
+/// Marks the tiles that a job may change.
+fn mark_job(job: &Job, stale: &mut Marks)
+    requires { checks job.now ≡ true }
+    ensures { MarksTiles (writes job.now) stale.old stale.new }
+{
+    let writes = job.writes();
+    for rect in writes.as_slice() {
+        stale.mark_all(rect);
+    }
 }

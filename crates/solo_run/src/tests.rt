@@ -1,5 +1,7 @@
 //! Scripts with the frames and outcomes that they give.
 
+ghost use Rattle.std.specs.Prelude.{◌≤◌};
+
 use crate::run_solo;
 use doc_model::{Outcome, TreeFault};
 use script_text::read;
@@ -143,9 +145,50 @@ const ROWS: [Row; 14] = [
     },
 ];
 
-/// The colours of the frame's first row, from the left.
-fn first_row(frame: &Frame, colours: &mut Vec<[u8; 3]>) -> Result<(), Fail> {
-    for x in 0..frame.width() {
+/// Scripts on a canvas of 129 columns, with the colours of columns 0, 64 and 128, which stand in three tiles.
+const WIDE: [Row; 4] = [
+    // A small stroke, and undone and redone.
+    Row {
+        script: b"canvas 129 1\nlayer 1 0 0\nexport\nstroke 1 1\nfill 1 seq 64 0 1 1 ff0000ff over 255\nend 1\nexport\nundo\nexport\nredo\nexport\n",
+        colours: &[
+            WHITE, WHITE, WHITE, WHITE, RED, WHITE, WHITE, WHITE, WHITE, WHITE, RED, WHITE,
+        ],
+        outcomes: &[Outcome::Done; 8],
+    },
+    // Both rectangles of a move, in two tiles.
+    Row {
+        script: b"canvas 129 1\nlayer 1 0 0\nstroke 1 1\nfill 1 seq 0 0 1 1 ff0000ff over 255\nend 1\nexport\nstroke 2 1\nmove 2 seq 0 0 1 1 128 0\nend 2\nexport\nundo\nexport\n",
+        colours: &[RED, WHITE, WHITE, WHITE, WHITE, RED, RED, WHITE, WHITE],
+        outcomes: &[Outcome::Done; 7],
+    },
+    // A refused change and a cancelled stroke leave all as it is.
+    Row {
+        script: b"canvas 129 1\nlayer 1 0 0\nstroke 1 1\nfill 1 seq 0 0 129 1 0000ffff over 255\nend 1\nexport\nremove 7\nstroke 2 1\nfill 2 seq 64 0 1 1 ff0000ff over 255\ncancel 2\nexport\nstroke 3 1\nfill 3 seq 128 0 1 1 00ff00ff over 255\nend 3\nexport\n",
+        colours: &[BLUE, BLUE, BLUE, BLUE, BLUE, BLUE, BLUE, BLUE, GREEN],
+        outcomes: &[
+            Outcome::Done,
+            Outcome::Done,
+            Outcome::Done,
+            Outcome::Tree(TreeFault::NoNode(7)),
+            Outcome::Cancelled,
+            Outcome::Done,
+            Outcome::Done,
+            Outcome::Done,
+        ],
+    },
+    // A change of the tree, two undos before one export, and a purge between.
+    Row {
+        script: b"canvas 129 1\nlayer 1 0 0\nstroke 1 1\nfill 1 seq 0 0 129 1 ff0000ff over 255\nend 1\nlook 1 255 over off\nexport\nundo\nundo\npurge 1\nexport\nredo\nexport\n",
+        colours: &[WHITE, WHITE, WHITE, WHITE, WHITE, WHITE, RED, RED, RED],
+        outcomes: &[Outcome::Done; 10],
+    },
+];
+
+/// The colours of the frame's first row, of each point in so many from the left.
+fn first_row(frame: &Frame, each: usize, colours: &mut Vec<[u8; 3]>) -> Result<(), Fail>
+    requires { 1 ≤ each }
+{
+    for x in (0..frame.width()).step_by(each) {
         if frame.height() == 0 {
             return Ok(());
         }
@@ -155,7 +198,9 @@ fn first_row(frame: &Frame, colours: &mut Vec<[u8; 3]>) -> Result<(), Fail> {
 }
 
 /// The colours of the first row of each frame, and the outcomes, of a script of up to 4,096 bytes.
-fn painted(alloc: Global, bytes: &[u8]) -> Result<(Vec<[u8; 3]>, Vec<Outcome>), Fail> {
+fn painted(alloc: Global, bytes: &[u8], each: usize) -> Result<(Vec<[u8; 3]>, Vec<Outcome>), Fail>
+    requires { 1 ≤ each }
+{
     if bytes.len() > 4096 {
         return Err("too long".into());
     }
@@ -164,8 +209,8 @@ fn painted(alloc: Global, bytes: &[u8]) -> Result<(Vec<[u8; 3]>, Vec<Outcome>), 
     };
     let shown = run_solo(alloc, &script)?;
     let mut colours = Vec::new(alloc);
-    for frame in &shown.frames {
-        first_row(frame, &mut colours)?;
+    for frame in shown.film.frames() {
+        first_row(frame, each, &mut colours)?;
     }
     Ok((colours, shown.outcomes))
 }
@@ -173,7 +218,17 @@ fn painted(alloc: Global, bytes: &[u8]) -> Result<(Vec<[u8; 3]>, Vec<Outcome>), 
 #[test]
 fn scripts(rt: HostRuntime) -> Result<(), Fail> {
     for row in &ROWS {
-        let (colours, outcomes) = painted(rt.alloc(), row.script)?;
+        let (colours, outcomes) = painted(rt.alloc(), row.script, 1)?;
+        assert!(rt; colours.as_slice() == row.colours);
+        assert!(rt; outcomes.as_slice() == row.outcomes);
+    }
+    Ok(())
+}
+
+#[test]
+fn wide_scripts(rt: HostRuntime) -> Result<(), Fail> {
+    for row in &WIDE {
+        let (colours, outcomes) = painted(rt.alloc(), row.script, 64)?;
         assert!(rt; colours.as_slice() == row.colours);
         assert!(rt; outcomes.as_slice() == row.outcomes);
     }

@@ -1,7 +1,6 @@
-use Rattle.std.proofs.Common.{◌≡◌, Vec, Global, [], refl, sym, ap, ◌∙◌, subst}
+use Rattle.std.proofs.Common.{◌≡◌, [], refl, sym, ap, ◌∙◌, subst}
 use Rattle.doc_model.specs.Canvases.{IsOfLimits}
 use Rattle.doc_model.specs.Lawful.{lawful}
-use Rattle.tile_core.specs.Frames.{Scene}
 use Rattle.solo_run.proofs.Scripts.{HoldsOfScript, script_holds}
 use Rattle.solo_run.specs.Shows.{Shows}
 use Rattle.solo_run.specs.Told.{Ends, HasCome, IsReady}
@@ -55,6 +54,6 @@ loop-entry-smaller c =
 pub returns : goal.returns
 returns c =
     let none : c.loop-entry.queue.left ≡ [] = c.in_default.ensures.none.0 refl in
-    subst (λ frames. Shows c.args.script.now frames c.in_ok-outcomes.outcomes.items) (ap (λ (v : Vec Scene Global). v.items) (sym c.into_frames.ensures))
-    (subst (Shows c.args.script.now c.loop-entry.solo.frames.items) (sym (c.in_ok-outcomes.ensures.items ∙ c.outcomes.ensures))
+    subst (λ film. Shows c.args.script.now film c.in_ok-outcomes.outcomes.items) (sym c.into_film.ensures)
+    (subst (Shows c.args.script.now c.loop-entry.solo.film) (sym (c.in_ok-outcomes.ensures.items ∙ c.outcomes.ensures))
     (come_shows c.args.script.now c.loop-entry.solo c.loop-entry.queue c.loop-entry.invariant.0 c.loop-entry.invariant.1 none))

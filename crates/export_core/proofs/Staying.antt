@@ -1,0 +1,69 @@
+-- Frames that show one document, as frames of another that looks the same outside the marked tiles.
+use Rattle.std.proofs.Common.{◌≡◌, ℕ, ◌<◌, Bool, true, false, cond, Some, replicate, eqb, refl, sym, ap, ◌∙◌, arith}
+use Rattle.std.specs.Prelude.{pos}
+use Rattle.std.specs.FinSet as set
+use Rattle.std.specs.FinSet.{FinSet}
+use Rattle.pixel_core.specs.Rgba.{Rgba, clear}
+use Rattle.geom_core.specs.Points.{Point, point}
+use Rattle.geom_core.specs.Grid.{Key, key_cmp, key_of}
+use Rattle.tile_core.specs.Marks.{Grid, has_mark}
+use Rattle.tile_core.specs.Frames.{Scene}
+use Rattle.doc_model.specs.declared.canvas.Canvas.{Canvas}
+use Rattle.doc_model.specs.Canvases.{IsOfLimits}
+use Rattle.doc_model.specs.Ids.{IsTree}
+use Rattle.doc_model.specs.Layers.{Layer, at}
+use Rattle.doc_model.specs.Forest.{none, paint, group, content, with_content}
+use Rattle.doc_model.specs.Picture.{Doc, with_look, laid, picture}
+use Rattle.doc_model.proofs.Weights.{tree_distinct}
+use Rattle.doc_model.proofs.Paths.{content_put_back}
+use Rattle.machine_model.specs.Reached.{ReachesOneLayer}
+use Rattle.export_core.specs.Exports.{ShowsElsewhere}
+use Rattle.export_core.specs.Pieces.{seen}
+use Rattle.export_core.proofs.CanvasKeys.{canvas_key, all_marked}
+use Rattle.export_core.proofs.SameTree.{same_cond, chosen}
+
+-- a layer's pixels elsewhere change nothing at a point
+laid_with : (q : ℕ) (x y : Layer) (f : Doc) (p : Point) (b : Rgba) → at x p ≡ at y p → laid (with_content q x f) p b ≡ laid (with_content q y f) p b
+laid_with q x y none p b e = refl
+laid_with q x y (paint id look l rest) p b e =
+    ap (λ c. laid (with_content q x rest) p (with_look look c b)) (sym (chosen (eqb q id) (λ m. at m p) x l) ∙ same_cond (eqb q id) e refl ∙ chosen (eqb q id) (λ m. at m p) y l)
+    ∙ laid_with q x y rest p (with_look look (at (cond (eqb q id) y l) p) b) e
+laid_with q x y (group id look nodes rest) p b e =
+    ap (λ c. laid (with_content q x rest) p (with_look look c b)) (laid_with q x y nodes p clear e) ∙ laid_with q x y rest p (with_look look (laid (with_content q y nodes) p clear) b) e
+
+-- where a layer has the same pixel, so has the picture
+pub picture_with : (id : ℕ) (before after : Layer) (doc : Doc) (p : Point) → IsTree doc → content id doc ≡ Some before → at before p ≡ at after p → picture doc p ≡ picture (with_content id after doc) p
+picture_with id before after doc p tree was same = ap (λ d. picture d p) (sym (content_put_back id before doc (tree_distinct doc tree) was)) ∙ laid_with id before after doc p clear same
+
+-- where documents differ in tiles of one layer alone, the picture elsewhere is the same
+pub picture_reached : (id : ℕ) (keys : FinSet key_cmp) (old new : Doc) (p : Point) → IsTree old → ReachesOneLayer id keys old new → set.contains keys (key_of p) ≡ false → picture old p ≡ picture new p
+picture_reached id keys old new p tree reaches apart = picture_with id reaches.before reaches.after old p tree reaches.was (reaches.within.pixels p apart) ∙ ap (λ d. picture d p) (sym reaches.changed)
+
+-- where the first is true the second is, so where the second is false the first is
+unless : (a b : Bool) → (a ≡ true → b ≡ true) → b ≡ false → a ≡ false
+unless true b h e = absurd (let t : b ≡ true = h refl in cc)
+unless false b h e = refl
+
+-- whatever is marked in the first is marked in the second
+abbrev pub MarksToo : Grid → Grid → Type 0
+MarksToo stale more = (k : Key) → has_mark stale k ≡ true → has_mark more k ≡ true
+
+-- a frame of one document as one of another, where both look the same on the tiles that aren't marked
+pub stays : (stale more : Grid) (doc new : Doc) (canvas : Canvas) (f : Scene) → MarksToo stale more
+    → ((x y : ℕ) → x < canvas.w → y < canvas.h → has_mark more (key_of (point (pos x) (pos y))) ≡ false → picture doc (point (pos x) (pos y)) ≡ picture new (point (pos x) (pos y)))
+    → ShowsElsewhere stale doc canvas f → ShowsElsewhere more new canvas f
+stays stale more doc new canvas f too same shows = record {
+  width = shows.width;
+  height = shows.height;
+  paper = shows.paper;
+  looks = λ x y h k m. shows.looks x y h k (unless (has_mark stale (key_of (point (pos x) (pos y)))) _ (too (key_of (point (pos x) (pos y)))) m) ∙ ap seen (same x y h k m);
+}
+
+-- where all tiles are marked, nothing is asked but the sides and the paper
+pub all_stale : (g : Grid) (doc : Doc) (canvas : Canvas) (f : Scene) → IsOfLimits canvas → g ≡ replicate 1024 true → f.width ≡ canvas.w → f.height ≡ canvas.h → f.paper ≡ canvas.paper → ShowsElsewhere g doc canvas f
+all_stale g doc canvas f limits all w h paper = record {
+  width = w;
+  height = h;
+  paper = paper;
+  looks = λ x y i j m. absurd (let t : has_mark g (key_of (point (pos x) (pos y))) ≡ true = all_marked g (key_of (point (pos x) (pos y))) all (canvas_key x y (omega (arith, i, limits.w.1)) (omega (arith, j, limits.h.1))) in cc);
+}
