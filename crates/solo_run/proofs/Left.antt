@@ -1,6 +1,6 @@
 -- What a job has left in its tiles, one tile after another.
-use Rattle.std.proofs.Common.{◌≡◌, ℕ, ◌+◌, ◌<◌, ◌≤◌, true, Some, is_some, List, [], ◌∷◌, ◌++◌, get_or, length, take, map, refl, sym, ap, ◌∙◌, subst}
-use Rattle.std.specs.Prelude.{slice_get, All}
+use Rattle.std.proofs.Common.{◌≡◌, ℕ, ◌+◌, ◌<◌, ◌≤◌, true, Some, is_some, List, [], ◌∷◌, ◌++◌, get_or, length, take, refl, sym, ap, ◌∙◌, subst}
+use Rattle.std.specs.Prelude.{slice_get}
 use Rattle.std.specs.Option.{option_map}
 use Rattle.std.proofs.lemmas.List.{map-append, append-nil, append_assoc, length-map}
 use Rattle.std.proofs.lemmas.List.Elements.{All-append, All-get_or, All-from_recursion}
@@ -11,11 +11,11 @@ use Rattle.tile_core.specs.Shots.{Sight}
 use Rattle.doc_model.specs.declared.job.Job.{Job}
 use Rattle.doc_model.specs.Jobs.{apply, writes}
 use Rattle.job_core.specs.Paints.{Paint, Stuff, Makes, IsMade, layer_of}
-use Rattle.desk_steps.specs.Archives.{Archive, Way, layer_under_way, with_put}
+use Rattle.desk_steps.specs.Archives.{Archive, layer_under_way, with_put}
 use Rattle.solo_run.specs.Painting.{PaintsOn, published_in}
 use Rattle.solo_run.specs.Left.{IsLeft, IsLeftIn, IsLeftOf, AddsLeft, PutsLeft}
 use Rattle.solo_run.proofs.Fronts.{item_at, take_more, take_all}
-use Rattle.solo_run.proofs.Published.{paints_none, tile_more, put_on, put_paints, job_done}
+use Rattle.solo_run.proofs.Published.{all_keys-append, paints_none, tile_more, put_on, put_paints, job_done}
 
 -- nothing was added yet
 pub adds_none : (job : Job) (shot : Sight) (left : List Stuff) → AddsLeft job shot [] left left
@@ -39,14 +39,10 @@ adds_then job shot ks ls a b c one two = record {
 pub adds_tile : (job : Job) (shot : Sight) (ks : List Key) (i : ℕ) (k : Key) (a b c : List Stuff) → slice_get ks i ≡ Some k → AddsLeft job shot (take i ks) a b → AddsLeft job shot (k ∷ []) b c → AddsLeft job shot (take (i + 1) ks) a c
 adds_tile job shot ks i k a b c e one two = subst (λ ls. AddsLeft job shot ls a c) (sym (take_more ks i k e)) (adds_then job shot (take i ks) (k ∷ []) a b c one two)
 
-all_keys-last : (rects : List Area) (r : Area) → all_keys_of (rects ++ r ∷ []) ≡ all_keys_of rects ++ keys_of r
-all_keys-last [] r = append-nil (keys_of r)
-all_keys-last (a ∷ rects) r = ap (λ ks. keys_of a ++ ks) (all_keys-last rects r) ∙ sym (append_assoc (keys_of a) (all_keys_of rects) (keys_of r))
-
 -- one rectangle more
 pub adds_rect : (job : Job) (shot : Sight) (rects : List Area) (i : ℕ) (r : Area) (a b c : List Stuff) → slice_get rects i ≡ Some r → AddsLeft job shot (all_keys_of (take i rects)) a b → AddsLeft job shot (keys_of r) b c → AddsLeft job shot (all_keys_of (take (i + 1) rects)) a c
 adds_rect job shot rects i r a b c e one two =
-    subst (λ ks. AddsLeft job shot ks a c) (sym (ap all_keys_of (take_more rects i r e) ∙ all_keys-last (take i rects) r)) (adds_then job shot (all_keys_of (take i rects)) (keys_of r) a b c one two)
+    subst (λ ks. AddsLeft job shot ks a c) (sym (ap all_keys_of (take_more rects i r e) ∙ all_keys-append (take i rects) (r ∷ []) ∙ ap (λ ks. all_keys_of (take i rects) ++ ks) (append-nil (keys_of r)))) (adds_then job shot (all_keys_of (take i rects)) (keys_of r) a b c one two)
 
 -- all that was added to nothing
 pub added_all : (job : Job) (shot : Sight) (ks ls : List Key) (old new : List Stuff) → ks ≡ ls → old ≡ [] → AddsLeft job shot ks old new → IsLeftIn job shot ls new
