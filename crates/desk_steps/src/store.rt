@@ -11,7 +11,7 @@ ghost use Rattle.doc_model.specs.Forest.{content};
 ghost use Rattle.doc_model.specs.Changes.{changed, there};
 ghost use Rattle.doc_model.specs.declared.tree.TreeFault.{TreeFault};
 ghost use Rattle.machine_model.specs.Effects.{layer_in};
-ghost use Rattle.job_core.specs.Paints.{Paint, Makes, layer_of};
+ghost use Rattle.job_core.specs.Paints.{Paint, Makes, IsMade, layer_of};
 ghost use Rattle.desk_steps.specs.declared.reach.Reach.TheVariants as tells;
 ghost use Rattle.desk_steps.specs.declared.reach.TreeRefusal.TheVariants as refusal;
 ghost use Rattle.desk_steps.specs.declared.reach.Begun.TheVariants.{Ready, NoLayer, NotPaint};
@@ -137,6 +137,7 @@ impl Store {
         requires { is_some self.old.way ≡ true }
         ensures ok { (w : Paint) → Makes w made.now → OnOk result (self.new ≡ with_put self.old.way w self.old) }
         ensures err { OnErr result (self.new ≡ self.old) }
+        ensures known { IsMade made.now }
     {
         let _key = made.key();
         match &mut self.way {

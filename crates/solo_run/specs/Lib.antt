@@ -1,4 +1,5 @@
 pub mod Shows
 pub mod Painting
+pub mod Left
 pub mod Told
 pub mod Stale

@@ -1,21 +1,26 @@
 //! Painting the jobs of a stroke, tile by tile.
 
-ghost use Rattle.std.specs.Prelude.{◌≡◌, ℕ, true, is_some, Some, take, length, slice_get, OnOk, All};
+ghost use Rattle.std.specs.Prelude.{◌≡◌, ◌≤◌, ◌↔◌, ℕ, true, is_some, Some, take, length, slice_get, IsTrue, IfOk, OnOk, All};
 ghost use Rattle.std.specs.List.{list_any};
 ghost use Rattle.geom_core.specs.Grid.{same_key, keys_of, all_keys_of};
 ghost use Rattle.doc_model.specs.Lawful.{checks, within_limits};
 ghost use Rattle.doc_model.specs.Jobs.{reads, writes, apply, apply_all, published};
 ghost use Rattle.machine_model.specs.Effects.{writes_of};
 ghost use Rattle.job_core.specs.Paints.{layer_of};
+ghost use Rattle.desk_steps.specs.Archives.{layer_under_way};
+ghost use Rattle.solo_run.specs.Left.{IsLeft, IsLeftIn, IsLeftOf, AddsLeft, PutsLeft};
 ghost use Rattle.solo_run.specs.Painting.{PaintsOn, published_in, jobs_only};
 ghost use Rattle.solo_run.specs.Stale.{MarksTiles};
 
 use desk_steps::Store;
 use doc_model::{Job, Kind};
 use geom_core::{NoMemory, Rect, TileKey};
-use job_core::paint_tile;
+use job_core::{Made, paint_tile};
 use std::alloc::Global;
 use tile_core::{Marks, Shot};
+
+/// The most tiles of a rectangle that are few.
+const FEW_TILES: u32 = 16;
 
 /// Paints the jobs on the layer of the stroke under way, in order.
 pub(crate) fn paint_jobs(
@@ -34,8 +39,108 @@ pub(crate) fn paint_jobs(
     Ok(())
 }
 
-/// Paints a job from one shot of its reads.
+/// Paints a job from one shot of its reads. Where its tiles are few, the shot is let go before they
+/// are laid, so that tiles can be written in place.
 fn paint_job(alloc: Global, store: &mut Store, job: &Job) -> Result<(), NoMemory>
+    requires checked { checks job.now ≡ true }
+    requires limits { within_limits job.now ≡ true }
+    requires under_way { is_some store.old.way ≡ true }
+    ensures { OnOk result (PaintsOn (apply job.now) store.old store.new) }
+{
+    if writes_few(job) {
+        let left = left_of(alloc, store, job)?;
+        put_all(alloc, store, left.as_slice())
+    } else {
+        paint_many(alloc, store, job)
+    }
+}
+
+/// Whether each of the rectangles that the job writes has few tiles.
+fn writes_few(job: &Job) -> bool
+    requires { checks job.now ≡ true }
+    ensures { IsTrue result ↔ All (λ a. length (keys_of a) ≤ 16) (writes job.now) }
+{
+    let writes = job.writes();
+    writes
+        .as_slice()
+        .iter()
+        .all(|rect| rect.tile_count() <= FEW_TILES)
+}
+
+/// What a job leaves in each of its tiles, from one shot of its reads.
+fn left_of(alloc: Global, store: &Store, job: &Job) -> Result<Vec<Made>, NoMemory>
+    requires checked { checks job.now ≡ true }
+    requires limits { within_limits job.now ≡ true }
+    requires under_way { is_some store.now.way ≡ true }
+    ensures { IfOk result (λ v. IsLeftOf job.now (layer_under_way store.now.way store.now.present) v.items) }
+{
+    let reads = job.reads();
+    let shot = store.grab(alloc, reads.as_slice())?;
+    left_on(alloc, job, &shot)
+}
+
+/// What a job leaves of the shot in each of its tiles.
+fn left_on(alloc: Global, job: &Job, shot: &Shot) -> Result<Vec<Made>, NoMemory>
+    requires checked { checks job.now ≡ true }
+    requires limits { within_limits job.now ≡ true }
+    requires seen { shot.now.rects ≡ reads job.now }
+    ensures { IfOk result (λ v. IsLeftIn job.now shot.now (all_keys_of (writes job.now)) v.items) }
+{
+    let mut left = Vec::new(alloc);
+    let writes = job.writes();
+    for rect in writes.as_slice() {
+        add_left(alloc, job, shot, rect, &mut left)?;
+    }
+    Ok(left)
+}
+
+/// Adds what a job leaves of the shot in each tile of one of the rectangles that it writes.
+fn add_left(
+    alloc: Global,
+    job: &Job,
+    shot: &Shot,
+    rect: &Rect,
+    left: &mut Vec<Made>,
+) -> Result<(), NoMemory>
+    requires checked { checks job.now ≡ true }
+    requires limits { within_limits job.now ≡ true }
+    requires seen { shot.now.rects ≡ reads job.now }
+    requires written { (i : ℕ) × (slice_get (writes job.now) i ≡ Some rect.now) }
+    ensures { OnOk result (AddsLeft job.now shot.now (keys_of rect.now) left.old.items left.new.items) }
+{
+    for i in 0..rect.tile_count() {
+        let made = left_in(alloc, job, shot, rect.tile_at(i))?;
+        left.push(made)?;
+    }
+    Ok(())
+}
+
+/// What a job leaves of the shot in one tile.
+fn left_in(alloc: Global, job: &Job, shot: &Shot, key: TileKey) -> Result<Made, NoMemory>
+    requires checked { checks job.now ≡ true }
+    requires limits { within_limits job.now ≡ true }
+    requires seen { shot.now.rects ≡ reads job.now }
+    requires met { list_any (same_key key) (all_keys_of (writes job.now)) ≡ true }
+    ensures left { IfOk result (IsLeft job.now shot.now) }
+    ensures key { IfOk result (λ m. m.key ≡ key) }
+{
+    let painted = paint_tile(alloc, job, shot, key)?;
+    Ok(painted.into_made())
+}
+
+/// Lays what a job has left on the layer of the stroke under way.
+fn put_all(alloc: Global, store: &mut Store, left: &[Made]) -> Result<(), NoMemory>
+    requires { is_some store.old.way ≡ true }
+    ensures { OnOk result (PutsLeft left.now store.old store.new) }
+{
+    for made in left {
+        store.put_made(alloc, made)?;
+    }
+    Ok(())
+}
+
+/// Paints a job with many tiles from one shot of its reads, each tile laid as soon as it is painted.
+fn paint_many(alloc: Global, store: &mut Store, job: &Job) -> Result<(), NoMemory>
     requires checked { checks job.now ≡ true }
     requires limits { within_limits job.now ≡ true }
     requires under_way { is_some store.old.way ≡ true }
