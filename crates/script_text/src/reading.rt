@@ -14,7 +14,7 @@ use crate::draft::{Draft, add_last};
 use crate::script::{ReadRefusal, Script, ScriptFault};
 use doc_model::{Canvas, Command};
 use script_forms::{Word, canvas, command_of, is, word_of};
-use script_lines::{Cause, fields_of, is_command, lines_of};
+use script_lines::{Cause, fields_into, is_command, lines_of};
 use std::alloc::Global;
 
 /// Where a stroke starts.
@@ -199,9 +199,10 @@ pub fn read(alloc: Global, bytes: &[u8]) -> Result<Script, ReadRefusal>
     ensures { Answers result (fault bytes.now) (script bytes.now) }
 {
     let lines = lines_of(alloc, bytes)?;
+    let mut fields = Vec::new(alloc);
     let mut reading = Reading::new(alloc);
     for i in 0..lines.len() {
-        let fields = fields_of(alloc, lines[i])?;
+        fields_into(lines[i], &mut fields)?;
         if is_command(&fields) {
             reading = reading.take(i as u32 + 1, &fields)?;
         }

@@ -27,7 +27,7 @@ overflow_add-i c =
 pub returns-in_err-reading : goal.returns-in_err-reading
 returns-in_err-reading c =
     let refs = c.in_ok-lines.lines.items in
-    let f = pointed c.in_ok-fields.fields.items in
+    let f = pointed c.fields_into.new.fields.items in
     let i = c.loop-i.i in
     let r = c.loop-i.reading in
     let h : i < length refs = search rules in
@@ -42,7 +42,7 @@ pub loop-i-preserved : goal.loop-i-preserved
 loop-i-preserved c =
     let refs = c.in_ok-lines.lines.items in
     let all = map fields (pointed refs) in
-    let f = pointed c.in_ok-fields.fields.items in
+    let f = pointed c.fields_into.new.fields.items in
     let i = c.loop-i.i in
     let r = c.loop-i.reading in
     let total = fault c.args.bytes.now in
