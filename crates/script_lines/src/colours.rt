@@ -6,21 +6,29 @@ ghost use Rattle.script_lines.specs.Colours.{hex_digit as digit_of, hex_byte as 
 use crate::Cause;
 use pixel_core::Pixel;
 
-fn hex_digit(digit: u8) -> Result<u32, Cause>
+/// The value of a hexadecimal digit, of either case.
+#[inline]
+fn hex_digit(digit: u8) -> Result<u8, Cause>
     ensures value { result ≡ digit_of digit }
     ensures small { IfOk result (λ n. n < 16) }
 {
-    (digit as char).to_digit(16).ok_or(Cause::Number)
+    match digit {
+        b'0'..=b'9' => Ok(digit - b'0'),
+        b'a'..=b'f' => Ok(digit - b'a' + 10),
+        b'A'..=b'F' => Ok(digit - b'A' + 10),
+        _ => Err(Cause::Number),
+    }
 }
 
 /// The byte that two hexadecimal digits spell.
 #[tactic(auto, unfolding(crate::specs::Colours::hex_byte))]
+#[inline]
 fn hex_byte(high: u8, low: u8) -> Result<u8, Cause>
     ensures { result ≡ byte_of high low }
 {
     let x = hex_digit(high)?;
     let y = hex_digit(low)?;
-    Ok((16 * x + y) as u8)
+    Ok(16 * x + y)
 }
 
 /// Six hexadecimal digits: an opaque pixel.

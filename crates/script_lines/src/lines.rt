@@ -1,8 +1,8 @@
 //! Lines of a script and their fields.
 
-ghost use Rattle.std.specs.Prelude.{◌≡◌, ◌==◌, IfOk};
+ghost use Rattle.std.specs.Prelude.{◌≡◌, ◌==◌, IfOk, OnOk};
 ghost use Rattle.std.specs.List.{slice_split};
-ghost use Rattle.script_lines.specs.Lines.{pointed, fields, is_command as starts, is_blank as blank};
+ghost use Rattle.script_lines.specs.Lines.{pointed, fields as fields_in, is_command as starts, is_blank as blank};
 
 use std::alloc::{AllocError, Global};
 
@@ -19,13 +19,15 @@ pub fn lines_of<'a>(alloc: Global, bytes: &'a [u8]) -> Result<Vec<&'a [u8]>, All
     bytes.split(|b| *b == 10).collect(alloc)
 }
 
-/// The fields of a line.
-pub fn fields_of<'a>(alloc: Global, line: &'a [u8]) -> Result<Vec<&'a [u8]>, AllocError>
-    ensures { IfOk result (λ v. pointed v.items ≡ fields line.now) }
+/// Replaces what the list holds by the fields of a line, so that one list serves all lines.
+pub fn fields_into<'a>(line: &'a [u8], fields: &mut Vec<&'a [u8]>) -> Result<(), AllocError>
+    ensures { OnOk result (pointed fields.new.items ≡ fields_in line.now) }
 {
-    line.split(|b| is_blank(*b))
-        .filter(|piece| !piece.is_empty())
-        .collect(alloc)
+    fields.clear();
+    fields.extend(
+        line.split(|b| is_blank(*b))
+            .filter(|piece| !piece.is_empty()),
+    )
 }
 
 /// Whether the fields of a line are those of a command.

@@ -115,7 +115,7 @@ unfolding fault_after
 stops before rest n f total c h so_far = sym so_far ∙ rw h refl
 
 -- a line that is refused
-pub refused : (e : ReadRefusal) (n : ℕ) (f : Fields) (r : Reading) (before rest : List NumberedLine) (total : Option ScriptFault) (told : Option Contents) → IsReading r before → IsRefused {A = Reading} (Err e) n (cause_by r.canvas r.draft f) → fault_after before (line n f ∷ rest) ≡ total → Answers (Err e) total told
+pub refused : (e : ReadRefusal) (n : ℕ) (f : Fields) (r : Reading) (before rest : List NumberedLine) (total : Option ScriptFault) (told : Option Contents) → IsReading r before → IsRefused {A = Unit {0}} (Err e) n (cause_by r.canvas r.draft f) → fault_after before (line n f ∷ rest) ≡ total → Answers (Err e) total told
 refused (Fault g) n f r before rest total told is h so_far = stops before rest n f total g.cause (same_cause r before f (Some g.cause) is h.1) so_far ∙ ap (λ k. Some (record { line = k; cause = g.cause })) (sym h.0)
 refused NoMemory n f r before rest total told is h so_far = tt
 
@@ -195,7 +195,7 @@ passed all i f r total h e c g = record {
 }
 
 -- at a line that is refused
-pub refused_at : (all : List Fields) (i : ℕ) (f : Fields) (r : Reading) (total : Option ScriptFault) (told : Option Contents) (e : ReadRefusal) → i < length all → f ≡ get_or all i f → is_command f ≡ true → Going all i r total → IsRefused {A = Reading} (Err e) (i + 1) (cause_by r.canvas r.draft f) → Answers (Err e) total told
+pub refused_at : (all : List Fields) (i : ℕ) (f : Fields) (r : Reading) (total : Option ScriptFault) (told : Option Contents) (e : ReadRefusal) → i < length all → f ≡ get_or all i f → is_command f ≡ true → Going all i r total → IsRefused {A = Unit {0}} (Err e) (i + 1) (cause_by r.canvas r.draft f) → Answers (Err e) total told
 refused_at all i f r total told e h at c g k = refused e (i + 1) f r (cmds 1 (take i all)) (cmds (i + 1 + 1) (drop (i + 1) all)) total told g.reading k (ap (fault_after (cmds 1 (take i all))) (sym (taken_rest all i f h at c)) ∙ g.rest)
 
 -- at the end

@@ -1,10 +1,11 @@
 //! Commands in order, and what has to be known of them to add one more.
 
-ghost use Rattle.std.specs.Prelude.{◌≡◌, [], ◌∷◌, ◌++◌, None, IfOk, IfSome, OnOk, ◌<◌, ◌≤◌};
+ghost use Rattle.std.specs.Prelude.{◌≡◌, [], ◌∷◌, ◌++◌, None, IfOk, IfSome, OnOk, OnErr, ◌<◌, ◌≤◌};
 ghost use Rattle.std.specs.Prelude.{ℕ, true, length, if◌then◌else◌};
 ghost use Rattle.std.specs.List.{list_any, list_all};
 ghost use Rattle.std.specs.Ordering.{nat_cmp};
 ghost use Rattle.std.specs.BTreeMap.{get};
+ghost use Rattle.std.specs.Vec.{vec_len, vec_capacity};
 ghost use Rattle.doc_model.specs.Strokes.{entries};
 ghost use Rattle.doc_model.specs.Lawful.{is_open_stroke, lawful};
 ghost use Rattle.script_forms.specs.Ranges.{in_range, is_sound};
@@ -129,7 +130,8 @@ fn exports_after(exports: u32, command: &Command) -> u32
 /// Keeps what the command says of its stroke.
 fn keep(strokes: &mut BTreeMap<u32, Fed>, command: &Command) -> Result<(), NoMemory>
     requires { (m : ℕ) → is_few (get nat_cmp strokes.old m) ≡ true }
-    ensures { OnOk result ((m : ℕ) → get nat_cmp strokes.new m ≡ next_fed command.now m (get nat_cmp strokes.old m)) }
+    ensures kept { OnOk result ((m : ℕ) → get nat_cmp strokes.new m ≡ next_fed command.now m (get nat_cmp strokes.old m)) }
+    ensures same { OnErr result ((m : ℕ) → get nat_cmp strokes.new m ≡ get nat_cmp strokes.old m) }
 {
     let Some(no) = stroke_of(command) else {
         return Ok(());
@@ -196,18 +198,18 @@ impl Draft {
         }
     }
 
-    /// The commands with one more.
-    pub(crate) fn add(self, command: Command) -> Result<Draft, NoMemory>
-        requires fits { said_misfit (entries self) command ≡ None }
+    /// Adds a command. Nothing is added where no memory is left.
+    pub(crate) fn add(&mut self, command: Command) -> Result<(), NoMemory>
+        requires fits { said_misfit (entries self.old) command ≡ None }
         requires ranges { in_range command ≡ true }
         requires sound { is_sound command ≡ true }
-        ensures { IfOk result (λ d. d ≡ self ++ command ∷ []) }
+        ensures { OnOk result (self.new ≡ self.old ++ command ∷ []) }
     {
-        let mut draft = self;
-        keep(&mut draft.strokes, &command)?;
-        draft.exports = exports_after(draft.exports, &command);
-        add_last(&mut draft.commands, command)?;
-        Ok(draft)
+        make_room(&mut self.commands)?;
+        keep(&mut self.strokes, &command)?;
+        self.exports = exports_after(self.exports, &command);
+        put_last(&mut self.commands, command);
+        Ok(())
     }
 
     /// The commands, and no more.
@@ -226,4 +228,21 @@ pub(crate) fn add_last<T: Copy>(items: &mut Vec<T>, item: T) -> Result<(), NoMem
 {
     items.push(item)?;
     Ok(())
+}
+
+/// Makes room for one more item.
+fn make_room<T: Copy>(items: &mut Vec<T>) -> Result<(), NoMemory>
+    ensures items { items.new.items ≡ items.old.items }
+    ensures room { OnOk result (vec_len items.new < vec_capacity items.new) }
+{
+    items.reserve(1)?;
+    Ok(())
+}
+
+/// Adds an item at the end, where there is room for it.
+fn put_last<T: Copy>(items: &mut Vec<T>, item: T)
+    requires { vec_len items.old < vec_capacity items.old }
+    ensures { items.new.items ≡ items.old.items ++ item ∷ [] }
+{
+    items.push_reserved(item);
 }

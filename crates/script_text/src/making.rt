@@ -138,7 +138,7 @@ fn gather(alloc: Global, canvas: Canvas, commands: &[Command]) -> Result<Reading
             return Err(MakeRefusal::NotScript);
         }
         match reading.add(1, command) {
-            Ok(more) => reading = more,
+            Ok(()) => {}
             Err(ReadRefusal::Fault(_)) => return Err(MakeRefusal::NotScript),
             Err(ReadRefusal::NoMemory) => return Err(MakeRefusal::NoMemory),
         }

@@ -14,7 +14,7 @@ use crate::draft::{Draft, add_last};
 use crate::script::{ReadRefusal, Script, ScriptFault};
 use doc_model::{Canvas, Command};
 use script_forms::{Word, canvas, command_of, is, word_of};
-use script_lines::{Cause, fields_of, is_command, lines_of};
+use script_lines::{Cause, fields_into, is_command, lines_of};
 use std::alloc::Global;
 
 /// Where a stroke starts.
@@ -74,59 +74,51 @@ impl Reading {
     }
 
     /// A canvas line, behind its word.
-    fn take_canvas(self, number: u32, others: &[&[u8]]) -> Result<Reading, ReadRefusal>
-        requires { Fits self.canvas }
-        ensures refused { IsRefused result number (canvas_cause self.canvas (pointed others.now)) }
-        ensures canvas { IfOk result (λ r. r.canvas ≡ given (said_canvas (pointed others.now))) }
-        ensures draft { IfOk result (λ r. r.draft ≡ self.draft) }
-        ensures starts { IfOk result (λ r. r.starts ≡ self.starts) }
-        ensures first { OnOk result (self.canvas ≡ None) }
-        ensures fits { IfOk result (λ r. Fits r.canvas) }
+    fn take_canvas(&mut self, number: u32, others: &[&[u8]]) -> Result<(), ReadRefusal>
+        requires { Fits self.old.canvas }
+        ensures refused { IsRefused result number (canvas_cause self.old.canvas (pointed others.now)) }
+        ensures canvas { OnOk result (self.new.canvas ≡ given (said_canvas (pointed others.now))) }
+        ensures draft { OnOk result (self.new.draft ≡ self.old.draft) }
+        ensures starts { OnOk result (self.new.starts ≡ self.old.starts) }
+        ensures first { OnOk result (self.old.canvas ≡ None) }
+        ensures fits { OnOk result (Fits self.new.canvas) }
     {
         if self.canvas.is_some() {
             return Err(at(number, Cause::CanvasAgain));
         }
         match canvas(others) {
-            Ok(canvas) => Ok(Reading {
-                canvas: Some(canvas),
-                draft: self.draft,
-                starts: self.starts,
-            }),
-            Err(cause) => Err(at(number, cause)),
+            Ok(canvas) => self.canvas = Some(canvas),
+            Err(cause) => return Err(at(number, cause)),
         }
+        Ok(())
     }
 
     /// What a line says, where it says a command.
-    pub(crate) fn add(self, number: u32, command: Command) -> Result<Reading, ReadRefusal>
+    pub(crate) fn add(&mut self, number: u32, command: Command) -> Result<(), ReadRefusal>
         requires ranges { in_range command ≡ true }
         requires sound { is_sound command ≡ true }
-        ensures refused { IsRefused result number (misfit (entries self.draft) command) }
-        ensures taken { IfOk result (λ r. TakesCommand self r number (Some command)) }
+        ensures refused { IsRefused result number (misfit (entries self.old.draft) command) }
+        ensures taken { OnOk result (TakesCommand self.old self.new number (Some command)) }
     {
         if let Some(cause) = self.draft.misfit(&command) {
             return Err(at(number, cause));
         }
-        let start = start_of(number, &command);
-        let mut starts = self.starts;
-        if let Some(start) = start {
-            add_last(&mut starts, start)?;
+        self.draft.add(command)?;
+        if let Some(start) = start_of(number, &command) {
+            add_last(&mut self.starts, start)?;
         }
-        Ok(Reading {
-            canvas: self.canvas,
-            draft: self.draft.add(command)?,
-            starts,
-        })
+        Ok(())
     }
 
     /// A line other than a canvas, behind its word.
     fn take_word(
-        self,
+        &mut self,
         number: u32,
         word: Option<Word>,
         others: &[&[u8]],
-    ) -> Result<Reading, ReadRefusal>
-        ensures refused { IsRefused result number (word_cause self.canvas self.draft word (pointed others.now)) }
-        ensures taken { IfOk result (λ r. TakesCommand self r number (command_by word (pointed others.now))) }
+    ) -> Result<(), ReadRefusal>
+        ensures refused { IsRefused result number (word_cause self.old.canvas self.old.draft word (pointed others.now)) }
+        ensures taken { OnOk result (TakesCommand self.old self.new number (command_by word (pointed others.now))) }
     {
         let Some(word) = word else {
             return Err(at(number, Cause::UnknownWord));
@@ -142,14 +134,14 @@ impl Reading {
 
     /// A line that is a command.
     #[tactic(auto, unfolding(crate::specs::Reading::cause_by))]
-    fn take(self, number: u32, fields: &[&[u8]]) -> Result<Reading, ReadRefusal>
-        requires { Fits self.canvas }
-        ensures refused { IsRefused result number (cause_by self.canvas self.draft (pointed fields.now)) }
-        ensures taken { IfOk result (λ r. Takes self r number (pointed fields.now)) }
-        ensures fits { IfOk result (λ r. Fits r.canvas) }
+    fn take(&mut self, number: u32, fields: &[&[u8]]) -> Result<(), ReadRefusal>
+        requires { Fits self.old.canvas }
+        ensures refused { IsRefused result number (cause_by self.old.canvas self.old.draft (pointed fields.now)) }
+        ensures taken { OnOk result (Takes self.old self.new number (pointed fields.now)) }
+        ensures fits { OnOk result (Fits self.new.canvas) }
     {
         match fields {
-            [] => Ok(self),
+            [] => Ok(()),
             [word, others @ ..] => {
                 if is(word, b"canvas") {
                     self.take_canvas(number, others)
@@ -199,11 +191,12 @@ pub fn read(alloc: Global, bytes: &[u8]) -> Result<Script, ReadRefusal>
     ensures { Answers result (fault bytes.now) (script bytes.now) }
 {
     let lines = lines_of(alloc, bytes)?;
+    let mut fields = Vec::new(alloc);
     let mut reading = Reading::new(alloc);
     for i in 0..lines.len() {
-        let fields = fields_of(alloc, lines[i])?;
+        fields_into(lines[i], &mut fields)?;
         if is_command(&fields) {
-            reading = reading.take(i as u32 + 1, &fields)?;
+            reading.take(i as u32 + 1, &fields)?;
         }
     }
     reading.finish()
