@@ -114,7 +114,7 @@ fn the_engine_paints_what_is_told(rt: HostRuntime) -> Result<(), Fail> {
         let told = plain_frames(rt.alloc(), &script)?;
         assert_eq!(rt; shown.outcomes, told.outcomes, "outcomes of seed {seed}");
         assert!(rt;
-            all_show(&shown.frames, &told.frames),
+            all_show(shown.film.frames(), &told.frames),
             "frames of seed {seed}"
         );
     }
