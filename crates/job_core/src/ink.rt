@@ -5,7 +5,8 @@ ghost use Rattle.pixel_core.specs.declared.blending.Op.TheVariants.{Over};
 ghost use Rattle.pixel_core.specs.Compose.{compose as composed};
 ghost use Rattle.job_core.specs.Inks.{LaysInk};
 
-use pixel_core::{Op, Pixel, compose};
+use pixel_core::{Op, Pixel};
+use pixel_rows::lay;
 
 /// A colour, and how it is laid on pixels.
 #[derive(Clone, Copy)]
@@ -34,7 +35,7 @@ pub fn laid_on(old: Pixel, ink: &Ink, strength: u8) -> Pixel
     if strength == 255 && hides(ink) {
         hidden_by(old, ink.colour)
     } else {
-        compose(ink.op, ink.colour, old, strength)
+        lay(ink.op, ink.colour, old, strength)
     }
 }
 
@@ -85,6 +86,6 @@ fn mix_all(pixels: &mut [Pixel], ink: &Ink)
     ensures { LaysInk ink.now pixels.old pixels.new }
 {
     for i in 0..pixels.len() {
-        pixels[i] = compose(ink.op, ink.colour, pixels[i], ink.strength);
+        pixels[i] = lay(ink.op, ink.colour, pixels[i], ink.strength);
     }
 }

@@ -17,8 +17,9 @@ use std::alloc::Global;
 use std::marker::Model;
 use std::sync::Arc;
 
-/// 64 rows of 64 pixels behind a counted reference. A tile never changes: a write makes a new one,
-/// and whoever shares the old one keeps reading it.
+/// 64 rows of 64 pixels behind a counted reference. A shared tile never changes: a write makes a new
+/// one, and whoever shares the old one keeps reading it. Only where nobody shares it may a tile be
+/// written in place.
 #[derive(Drop)]
 pub struct Tile {
     pixels: Arc<Vec<Pixel>>,
