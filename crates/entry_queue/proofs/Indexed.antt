@@ -103,15 +103,19 @@ find_waiting slots waiting (k ∷ ks) n test all tests h = go (find_waiting slot
     go find_later None e h = find_later h
     go find_later (Some x) e h = elim (or_cases (test x) _ h) [ inl t ↦ here x e t (tests x t) | inr l ↦ find_later l ]
 
--- an index goes on where one stroke that waits has changed, and nothing else
-pub found_grown : (slots new : ℕ → Option Entry) (waiting : ℕ → Option ℕ) (ks : List ℕ) (key : ℕ) (s t : Fed) → AllByRecursion (IsFound slots waiting) ks → slots key ≡ Some (Waiting s) → new key ≡ Some (Waiting t) → t.no ≡ s.no → ((k : ℕ) → k ≢ key → new k ≡ slots k) → AllByRecursion (IsFound new waiting) ks
-found_grown slots new waiting ks key s t all old now number same = all_map (IsFound slots waiting) (IsFound new waiting) ks each all
+-- it stands under the key that is known by its number
+pub held_at : (slots : ℕ → Option Entry) (waiting : ℕ → Option ℕ) (n : ℕ) (test : Entry → Bool) (there : IsAt slots waiting n test) (key : ℕ) → waiting n ≡ Some key → slots key ≡ Some (Waiting there.stroke)
+held_at slots waiting n test there key known = let same : Some key ≡ Some there.key = sym known ∙ there.known in let is_key : key ≡ there.key = cc in ap slots is_key ∙ there.held
+
+-- an index goes on where one stroke that waits has one more job, and nothing else has changed
+found_grown : (slots new : ℕ → Option Entry) (waiting : ℕ → Option ℕ) (ks : List ℕ) (key : ℕ) (job : Kind × Job) (s : Fed) → AllByRecursion (IsFound slots waiting) ks → slots key ≡ Some (Waiting s) → new key ≡ Some (Waiting (grown s job)) → ((k : ℕ) → k ≢ key → new k ≡ slots k) → AllByRecursion (IsFound new waiting) ks
+found_grown slots new waiting ks key job s all old now same = all_map (IsFound slots waiting) (IsFound new waiting) ks each all
   where
     each : (k : ℕ) → IsFound slots waiting k → IsFound new waiting k
     each k found = elim (true_or_false (eqb k key)) [
       | inl h ↦ (let is_key : k ≡ key = equal k key h in record {
         held = ap is_some (ap new is_key ∙ now);
-        known = λ u e. let w : Some (Waiting u) ≡ Some (Waiting t) = sym e ∙ ap new is_key ∙ now in let v : u ≡ t = cc in ap (λ (x : Fed). waiting x.no) v ∙ ap waiting number ∙ found.known s (ap slots is_key ∙ old);
+        known = λ u e. let w : Some (Waiting u) ≡ Some (Waiting (grown s job)) = sym e ∙ ap new is_key ∙ now in let v : u ≡ grown s job = cc in ap (λ (x : Fed). waiting x.no) v ∙ found.known s (ap slots is_key ∙ old);
       })
       | inr h ↦ (let other : k ≢ key = unequal k key h in record {
         held = ap is_some (same k other) ∙ found.held;
@@ -197,6 +201,9 @@ pub record IsReplaced (slots new : ℕ → Option Entry) (key : ℕ) (e : Entry)
   pub now : new key ≡ Some e
   pub others : (k : ℕ) → k ≢ key → new k ≡ slots k
 
+pub updated : (old new : Slab Entry) (key : ℕ) (e : Entry) → Updates old new key (Some e) → IsReplaced (get old) (get new) key e
+updated old new key e u = record { now = u.changed; others = u.others }
+
 pub replaced : (old mid new : Slab Entry) (key at : ℕ) (e : Entry) → Updates old mid key None → at ≡ key → Updates mid new at (Some e) → IsReplaced (get old) (get new) key e
 replaced old mid new key at e first same second = record {
   now = ap (get new) (sym same) ∙ second.changed;
@@ -268,27 +275,20 @@ close_stays n cancelled (Whole c) h = refl
 close_stays n cancelled (Other c) h = refl
 
 -- one more job of the stroke under a key
-pub left_added : (slots new : ℕ → Option Entry) (waiting : ℕ → Option ℕ) (ks : List ℕ) (n key : ℕ) (job : Kind × Job) (s t : Fed) → IsIndexed slots waiting ks → waiting n ≡ Some key → slots key ≡ Some (Waiting s) → s.no ≡ n → IsReplaced slots new key (Waiting t) → t ≡ grown s job → entries_at new ks ≡ map (with_job n job) (entries_at slots ks)
-left_added slots new waiting ks n key job s t h known old number r same =
-    entries_changed slots new waiting ks n key (with_job n job) (Waiting s) h.each known old (r.now ∙ ap (λ f. Some (Waiting f)) same ∙ sym (ap Some (taken (eqb s.no n) (Waiting (grown s job)) (Waiting s) (same_number s.no n number)))) r.others (job_stays n job)
+pub left_added : (slots new : ℕ → Option Entry) (waiting : ℕ → Option ℕ) (ks : List ℕ) (n key : ℕ) (job : Kind × Job) (s : Fed) → IsIndexed slots waiting ks → waiting n ≡ Some key → slots key ≡ Some (Waiting s) → s.no ≡ n → IsReplaced slots new key (Waiting (grown s job)) → entries_at new ks ≡ map (with_job n job) (entries_at slots ks)
+left_added slots new waiting ks n key job s h known old number r =
+    entries_changed slots new waiting ks n key (with_job n job) (Waiting s) h.each known old (r.now ∙ sym (ap Some (taken (eqb s.no n) (Waiting (grown s job)) (Waiting s) (same_number s.no n number)))) r.others (job_stays n job)
 
 -- the close of the stroke under a key
 pub left_closed : (slots new : ℕ → Option Entry) (waiting : ℕ → Option ℕ) (ks : List ℕ) (n key : ℕ) (cancelled : Bool) (s : Fed) (c : Closed) → IsIndexed slots waiting ks → waiting n ≡ Some key → slots key ≡ Some (Waiting s) → s.no ≡ n → IsReplaced slots new key (Whole c) → c ≡ record { stroke = s; cancelled = cancelled } → entries_at new ks ≡ map (closed n cancelled) (entries_at slots ks)
 left_closed slots new waiting ks n key cancelled s c h known old number r same =
     entries_changed slots new waiting ks n key (closed n cancelled) (Waiting s) h.each known old (r.now ∙ ap (λ f. Some (Whole f)) same ∙ sym (ap Some (taken (eqb s.no n) (Whole (record { stroke = s; cancelled = cancelled })) (Waiting s) (same_number s.no n number)))) r.others (close_stays n cancelled)
 
--- the stroke goes back as it was
-pub left_same : (slots new : ℕ → Option Entry) (ks : List ℕ) (key : ℕ) (s t : Fed) → slots key ≡ Some (Waiting s) → IsReplaced slots new key (Waiting t) → t ≡ s → entries_at new ks ≡ entries_at slots ks
-left_same slots new ks key s t old r same = λ i. entries_at (λ k. each k i) ks
-  where
-    each : (k : ℕ) → new k ≡ slots k
-    each k = elim (true_or_false (eqb k key)) [
-      | inl h ↦ ap new (equal k key h) ∙ r.now ∙ ap (λ f. Some (Waiting f)) same ∙ sym old ∙ sym (ap slots (equal k key h))
-      | inr h ↦ r.others k (unequal k key h)
-    ]
+pub indexed_grown : (slots new : ℕ → Option Entry) (waiting : ℕ → Option ℕ) (ks : List ℕ) (key : ℕ) (job : Kind × Job) (s : Fed) → IsIndexed slots waiting ks → slots key ≡ Some (Waiting s) → IsReplaced slots new key (Waiting (grown s job)) → IsIndexed new waiting ks
+indexed_grown slots new waiting ks key job s h old r = record { each = found_grown slots new waiting ks key job s h.each old r.now r.others; differ = h.differ }
 
-pub indexed_grown : (slots new : ℕ → Option Entry) (waiting : ℕ → Option ℕ) (ks : List ℕ) (key : ℕ) (s t : Fed) → IsIndexed slots waiting ks → slots key ≡ Some (Waiting s) → IsReplaced slots new key (Waiting t) → t.no ≡ s.no → IsIndexed new waiting ks
-indexed_grown slots new waiting ks key s t h old r number = record { each = found_grown slots new waiting ks key s t h.each old r.now number r.others; differ = h.differ }
+pub indexed_same : (slots new : ℕ → Option Entry) (waiting : ℕ → Option ℕ) (ks : List ℕ) → IsIndexed slots waiting ks → ((k : ℕ) → new k ≡ slots k) → IsIndexed new waiting ks
+indexed_same slots new waiting ks h same = subst (λ s. IsIndexed s waiting ks) (λ i k. sym (same k) i) h
 
 pub indexed_closed : (slots new : ℕ → Option Entry) (waiting less : ℕ → Option ℕ) (ks : List ℕ) (n key : ℕ) (c : Closed) → IsIndexed slots waiting ks → waiting n ≡ Some key → IsReplaced slots new key (Whole c) → ((m : ℕ) → m ≢ n → less m ≡ waiting m) → IsIndexed new less ks
 indexed_closed slots new waiting less ks n key c h known r rest = record { each = found_closed slots new waiting less ks n key (Whole c) h.each known r.now (λ s e. cc) r.others rest; differ = h.differ }
@@ -301,9 +301,9 @@ pub on_ok : {A E : Type 0} (r : Result A E) (P Q : Type 0) → (P → Q) → OnO
 on_ok (Ok x) P Q f p = f p
 on_ok (Err e) P Q f p = tt
 
-pub on_err : {A E : Type 0} (r : Result A E) (P Q : Type 0) → (P → Q) → OnErr r P → OnErr r Q
-on_err (Ok x) P Q f p = tt
-on_err (Err e) P Q f p = f p
+pub on_either : {A E : Type 0} (r : Result A E) (P Q R : Type 0) → (P → R) → (Q → R) → OnOk r P → OnErr r Q → R
+on_either (Ok x) P Q R f g p q = f p
+on_either (Err e) P Q R f g p q = g q
 
 -- what is pushed that is neither a stroke's nor a new stroke
 pub pushed_other : (es : List Entry) (c : Command) → ((n layer : ℕ) (exclusive : Bool) → c ≡ command.Stroke n layer exclusive → ⊥) → ((n : ℕ) (kind : Kind) (job : Job) → c ≡ command.Add n kind job → ⊥) → ((n : ℕ) → c ≡ command.End n → ⊥) → ((n : ℕ) → c ≡ command.Cancel n → ⊥) → pushed es c ≡ es ++ Other c ∷ []

@@ -1,5 +1,5 @@
 -- The entries that are left, and what a command does to them.
-use Rattle.std.specs.Prelude.{◌≡◌, ℕ, ◌==◌, ◌≤◌, nat_lt, Bool, true, false, ◌&&◌, not, if◌then◌else◌, Option, Some, None, List, [], ◌∷◌, ◌++◌, map, length, drop, take}
+use Rattle.std.specs.Prelude.{◌≡◌, ℕ, ◌==◌, ◌<◌, ◌≤◌, nat_lt, Bool, true, false, ◌&&◌, not, if◌then◌else◌, Option, Some, None, List, [], ◌∷◌, ◌++◌, map, length, drop, take}
 use Rattle.std.specs.List.{list_any, list_all}
 use Rattle.doc_model.specs.declared.job.Job.{Job}
 use Rattle.doc_model.specs.declared.job.Kind.{Kind}
@@ -30,6 +30,16 @@ with_last jobs job (Some pair) = jobs
 -- the stroke after one more job
 abbrev pub grown : Fed → Kind × Job → Fed
 grown s job = record s { jobs = with_last s.jobs job (found s job); overlap = found s job }
+
+-- the entry takes one more job: it is a waiting stroke with fewer than 4096 kept jobs
+abbrev pub TakesJob : Entry → Type 0
+TakesJob (Waiting s) = length s.jobs < 4096
+TakesJob e = ⊥
+
+-- the entry after one more job, where it is a waiting stroke
+abbrev pub after_job : Kind × Job → Entry → Entry
+after_job job (Waiting s) = Waiting (grown s job)
+after_job job e = e
 
 -- the waiting stroke with that number, after one more job
 abbrev pub with_job : ℕ → Kind × Job → Entry → Entry

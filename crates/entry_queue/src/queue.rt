@@ -1,11 +1,11 @@
 //! The queue.
 
-ghost use Rattle.std.specs.Prelude.{◌≡◌, ◌+◌, ◌<◌, ◌≤◌, true, false, Some, None, List, [], ◌∷◌, ◌++◌, map, drop, length, slice_get, option_copied, IsNone, ◌↔◌, OnOk, OnErr, vec_len, vec_capacity};
+ghost use Rattle.std.specs.Prelude.{◌≡◌, ◌+◌, ◌<◌, ◌≤◌, true, false, Some, None, List, [], ◌∷◌, ◌++◌, map, drop, length, slice_get, option_copied, option_map, IsNone, IsSomeAnd, ◌↔◌, OnOk, OnErr, vec_len, vec_capacity};
 ghost use Rattle.std.specs.List.{list_any};
 ghost use Rattle.std.specs.VecDeque.{deque_len, deque_capacity};
-ghost use Rattle.slab.specs.Slab.{get, HasRoomFor, Updates};
+ghost use Rattle.slab.specs.Slab.{get, HasRoomFor, SameValues, Updates};
 ghost use Rattle.entry_queue.specs.Keys.{HasWaiting};
-ghost use Rattle.entry_queue.specs.Pushed.{grown};
+ghost use Rattle.entry_queue.specs.Pushed.{TakesJob, after_job, grown};
 ghost use Rattle.entry_queue.specs.declared.entry.Entry.TheVariants.{Waiting, Whole, Other};
 ghost use Rattle.doc_model.specs.Lawful.{checks, lawful};
 ghost use Rattle.doc_model.specs.declared.command.Command.{Command};
@@ -74,22 +74,22 @@ impl Queue {
         ensures err { OnErr result (self.new ≡ self.old) }
         ensures stands { (before : List Command) → lawful (before ++ command.now ∷ []) ≡ true → StandsFor before self.old → OnOk result (StandsFor (before ++ command.now ∷ []) self.new) }
     {
-        match *command {
+        match command {
             Command::Stroke {
                 no,
                 layer,
                 exclusive,
-            } => self.open(no, layer, exclusive),
-            Command::Add { no, kind, job } => self.add(no, kind, job),
+            } => self.open(*no, *layer, *exclusive),
+            Command::Add { no, kind, job } => self.add(*no, *kind, job),
             Command::End { no } => {
-                self.close(no, false);
+                self.close(*no, false);
                 Ok(())
             }
             Command::Cancel { no } => {
-                self.close(no, true);
+                self.close(*no, true);
                 Ok(())
             }
-            other => self.append(other),
+            other => self.append(*other),
         }
     }
 
@@ -149,20 +149,16 @@ impl Queue {
     }
 
     /// One more job of a waiting stroke.
-    fn add(&mut self, no: u32, kind: Kind, job: Job) -> Result<(), NoMemory>
-        requires checked { checks job ≡ true }
+    fn add(&mut self, no: u32, kind: Kind, job: &Job) -> Result<(), NoMemory>
+        requires checked { checks job.now ≡ true }
         requires room { list_any (has_room no) self.old.left ≡ true }
-        ensures ok { OnOk result (self.new ≡ record self.old { left = map (with_job no (kind, job)) self.old.left }) }
+        ensures ok { OnOk result (self.new ≡ record self.old { left = map (with_job no (kind, job.now)) self.old.left }) }
         ensures err { OnErr result (self.new ≡ self.old) }
     {
         let Some(&key) = self.waiting.get(&no) else {
             unreachable!()
         };
-        // It goes back under the same key, which is the slab's next.
-        let mut stroke = take_waiting(&mut self.entries, key);
-        let added = add_job(&mut stroke, kind, job);
-        self.entries.insert_reserved(Entry::Waiting(stroke));
-        added
+        feed(&mut self.entries, key, kind, job)
     }
 
     /// Closes a waiting stroke.
@@ -173,21 +169,47 @@ impl Queue {
         let Some(key) = self.waiting.remove(&no) else {
             unreachable!()
         };
+        // It goes back under the same key, which is the slab's next.
         let stroke = take_waiting(&mut self.entries, key);
         self.entries
             .insert_reserved(Entry::Whole(close(stroke, cancelled)));
     }
 }
 
-/// Adds a job. That it conflicts is no error here.
-fn add_job(stroke: &mut OpenStroke, kind: Kind, job: Job) -> Result<(), NoMemory>
-    requires checked { checks job ≡ true }
-    requires room { length stroke.old.jobs < 4096 }
-    ensures ok { OnOk result (stroke.new ≡ grown stroke.old (kind, job)) }
-    ensures err { OnErr result (stroke.new ≡ stroke.old) }
-    ensures number { stroke.new.no ≡ stroke.old.no }
+/// Adds a job to the waiting stroke under that key, where it stands.
+fn feed(entries: &mut Slab<Entry>, key: usize, kind: Kind, job: &Job) -> Result<(), NoMemory>
+    requires checked { checks job.now ≡ true }
+    requires room { IsSomeAnd (get entries.old key) TakesJob }
+    ensures ok { OnOk result (Updates entries.old entries.new key (option_map (after_job (kind, job.now)) (get entries.old key))) }
+    ensures err { OnErr result (SameValues entries.old entries.new) }
 {
-    match stroke.add(kind, job) {
+    match entries.get_mut(key) {
+        Some(entry) => feed_entry(entry, kind, job),
+        None => unreachable!(),
+    }
+}
+
+/// Adds a job to a waiting stroke.
+fn feed_entry(entry: &mut Entry, kind: Kind, job: &Job) -> Result<(), NoMemory>
+    requires checked { checks job.now ≡ true }
+    requires room { TakesJob entry.old }
+    ensures ok { OnOk result (entry.new ≡ after_job (kind, job.now) entry.old) }
+    ensures err { OnErr result (entry.new ≡ entry.old) }
+{
+    match entry {
+        Entry::Waiting(stroke) => add_job(stroke, kind, job),
+        _ => unreachable!(),
+    }
+}
+
+/// Adds a job. That it conflicts is no error here.
+fn add_job(stroke: &mut OpenStroke, kind: Kind, job: &Job) -> Result<(), NoMemory>
+    requires checked { checks job.now ≡ true }
+    requires room { length stroke.old.jobs < 4096 }
+    ensures ok { OnOk result (stroke.new ≡ grown stroke.old (kind, job.now)) }
+    ensures err { OnErr result (stroke.new ≡ stroke.old) }
+{
+    match stroke.add(kind, *job) {
         Err(AddFault::NoMemory) => Err(NoMemory),
         Ok(()) | Err(AddFault::Overlap { .. }) => Ok(()),
     }
