@@ -13,10 +13,10 @@ use Rattle.doc_model.specs.declared.command.Command.TheVariants as command
 use Rattle.doc_model.specs.Strokes.{Entry, Strokes, Changes, Undoes, Redoes, Purges, Exports, Fate, Open, Ended, Cancelled, fed}
 use Rattle.doc_model.specs.Lawful.{is_stroke, is_open_stroke, has_room, is_export, is_open as is_open_fate}
 use Rattle.script_lines.specs.declared.cause.Cause.{Cause}
-use Rattle.script_lines.specs.declared.cause.Cause.TheVariants.{UsedAgain, TooManyJobs}
+use Rattle.script_lines.specs.declared.cause.Cause.TheVariants.{UsedAgain, TooManyJobs, TooManyExports}
 use Rattle.script_text.specs.declared.draft.Fed.{Fed}
 use Rattle.script_text.specs.Following.{misfit, not_open, or_else}
-use Rattle.script_text.specs.Table.{Tells, has_fewer, fewer, next_fed, one_more, closed, start_cause, close_cause, job_cause, exports_after}
+use Rattle.script_text.specs.Table.{Tells, has_fewer, fewer, next_fed, one_more, closed, start_cause, close_cause, job_cause, stroke_cause, export_cause, exports_after}
 use Rattle.script_text.proofs.Tables.{same_any, none_any, same_filter, job_started, job_open, job_export, job_room, job_other, none_fewer, close_started, close_room, close_export, close_itself, close_other, same_number, lt_more}
 
 -- tests that agree
@@ -167,6 +167,30 @@ close_step es n m f shut old t = go (n == m) refl
       room = λ k. same_any _ _ _ (close_room n m k f) es ∙ t.room k;
       few = t.few;
     }
+
+-- why a command can't be added, by what is kept
+misfit_is : (es : List Entry) (c : Command) (kept : ℕ → Option Fed) (x : ℕ) → ((n : ℕ) → Tells es n (kept n)) → x ≡ length (filter is_export es) → misfit es c ≡ or_else (export_cause x c) (stroke_cause kept c)
+unfolding misfit
+misfit_is es (command.Change change) kept x t h = refl
+misfit_is es (command.Stroke n layer e) kept x t h = sym (start_same es n (kept n) (t n))
+misfit_is es (command.Add n kind j) kept x t h = sym (job_same es n (kept n) (t n))
+misfit_is es (command.End n) kept x t h = sym (close_same es n (kept n) (t n))
+misfit_is es (command.Cancel n) kept x t h = sym (close_same es n (kept n) (t n))
+misfit_is es command.Undo kept x t h = refl
+misfit_is es command.Redo kept x t h = refl
+misfit_is es (command.Purge keep) kept x t h = refl
+misfit_is es command.Export kept x t h = rw h (last (nat_lt (length (filter is_export es)) 64))
+  where
+    last : (b : Bool) → (if b then None else Some TooManyExports) ≡ or_else (if b then None else Some TooManyExports) None
+    last true = refl
+    last false = refl
+
+-- by the exports, and where they take it by the strokes
+pub misfit_of_exports : (es : List Entry) (c : Command) (kept : ℕ → Option Fed) (x : ℕ) (o : Cause) → ((n : ℕ) → Tells es n (kept n)) → x ≡ length (filter is_export es) → export_cause x c ≡ Some o → misfit es c ≡ Some o
+misfit_of_exports es c kept x o t h e = misfit_is es c kept x t h ∙ rw e refl
+
+pub misfit_of_strokes : (es : List Entry) (c : Command) (kept : ℕ → Option Fed) (x : ℕ) → ((n : ℕ) → Tells es n (kept n)) → x ≡ length (filter is_export es) → export_cause x c ≡ None → misfit es c ≡ stroke_cause kept c
+misfit_of_strokes es c kept x t h e = misfit_is es c kept x t h ∙ rw e refl
 
 taken_free : (b : Bool) → (if b then Some UsedAgain else None) ≡ None → b ≡ false
 taken_free true h = absurd (cc (h))

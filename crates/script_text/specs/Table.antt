@@ -6,7 +6,7 @@ use Rattle.doc_model.specs.declared.command.Command.TheVariants as command
 use Rattle.doc_model.specs.Strokes.{Entry, Strokes}
 use Rattle.doc_model.specs.Lawful.{is_stroke, is_open_stroke}
 use Rattle.script_lines.specs.declared.cause.Cause.{Cause}
-use Rattle.script_lines.specs.declared.cause.Cause.TheVariants.{UsedAgain, UnknownStroke, ClosedStroke, TooManyJobs}
+use Rattle.script_lines.specs.declared.cause.Cause.TheVariants.{UsedAgain, UnknownStroke, ClosedStroke, TooManyJobs, TooManyExports}
 use Rattle.script_text.specs.declared.draft.Fed.{Fed}
 
 abbrev pub is_open : Option Fed → Bool
@@ -50,9 +50,13 @@ abbrev pub closed : Option Fed → Option Fed
 closed None = None
 closed (Some f) = Some (record f { live = false })
 
+-- what is kept of a stroke that starts
+abbrev pub fresh : Fed
+fresh = record { live = true; jobs = 0 }
+
 -- what is kept of that stroke after the command
 abbrev pub after : Option Fed → Command → Option Fed
-after found (command.Stroke n layer exclusive) = Some (record { live = true; jobs = 0 })
+after found (command.Stroke n layer exclusive) = Some fresh
 after found (command.Add n kind job) = one_more found
 after found (command.End n) = closed found
 after found (command.Cancel n) = closed found
@@ -84,3 +88,16 @@ close_cause (Some f) = if f.live then None else Some ClosedStroke
 abbrev pub job_cause : Option Fed → Option Cause
 job_cause None = Some UnknownStroke
 job_cause (Some f) = if f.live then (if nat_lt f.jobs 4096 then None else Some TooManyJobs) else Some ClosedStroke
+
+-- why the command can't be added to strokes of which that is kept
+abbrev pub stroke_cause : (ℕ → Option Fed) → Command → Option Cause
+stroke_cause kept (command.Stroke n layer exclusive) = start_cause (kept n)
+stroke_cause kept (command.Add n kind job) = job_cause (kept n)
+stroke_cause kept (command.End n) = close_cause (kept n)
+stroke_cause kept (command.Cancel n) = close_cause (kept n)
+stroke_cause kept c = None
+
+-- why it can't be added to that many exports
+abbrev pub export_cause : ℕ → Command → Option Cause
+export_cause n command.Export = if nat_lt n 64 then None else Some TooManyExports
+export_cause n c = None

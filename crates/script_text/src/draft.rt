@@ -1,6 +1,6 @@
 //! Commands in order, and what has to be known of them to add one more.
 
-ghost use Rattle.std.specs.Prelude.{◌≡◌, [], ◌∷◌, ◌++◌, None, IfOk, IfSome, OnOk, OnErr, ◌<◌, ◌≤◌};
+ghost use Rattle.std.specs.Prelude.{◌≡◌, ◌==◌, [], ◌∷◌, ◌++◌, Some, IfOk, IfSome, OnOk, OnErr, ◌<◌, ◌≤◌};
 ghost use Rattle.std.specs.Prelude.{ℕ, true, length, if◌then◌else◌};
 ghost use Rattle.std.specs.List.{list_any, list_all};
 ghost use Rattle.std.specs.Ordering.{nat_cmp};
@@ -9,10 +9,11 @@ ghost use Rattle.std.specs.Vec.{vec_len, vec_capacity};
 ghost use Rattle.doc_model.specs.Strokes.{entries};
 ghost use Rattle.doc_model.specs.Lawful.{is_open_stroke, lawful};
 ghost use Rattle.script_forms.specs.Ranges.{in_range, is_sound};
-ghost use Rattle.doc_model.specs.declared.command.Command.TheVariants.{Export};
+ghost use Rattle.script_text.specs.Read.{IsRefused};
 ghost use Rattle.script_text.specs.Following.{misfit as said_misfit};
-ghost use Rattle.script_text.specs.Table.{Tells, stroke_of as said_stroke, after as fed_after, start_cause as said_start, close_cause as said_close, job_cause as said_job, is_few, next_fed, exports_after as count_after};
+ghost use Rattle.script_text.specs.Table.{Tells, fresh, one_more, closed as shut, start_cause as said_start, close_cause as said_close, job_cause as said_job, stroke_cause, export_cause as said_export, next_fed, exports_after as count_after};
 
+use crate::script::{ReadRefusal, at};
 use doc_model::Command;
 use geom_core::NoMemory;
 use script_lines::Cause;
@@ -48,71 +49,101 @@ impl Model for Draft {
     ghost invariant = { IsTable };
 }
 
-/// Why a stroke of which this is kept can't be started.
-fn start_cause(found: Option<Fed>) -> Option<Cause>
-    ensures { result ≡ said_start found }
-{
-    match found {
-        None => None,
-        Some(_) => Some(Cause::UsedAgain),
+impl Fed {
+    /// Gives the stroke one more job.
+    fn feed(&mut self, line: u32) -> Result<(), ReadRefusal>
+        ensures refused { IsRefused result line (said_job (Some self.old)) }
+        ensures fed { OnOk result (Some self.new ≡ one_more (Some self.old)) }
+        ensures same { OnErr result (self.new ≡ self.old) }
+    {
+        if !self.live {
+            return Err(at(line, Cause::ClosedStroke));
+        }
+        if self.jobs >= 4096 {
+            return Err(at(line, Cause::TooManyJobs));
+        }
+        self.jobs += 1;
+        Ok(())
+    }
+
+    /// Closes the stroke.
+    fn close(&mut self, line: u32) -> Result<(), ReadRefusal>
+        ensures refused { IsRefused result line (said_close (Some self.old)) }
+        ensures closed { OnOk result (Some self.new ≡ shut (Some self.old)) }
+        ensures same { OnErr result (self.new ≡ self.old) }
+    {
+        if !self.live {
+            return Err(at(line, Cause::ClosedStroke));
+        }
+        self.live = false;
+        Ok(())
     }
 }
 
-/// Why it can't be closed.
-fn close_cause(found: Option<Fed>) -> Option<Cause>
-    ensures { result ≡ said_close found }
+/// Starts a stroke.
+fn start(strokes: &mut BTreeMap<u32, Fed>, line: u32, no: u32) -> Result<(), ReadRefusal>
+    ensures refused { IsRefused result line (said_start (get nat_cmp strokes.old no)) }
+    ensures kept { OnOk result ((m : ℕ) → get nat_cmp strokes.new m ≡ (if no == m then Some fresh else get nat_cmp strokes.old m)) }
+    ensures same { OnErr result ((m : ℕ) → get nat_cmp strokes.new m ≡ get nat_cmp strokes.old m) }
 {
-    match found {
-        None => Some(Cause::UnknownStroke),
-        Some(fed) if fed.live => None,
-        Some(_) => Some(Cause::ClosedStroke),
+    if strokes.get(&no).is_some() {
+        return Err(at(line, Cause::UsedAgain));
+    }
+    let fed = Fed {
+        live: true,
+        jobs: 0,
+    };
+    match strokes.insert(no, fed) {
+        Ok(_) => Ok(()),
+        Err(_) => Err(ReadRefusal::NoMemory),
     }
 }
 
-/// Why it can't be given a job.
-fn job_cause(found: Option<Fed>) -> Option<Cause>
-    ensures { result ≡ said_job found }
+/// Gives a stroke one more job.
+fn feed(strokes: &mut BTreeMap<u32, Fed>, line: u32, no: u32) -> Result<(), ReadRefusal>
+    ensures refused { IsRefused result line (said_job (get nat_cmp strokes.old no)) }
+    ensures kept { OnOk result ((m : ℕ) → get nat_cmp strokes.new m ≡ (if no == m then one_more (get nat_cmp strokes.old m) else get nat_cmp strokes.old m)) }
+    ensures same { OnErr result ((m : ℕ) → get nat_cmp strokes.new m ≡ get nat_cmp strokes.old m) }
 {
-    match found {
-        None => Some(Cause::UnknownStroke),
-        Some(fed) if !fed.live => Some(Cause::ClosedStroke),
-        Some(fed) if fed.jobs < 4096 => None,
-        Some(_) => Some(Cause::TooManyJobs),
+    match strokes.get_mut(&no) {
+        Some(fed) => fed.feed(line),
+        None => Err(at(line, Cause::UnknownStroke)),
     }
 }
 
-/// The number of the stroke that a command is about.
-fn stroke_of(command: &Command) -> Option<u32>
-    ensures { result ≡ said_stroke command.now }
+/// Closes a stroke.
+fn close(strokes: &mut BTreeMap<u32, Fed>, line: u32, no: u32) -> Result<(), ReadRefusal>
+    ensures refused { IsRefused result line (said_close (get nat_cmp strokes.old no)) }
+    ensures kept { OnOk result ((m : ℕ) → get nat_cmp strokes.new m ≡ (if no == m then shut (get nat_cmp strokes.old m) else get nat_cmp strokes.old m)) }
+    ensures same { OnErr result ((m : ℕ) → get nat_cmp strokes.new m ≡ get nat_cmp strokes.old m) }
+{
+    match strokes.get_mut(&no) {
+        Some(fed) => fed.close(line),
+        None => Err(at(line, Cause::UnknownStroke)),
+    }
+}
+
+/// Keeps what the command says of its stroke.
+fn keep(strokes: &mut BTreeMap<u32, Fed>, line: u32, command: &Command) -> Result<(), ReadRefusal>
+    ensures refused { IsRefused result line (stroke_cause (λ n. get nat_cmp strokes.old n) command.now) }
+    ensures kept { OnOk result ((m : ℕ) → get nat_cmp strokes.new m ≡ next_fed command.now m (get nat_cmp strokes.old m)) }
+    ensures same { OnErr result ((m : ℕ) → get nat_cmp strokes.new m ≡ get nat_cmp strokes.old m) }
 {
     match command {
-        Command::Stroke { no, .. }
-        | Command::Add { no, .. }
-        | Command::End { no }
-        | Command::Cancel { no } => Some(*no),
+        Command::Stroke { no, .. } => start(strokes, line, *no),
+        Command::Add { no, .. } => feed(strokes, line, *no),
+        Command::End { no } | Command::Cancel { no } => close(strokes, line, *no),
+        _ => Ok(()),
+    }
+}
+
+/// Why it can't be added to that many exports.
+fn export_cause(exports: u32, command: &Command) -> Option<Cause>
+    ensures { result ≡ said_export exports command.now }
+{
+    match command {
+        Command::Export if exports >= 64 => Some(Cause::TooManyExports),
         _ => None,
-    }
-}
-
-/// What is kept of that stroke after the command.
-fn after(found: Option<Fed>, command: &Command) -> Option<Fed>
-    requires { is_few found ≡ true }
-    ensures { result ≡ fed_after found command.now }
-{
-    match command {
-        Command::Stroke { .. } => Some(Fed {
-            live: true,
-            jobs: 0,
-        }),
-        Command::Add { .. } => found.map(|fed| Fed {
-            live: fed.live,
-            jobs: fed.jobs + 1,
-        }),
-        Command::End { .. } | Command::Cancel { .. } => found.map(|fed| Fed {
-            live: false,
-            jobs: fed.jobs,
-        }),
-        _ => found,
     }
 }
 
@@ -125,22 +156,6 @@ fn exports_after(exports: u32, command: &Command) -> u32
         Command::Export => exports + 1,
         _ => exports,
     }
-}
-
-/// Keeps what the command says of its stroke.
-fn keep(strokes: &mut BTreeMap<u32, Fed>, command: &Command) -> Result<(), NoMemory>
-    requires { (m : ℕ) → is_few (get nat_cmp strokes.old m) ≡ true }
-    ensures kept { OnOk result ((m : ℕ) → get nat_cmp strokes.new m ≡ next_fed command.now m (get nat_cmp strokes.old m)) }
-    ensures same { OnErr result ((m : ℕ) → get nat_cmp strokes.new m ≡ get nat_cmp strokes.old m) }
-{
-    let Some(no) = stroke_of(command) else {
-        return Ok(());
-    };
-    let found = strokes.get(&no).copied();
-    if let Some(fed) = after(found, command) {
-        strokes.insert(no, fed)?;
-    }
-    Ok(())
 }
 
 impl Draft {
@@ -172,41 +187,18 @@ impl Draft {
         }
     }
 
-    /// Why an export can't be added.
-    fn export_cause(&self) -> Option<Cause>
-        ensures { result ≡ said_misfit (entries self.now) Export }
-    {
-        if self.exports < 64 {
-            None
-        } else {
-            Some(Cause::TooManyExports)
-        }
-    }
-
-    /// Why the command can't be added.
-    #[tactic(auto, unfolding(crate::specs::Following::misfit))]
-    pub(crate) fn misfit(&self, command: &Command) -> Option<Cause>
-        ensures { result ≡ said_misfit (entries self.now) command.now }
-    {
-        match command {
-            Command::Stroke { no, .. } => start_cause(self.find(*no)),
-            Command::Add { no, .. } => job_cause(self.find(*no)),
-            Command::End { no } => close_cause(self.find(*no)),
-            Command::Cancel { no } => close_cause(self.find(*no)),
-            Command::Export => self.export_cause(),
-            Command::Change(_) | Command::Undo | Command::Redo | Command::Purge { .. } => None,
-        }
-    }
-
-    /// Adds a command. Nothing is added where no memory is left.
-    pub(crate) fn add(&mut self, command: Command) -> Result<(), NoMemory>
-        requires fits { said_misfit (entries self.old) command ≡ None }
+    /// Adds the command of a line. Nothing is added where it may not follow, or no memory is left.
+    pub(crate) fn add(&mut self, line: u32, command: Command) -> Result<(), ReadRefusal>
         requires ranges { in_range command ≡ true }
         requires sound { is_sound command ≡ true }
-        ensures { OnOk result (self.new ≡ self.old ++ command ∷ []) }
+        ensures refused { IsRefused result line (said_misfit (entries self.old) command) }
+        ensures added { OnOk result (self.new ≡ self.old ++ command ∷ []) }
     {
+        if let Some(cause) = export_cause(self.exports, &command) {
+            return Err(at(line, cause));
+        }
         make_room(&mut self.commands)?;
-        keep(&mut self.strokes, &command)?;
+        keep(&mut self.strokes, line, &command)?;
         self.exports = exports_after(self.exports, &command);
         put_last(&mut self.commands, command);
         Ok(())

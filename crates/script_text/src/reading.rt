@@ -8,10 +8,10 @@ ghost use Rattle.script_forms.specs.Ranges.{in_range, is_sound};
 ghost use Rattle.script_forms.specs.Forms.{canvas as said_canvas};
 ghost use Rattle.script_text.specs.Following.{misfit};
 ghost use Rattle.script_text.specs.Reading.{canvas_cause, word_cause, command_cause, cause_by, canvas_in, command_in, command_by, given, first_canvas, start_by, left_open, end_by, contents_by, fault, script};
-ghost use Rattle.script_text.specs.Read.{refusal, IsRefused, IsGathered, Fits, StartsAre, Answers, Takes, TakesCommand};
+ghost use Rattle.script_text.specs.Read.{IsRefused, IsGathered, Fits, StartsAre, Answers, Takes, TakesCommand};
 
 use crate::draft::{Draft, add_last};
-use crate::script::{ReadRefusal, Script, ScriptFault};
+use crate::script::{ReadRefusal, Script, at};
 use doc_model::{Canvas, Command};
 use script_forms::{Word, canvas, command_of, is, word_of};
 use script_lines::{Cause, fields_into, is_command, lines_of};
@@ -30,13 +30,6 @@ pub(crate) struct Reading {
     canvas: Option<Canvas>,
     draft: Draft,
     starts: Vec<Start>,
-}
-
-/// The refusal of a line.
-fn at(line: u32, cause: Cause) -> ReadRefusal
-    ensures { result ≡ refusal line cause }
-{
-    ReadRefusal::Fault(ScriptFault { line, cause })
 }
 
 /// Where the command starts a stroke.
@@ -100,10 +93,7 @@ impl Reading {
         ensures refused { IsRefused result number (misfit (entries self.old.draft) command) }
         ensures taken { OnOk result (TakesCommand self.old self.new number (Some command)) }
     {
-        if let Some(cause) = self.draft.misfit(&command) {
-            return Err(at(number, cause));
-        }
-        self.draft.add(command)?;
+        self.draft.add(number, command)?;
         if let Some(start) = start_of(number, &command) {
             add_last(&mut self.starts, start)?;
         }

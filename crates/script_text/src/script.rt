@@ -2,6 +2,7 @@
 
 ghost use Rattle.std.specs.Prelude.{◌≡◌, ◌<◌, ◌==◌, Some, true, length, slice_get};
 ghost use Rattle.script_text.specs.Script.{contents, is_script};
+ghost use Rattle.script_text.specs.Read.{refusal};
 ghost use Rattle.script_text.specs.declared.script.ReadRefusal.TheVariants.{NoMemory};
 
 use doc_model::{Canvas, Command};
@@ -103,6 +104,13 @@ impl Script {
     {
         &self.commands
     }
+}
+
+/// The refusal of a line.
+pub(crate) fn at(line: u32, cause: Cause) -> ReadRefusal
+    ensures { result ≡ refusal line cause }
+{
+    ReadRefusal::Fault(ScriptFault { line, cause })
 }
 
 impl From<AllocError> for ReadRefusal {

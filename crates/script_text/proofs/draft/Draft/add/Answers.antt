@@ -1,15 +1,15 @@
-use Rattle.std.proofs.Common.{ℕ, ◌≡◌, ◌∙◌, sym, ap, subst, ◌++◌, ◌∷◌, [], length, rules, None, ◌≤◌}
+use Rattle.std.proofs.Common.{ℕ, ◌≡◌, ◌∙◌, sym, ap, subst, ◌++◌, ◌∷◌, [], length, rules, Some, None, ◌≤◌}
 use Rattle.std.specs.List.{filter, list_all}
 use Rattle.std.specs.Ordering.{nat_cmp}
 use Rattle.std.specs.BTreeMap.{get}
 use Rattle.doc_model.specs.Strokes.{entries, fed}
 use Rattle.doc_model.specs.Lawful.{is_export, lawful}
 use Rattle.script_text.specs.Following.{misfit}
-use Rattle.script_text.specs.Table.{Tells, next_fed}
+use Rattle.script_text.specs.Table.{Tells, next_fed, stroke_cause, export_cause}
 use Rattle.script_forms.specs.Ranges.{in_range}
 use Rattle.script_text.proofs.Legal.{lawful_more, ranges_more}
 use Rattle.script_text.proofs.Tables.{entries-append}
-use Rattle.script_text.proofs.Steps.{step, exports_step, exports_few}
+use Rattle.script_text.proofs.Steps.{step, exports_step, exports_few, misfit_of_exports, misfit_of_strokes}
 use Rattle.script_text.proofs.draft.Draft.add.Goals as goal
 
 pub invariant_of-self-2 : goal.invariant_of-self-2
@@ -18,7 +18,9 @@ invariant_of-self-2 c =
     let cs = d.commands.items in
     let es = entries cs in
     let more : c.put_last.new.items.items ≡ cs ++ c.args.command ∷ [] = search rules in
-    let fits : misfit es c.args.command ≡ None = subst (λ l. misfit (entries l) c.args.command ≡ None) (sym c.self.view_is) c.requires.fits in
+    let room : export_cause d.exports c.args.command ≡ None = search rules in
+    let taken : stroke_cause (λ n. get nat_cmp d.strokes n) c.args.command ≡ None = search rules in
+    let fits : misfit es c.args.command ≡ None = misfit_of_strokes es c.args.command (λ n. get nat_cmp d.strokes n) d.exports c.self.invariant.tells c.self.invariant.exports room ∙ taken in
     let now : entries c.put_last.new.items.items ≡ fed es c.args.command = ap entries more ∙ entries-append cs c.args.command in
     record {
       tells = λ m. subst (λ l. Tells l m (get nat_cmp c.keep.new.strokes m)) (sym now)
@@ -32,3 +34,30 @@ invariant_of-self-2 c =
   where
     kept : (m : ℕ) → get nat_cmp c.keep.new.strokes m ≡ next_fed c.args.command m (get nat_cmp c.self.inside.strokes m)
     kept m = search rules
+
+pub returns-in-Some-clause-refused : goal.returns-in-Some-clause-refused
+returns-in-Some-clause-refused c =
+    let d = c.self.inside in
+    let cs = d.commands.items in
+    let room : export_cause d.exports c.args.command ≡ Some c.in-Some.cause = search rules in
+    let here : misfit (entries cs) c.args.command ≡ Some c.in-Some.cause = misfit_of_exports (entries cs) c.args.command (λ n. get nat_cmp d.strokes n) d.exports c.in-Some.cause c.self.invariant.tells c.self.invariant.exports room in
+    let no : misfit (entries c.args.self.now) c.args.command ≡ Some c.in-Some.cause = subst (λ l. misfit (entries l) c.args.command ≡ Some c.in-Some.cause) c.self.view_is here in
+    search rules
+
+pub returns-in_err-keep-clause-refused : goal.returns-in_err-keep-clause-refused
+returns-in_err-keep-clause-refused c =
+    let d = c.self.inside in
+    let cs = d.commands.items in
+    let room : export_cause d.exports c.args.command ≡ None = search rules in
+    let here : misfit (entries cs) c.args.command ≡ stroke_cause (λ n. get nat_cmp d.strokes n) c.args.command = misfit_of_strokes (entries cs) c.args.command (λ n. get nat_cmp d.strokes n) d.exports c.self.invariant.tells c.self.invariant.exports room in
+    let bad : misfit (entries c.args.self.now) c.args.command ≡ stroke_cause (λ n. get nat_cmp d.strokes n) c.args.command = subst (λ l. misfit (entries l) c.args.command ≡ stroke_cause (λ n. get nat_cmp d.strokes n) c.args.command) c.self.view_is here in
+    rw bad (search rules)
+
+pub returns-clause-refused : goal.returns-clause-refused
+returns-clause-refused c =
+    let d = c.self.inside in
+    let cs = d.commands.items in
+    let room : export_cause d.exports c.args.command ≡ None = search rules in
+    let taken : stroke_cause (λ n. get nat_cmp d.strokes n) c.args.command ≡ None = search rules in
+    let here : misfit (entries cs) c.args.command ≡ None = misfit_of_strokes (entries cs) c.args.command (λ n. get nat_cmp d.strokes n) d.exports c.self.invariant.tells c.self.invariant.exports room ∙ taken in
+    subst (λ l. misfit (entries l) c.args.command ≡ None) c.self.view_is here
