@@ -1,5 +1,5 @@
 -- What becomes of the story as entries end.
-use Rattle.std.proofs.Common.{◌≡◌, ℕ, suc, zero, Bool, true, false, Option, Some, None, is_some, List, [], ◌∷◌, ◌++◌, map, length, drop, take, cond, eqb, ◌||◌, refl, sym, ap, ◌∙◌, subst}
+use Rattle.std.proofs.Common.{◌≡◌, ℕ, suc, zero, Bool, true, false, Option, Some, None, is_some, List, [], ◌∷◌, ◌++◌, map, length, drop, take, cond, length-append, eqb, ◌||◌, refl, sym, ap, ◌∙◌, subst}
 use Rattle.std.specs.Prelude.{slice_get, Result, Ok, Err, IfOk, All, ◌&&◌}
 use Rattle.std.specs.Option.{unwrap_or}
 use Rattle.std.specs.List.{list_all, AllByRecursion}
@@ -32,7 +32,7 @@ use Rattle.export_core.proofs.SameTree.{has_each}
 use Rattle.script_text.specs.Script.{Contents}
 use Rattle.solo_run.specs.Told.{IsReady, fits}
 use Rattle.solo_run.proofs.Fronts.{take_more}
-use Rattle.solo_run.proofs.Stories.{as_stroke, fate_of, told_whole, IsNext, next_left, closed_at, fits_at, queued_fits, told_all-last, length_last, none_left_over}
+use Rattle.solo_run.proofs.Stories.{as_stroke, fate_of, told_whole, IsNext, next_left, closed_at, fits_at, queued_fits, told_all-last, none_left_over}
 use Rattle.across.specs.declared.telling.Telling.{Telling}
 use Rattle.across.specs.Steps.{job_sound, jobs_only}
 use Rattle.across.specs.Tellings.{GoesOn, Ends, HasCome, Tells, story_of}
@@ -118,7 +118,7 @@ come_further commands old new q r x o h e ends outcomes stands =
           ∙ on.story q.outcomes
           ∙ ap (λ t. told old.canvas t next.entry) h.story
           ∙ sym (told_all-last old.canvas start (take (length q.outcomes) (entries commands)) next.entry)
-          ∙ ap (told_all old.canvas start) (sym (take_more (entries commands) (length q.outcomes) next.entry next.at) ∙ ap (λ n. take n (entries commands)) (sym (ap length outcomes ∙ length_last q.outcomes o)))
+          ∙ ap (told_all old.canvas start) (sym (take_more (entries commands) (length q.outcomes) next.entry next.at) ∙ ap (λ n. take n (entries commands)) (sym (ap length outcomes ∙ length-append q.outcomes (o ∷ []))))
           ∙ ap (λ c. meaning c (take (length r.outcomes) (entries commands))) (sym on.canvas);
     }
 
