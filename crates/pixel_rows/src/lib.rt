@@ -1,8 +1,8 @@
-//! Laying pixels on others row by row: the results of composing, with few steps for each pixel.
+//! Rows of pixels laid on others: what composing pixel by pixel gives, many pixels at a time.
 #![tactic(auto)]
 
-mod normal;
+mod rows;
 #[cfg(test)]
 mod tests;
 
-pub use normal::lay;
+pub use rows::{lay_colour, lay_masked, lay_sources};
