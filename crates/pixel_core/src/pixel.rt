@@ -1,7 +1,7 @@
 //! Pixels of eight bits a channel.
 
 ghost use Rattle.std.specs.Prelude.{◌≡◌};
-ghost use Rattle.pixel_core.specs.Rgba.{if_canonical, bytes_of};
+ghost use Rattle.pixel_core.specs.Rgba.{if_canonical, bytes_of, IsCanonical};
 
 use std::marker::Model;
 
@@ -52,7 +52,8 @@ impl Pixel {
     /// Red, green, blue and alpha.
     #[inline]
     pub fn bytes(self) -> [u8; 4]
-        ensures { result ≡ bytes_of self }
+        ensures value { result ≡ bytes_of self }
+        ensures known { IsCanonical self }
     {
         [self.r, self.g, self.b, self.a]
     }
