@@ -33,15 +33,15 @@ pub enum Op {
 pub fn compose(op: Op, s: Pixel, d: Pixel, m: u8) -> Pixel
     ensures { result ≡ composed op s d m }
 {
-    let sa = mul(s.a, m);
-    let da = d.a;
+    let sa = mul(s.alpha(), m);
+    let [r, g, b, da] = d.bytes();
     if sa == 0 {
         return d;
     }
     match op {
         Op::Erase => {
             let alpha = mul(da, 255 - sa);
-            Pixel::new(d.r, d.g, d.b, alpha)
+            Pixel::new(r, g, b, alpha)
         }
         _ => lay(op, s, d, sa),
     }
@@ -53,12 +53,13 @@ fn lay(op: Op, s: Pixel, d: Pixel, sa: u8) -> Pixel
     requires { 0 < sa }
     ensures { result ≡ laid op s d sa }
 {
-    if d.a == 0 {
-        Pixel::new(s.r, s.g, s.b, sa)
-    } else if d.a == 255 {
-        lay_on_opaque(op, s, d, sa)
-    } else {
-        lay_on_any(op, s, d, sa)
+    match d.alpha() {
+        0 => {
+            let [r, g, b, _] = s.bytes();
+            Pixel::new(r, g, b, sa)
+        }
+        255 => lay_on_opaque(op, s, d, sa),
+        _ => lay_on_any(op, s, d, sa),
     }
 }
 
@@ -67,9 +68,11 @@ fn lay_on_opaque(op: Op, s: Pixel, d: Pixel, sa: u8) -> Pixel
     requires opaque { d.a ≡ 255 }
     ensures { result ≡ laid op s d sa }
 {
-    let r = channel_on_opaque(op, sa, s.r, d.r);
-    let g = channel_on_opaque(op, sa, s.g, d.g);
-    let b = channel_on_opaque(op, sa, s.b, d.b);
+    let [sr, sg, sb, _] = s.bytes();
+    let [dr, dg, db, _] = d.bytes();
+    let r = channel_on_opaque(op, sa, sr, dr);
+    let g = channel_on_opaque(op, sa, sg, dg);
+    let b = channel_on_opaque(op, sa, sb, db);
     Pixel::new(r, g, b, 255)
 }
 
@@ -78,10 +81,12 @@ fn lay_on_any(op: Op, s: Pixel, d: Pixel, sa: u8) -> Pixel
     requires { 0 < sa }
     ensures { result ≡ laid op s d sa }
 {
-    let w = weight_of(sa, d.a);
-    let r = channel_of(op, sa, d.a, s.r, d.r);
-    let g = channel_of(op, sa, d.a, s.g, d.g);
-    let b = channel_of(op, sa, d.a, s.b, d.b);
+    let [sr, sg, sb, _] = s.bytes();
+    let [dr, dg, db, da] = d.bytes();
+    let w = weight_of(sa, da);
+    let r = channel_of(op, sa, da, sr, dr);
+    let g = channel_of(op, sa, da, sg, dg);
+    let b = channel_of(op, sa, da, sb, db);
     let a = rounded_255th(w);
     Pixel::new(r, g, b, a)
 }
