@@ -1,9 +1,9 @@
 -- Blocks of jobs, and a bound round each.
-use Rattle.std.proofs.Common.{◌≡◌, ◌≢◌, ℕ, suc, zero, ◌+◌, ◌-◌, ◌*◌, ◌<◌, ◌≤◌, Bool, true, false, ◌&&◌, List, [], ◌∷◌, ◌++◌, Option, Some, None, length, refl, sym, ap, ◌∙◌, arith, subst, inl, inr, ◌⊎◌}
-use Rattle.std.specs.Prelude.{slice_get, slice_set, position, drop, take, min, All}
+use Rattle.std.proofs.Common.{◌≡◌, ◌≢◌, ℕ, suc, zero, ◌+◌, ◌-◌, ◌*◌, ◌/◌, ◌<◌, ◌≤◌, Bool, true, false, ◌&&◌, List, [], ◌∷◌, ◌++◌, Option, Some, None, length, refl, sym, ap, ◌∙◌, arith, subst, inl, inr, ◌⊎◌}
+use Rattle.std.specs.Prelude.{slice_get, slice_set, slice_index_or, position, drop, take, min, All}
 use Rattle.std.proofs.lemmas.List.{length-append, length-drop, take_min}
 use Rattle.std.proofs.lemmas.List.Elements.{All-weaker}
-use Rattle.std.proofs.lemmas.Option.{slice_get_within}
+use Rattle.std.proofs.lemmas.Option.{slice_get_within, slice_get-get_or}
 use Rattle.geom_core.specs.Areas.{Area}
 use Rattle.geom_core.proofs.Tests.{true_or_false, and_left, and_right}
 use Rattle.stroke_core.specs.declared.bound.Bound.{Bound}
@@ -11,7 +11,7 @@ use Rattle.stroke_core.specs.Bounds.{LiesIn, Encloses, AreBlocks, IsBoundOf, nea
 use Rattle.stroke_core.specs.Fed.{plus}
 use Rattle.stroke_core.specs.Marks.{Marks, marks_clash}
 use Rattle.stroke_core.proofs.Apart.{IsOld, no_clash, old_or_last}
-use Rattle.stroke_core.proofs.FirstPlace.{position_none_taken}
+use Rattle.stroke_core.proofs.FirstPlace.{position_none_taken, part_passed}
 
 pub blocks_none : (u : Bool) → AreBlocks u [] []
 blocks_none u = record {
@@ -20,15 +20,31 @@ blocks_none u = record {
   bounded = λ i b e. cc;
 }
 
--- where the bound of a block isn't near, no job of it clashes
-pub block_passed : (marks : List Marks) (i : ℕ) (block bound : Bound) (new : Marks) → IsBoundOf new.unique marks i block → Encloses bound new → near block bound ≡ false → position (λ f. marks_clash f new) (take 64 (drop (64 * i) marks)) ≡ None
-block_passed marks i block bound new h r n = position_none_taken (λ f. marks_clash f new) (64 * i) 64 marks (λ k m a l e. elim (true_or_false (new.unique && m.unique)) [
-  | inl t ↦ unique_pair m new t
-  | inr t ↦ no_clash block bound m new (h k m a l e t) r n
-])
+-- a job of a block whose bound isn't near doesn't clash
+apart_in_block : (marks : List Marks) (i k : ℕ) (block bound : Bound) (m new : Marks) → IsBoundOf new.unique marks i block → Encloses bound new → near block bound ≡ false → 64 * i ≤ k → k < 64 * i + 64 → slice_get marks k ≡ Some m → marks_clash m new ≡ false
+apart_in_block marks i k block bound m new h r n low high e = elim (true_or_false (new.unique && m.unique)) [
+  | inl t ↦ (let mine : m.unique ≡ true = and_right new.unique m.unique t in let theirs : new.unique ≡ true = and_left new.unique m.unique t in rw (mine, theirs) refl)
+  | inr t ↦ no_clash block bound m new (h k m low high e t) r n
+]
+
+-- blocks whose bounds aren't near are passed over
+pub blocks_passed : (marks : List Marks) (blocks : List Bound) (new : Marks) (bound : Bound) (from to : ℕ) → AreBlocks new.unique marks blocks → Encloses bound new → from ≤ to
+    → ((k : ℕ) (b : Bound) → from ≤ k → k < to → slice_get blocks k ≡ Some b → near b bound ≡ false) → position (λ f. marks_clash f new) marks ≡ plus (64 * from) (position (λ f. marks_clash f new) (drop (64 * from) marks))
+    → position (λ f. marks_clash f new) marks ≡ plus (64 * to) (position (λ f. marks_clash f new) (drop (64 * to) marks))
+blocks_passed marks blocks new bound from to h r order far e = part_passed (λ f. marks_clash f new) marks (64 * from) (64 * (to - from)) (64 * to) (omega arith) e
+    (position_none_taken (λ f. marks_clash f new) (64 * from) (64 * (to - from)) marks (λ k m low high at.
+    let enough : length marks ≤ 64 * length blocks = h.enough in
+    let within : k < length marks = slice_get_within marks k m at in
+    let here : slice_get blocks (k / 64) ≡ Some (slice_index_or blocks (k / 64) bound) = slice_get-get_or blocks (k / 64) bound (omega arith) in
+    apart_in_block marks (k / 64) k (slice_index_or blocks (k / 64) bound) bound m new (h.bounded (k / 64) _ here) r (far (k / 64) _ (omega arith) (omega arith) here) (omega arith) (omega arith) at))
+
+-- none is passed over before the first block
+pub none_passed : {A : Type 0} (p : A → Bool) (xs : List A) → position p xs ≡ plus (64 * 0) (position p (drop (64 * 0) xs))
+none_passed p xs = go (position p xs)
   where
-    unique_pair : (m new : Marks) → (new.unique && m.unique) ≡ true → marks_clash m new ≡ false
-    unique_pair m new t = let mine : m.unique ≡ true = and_right new.unique m.unique t in let theirs : new.unique ≡ true = and_left new.unique m.unique t in rw (mine, theirs) refl
+    go : (o : Option ℕ) → o ≡ plus 0 o
+    go None = refl
+    go (Some i) = ap Some (omega arith)
 
 -- a block, where it ends at its last job
 pub whole_block : {A : Type 0} (p : A → Bool) (xs : List A) (i from to n : ℕ) (found : Option ℕ) → from ≡ 64 * i → to - from ≡ n → n ≡ min 64 (length xs - 64 * i) → found ≡ plus from (position p (take (to - from) (drop from xs))) → found ≡ plus (64 * i) (position p (take 64 (drop (64 * i) xs)))

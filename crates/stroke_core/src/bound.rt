@@ -1,7 +1,7 @@
 //! Rectangles round all that jobs read and write, edge by edge, so that one is compared with many
 //! at once.
 
-ghost use Rattle.std.specs.Prelude.{◌≡◌, ◌≢◌, ℕ, ◌≤◌, ◌<◌, ◌&&◌, nat_le, false, All, length};
+ghost use Rattle.std.specs.Prelude.{◌≡◌, ◌≢◌, ℕ, ◌≤◌, ◌<◌, ◌&&◌, nat_le, false, Some, All, length, slice_get};
 ghost use Rattle.geom_core.specs.Areas.{Area};
 ghost use Rattle.stroke_core.specs.Bounds.{LiesIn, near, bound_at};
 
@@ -73,6 +73,22 @@ impl Bound {
         let down = crosses(self.top, self.bottom, other.top, other.bottom);
         across & down
     }
+}
+
+/// The first place from that one on whose bound has a point in common with that bound, or else the
+/// number of places.
+pub(crate) fn next_near(bounds: &[Bound], from: usize, bound: Bound) -> usize
+    requires { from ≤ length bounds.now }
+    ensures later { from ≤ result }
+    ensures inside { result ≤ length bounds.now }
+    ensures passed { (k : ℕ) (b : Bound) → from ≤ k → k < result → slice_get bounds.now k ≡ Some b → near b bound ≡ false }
+{
+    for i in from..bounds.len() {
+        if bounds[i].is_near(bound) {
+            return i;
+        }
+    }
+    bounds.len()
 }
 
 /// Whether one of the bounds at these places has a point in common with that bound. It goes through

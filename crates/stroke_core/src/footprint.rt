@@ -10,7 +10,7 @@ ghost use Rattle.stroke_core.specs.Bounds.{Encloses, AreBlocks};
 ghost use Rattle.stroke_core.specs.Fed.{plus};
 ghost use Rattle.stroke_core.specs.Marks.{Marks};
 
-use crate::bound::{Bound, any_near};
+use crate::bound::{Bound, any_near, next_near};
 use arrayvec::ArrayVec;
 use doc_model::{Job, Kind};
 use geom_core::Rect;
@@ -155,7 +155,6 @@ impl Model for Footprints {
 
 impl Footprints {
     ghost use Rattle.stroke_core.specs.Marks.{marks_clash};
-    ghost use Rattle.stroke_core.specs.Bounds.{IsBoundOf};
 
     pub(crate) fn new(alloc: Global) -> Footprints
         ensures { result ≡ [] }
@@ -222,22 +221,27 @@ impl Footprints {
         ensures { result ≡ position (λ f. marks_clash f new.now) self.now }
     {
         let bound = new.bound();
-        let count = self.block_count();
-        for i in 0..count {
+        let blocks = self.blocks_for(new.unique);
+        let mut i = next_near(blocks, 0, bound);
+        while i < blocks.len() {
             let found = self.first_in_block(i, new, bound);
             if found.is_some() {
                 return found;
             }
+            i = next_near(blocks, i + 1, bound);
         }
         None
     }
 
-    /// How many blocks there are.
-    fn block_count(&self) -> usize
-        ensures enough { length self.now ≤ 64 * result }
-        ensures needed { 64 * result < length self.now + 64 }
+    /// The bounds of the blocks as a new job sees them.
+    fn blocks_for(&self, unique: bool) -> &[Bound]
+        ensures { AreBlocks unique self.now result.now }
     {
-        self.blocks.len()
+        if unique {
+            self.blocks_for_unique.as_slice()
+        } else {
+            self.blocks.as_slice()
+        }
     }
 
     /// The place of the first in a block that clashes with a new one.
@@ -246,25 +250,10 @@ impl Footprints {
         requires bound { Encloses bound new.now }
         ensures { result ≡ plus (64 * i) (position (λ f. marks_clash f new.now) (take 64 (drop (64 * i) self.now))) }
     {
-        if !self.block(i, new.unique).is_near(bound) {
-            return None;
-        }
         let len = self.exact.len();
         let from = i * BLOCK;
         let to = from + BLOCK.min(len - from);
         self.first_within(from, to, new, bound)
-    }
-
-    /// The bound of a block as a new job sees it.
-    fn block(&self, i: usize, for_unique: bool) -> Bound
-        requires inside { 64 * i < length self.now }
-        ensures { IsBoundOf for_unique self.now i result }
-    {
-        if for_unique {
-            self.blocks_for_unique[i]
-        } else {
-            self.blocks[i]
-        }
     }
 
     /// The place of the first of a row of neighbours that clashes with a new one.
