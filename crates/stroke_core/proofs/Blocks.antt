@@ -1,6 +1,6 @@
 -- Blocks of jobs, and a bound round each.
 use Rattle.std.proofs.Common.{◌≡◌, ◌≢◌, ℕ, suc, zero, ◌+◌, ◌-◌, ◌*◌, ◌/◌, ◌<◌, ◌≤◌, Bool, true, false, ◌&&◌, List, [], ◌∷◌, ◌++◌, Option, Some, None, length, refl, sym, ap, ◌∙◌, arith, subst, inl, inr, ◌⊎◌}
-use Rattle.std.specs.Prelude.{slice_get, slice_set, slice_index_or, position, drop, take, min, All}
+use Rattle.std.specs.Prelude.{slice_get, slice_set, slice_index_or, position, drop, take, min}
 use Rattle.std.proofs.lemmas.List.{length-append, length-drop, take_min}
 use Rattle.std.proofs.lemmas.List.Elements.{All-weaker}
 use Rattle.std.proofs.lemmas.Option.{slice_get_within, slice_get-get_or}
@@ -10,7 +10,7 @@ use Rattle.stroke_core.specs.declared.bound.Bound.{Bound}
 use Rattle.stroke_core.specs.Bounds.{LiesIn, Encloses, AreBlocks, IsBoundOf, near}
 use Rattle.stroke_core.specs.Fed.{plus}
 use Rattle.stroke_core.specs.Marks.{Marks, marks_clash}
-use Rattle.stroke_core.proofs.Apart.{IsOld, no_clash, old_or_last}
+use Rattle.stroke_core.proofs.Apart.{no_clash, old_or_last}
 use Rattle.stroke_core.proofs.FirstPlace.{position_none_taken, part_passed}
 
 pub blocks_none : (u : Bool) → AreBlocks u [] []

@@ -8,7 +8,7 @@ ghost use Rattle.doc_model.specs.Lawful.{checks};
 ghost use Rattle.doc_model.specs.Strokes.{any_meet, is_uni};
 ghost use Rattle.stroke_core.specs.Bounds.{Encloses, AreBlocks};
 ghost use Rattle.stroke_core.specs.Fed.{plus};
-ghost use Rattle.stroke_core.specs.Marks.{Marks};
+ghost use Rattle.stroke_core.specs.Marks.{Marks, written_or};
 
 use crate::bound::{Bound, any_near, next_near};
 use arrayvec::ArrayVec;
@@ -16,26 +16,23 @@ use doc_model::{Job, Kind};
 use geom_core::Rect;
 use std::alloc::{AllocError, Global};
 use std::marker::Model;
+use std::slice;
 
 /// The rectangles of a job, and whether it is uniquely concurrent.
 #[derive(Drop)]
 pub(crate) struct Footprint {
     reads: ArrayVec<Rect, 2>,
-    writes: ArrayVec<Rect, 2>,
-    /// Whether it is known to write all that it reads.
-    writes_all: bool,
+    /// The rectangle that it writes, where it doesn't write all that it reads.
+    written: Option<Rect>,
     unique: bool,
 }
 
 impl Model for Footprint {
-    ghost use Rattle.std.specs.Prelude.{◌≡◌, true};
-    ghost use Rattle.stroke_core.specs.Marks.{Marks};
+    ghost use Rattle.stroke_core.specs.Marks.{Marks, written_or};
 
     ghost Value = { Marks };
 
-    ghost view = { λ f. record { reads = f.reads.items; writes = f.writes.items; unique = f.unique } };
-
-    ghost invariant = { λ f. f.writes_all ≡ true → f.writes.items ≡ f.reads.items };
+    ghost view = { λ f. record { reads = f.reads.items; writes = written_or f.written f.reads.items; unique = f.unique } };
 }
 
 impl Footprint {
@@ -47,8 +44,7 @@ impl Footprint {
     {
         Footprint {
             reads: job.reads(),
-            writes: job.writes(),
-            writes_all: writes_all(job),
+            written: written(job),
             unique: is_unique(kind),
         }
     }
@@ -65,11 +61,31 @@ impl Footprint {
     fn disturbs(&self, other: &Footprint) -> bool
         ensures { result ≡ (any_meet self.now.writes other.now.reads || any_meet other.now.writes self.now.reads) }
     {
-        let there = any_meet(self.writes.as_slice(), other.reads.as_slice());
-        if self.writes_all && other.writes_all {
+        let there = any_meet(self.writes(), other.reads.as_slice());
+        if self.writes_all() && other.writes_all() {
             return there;
         }
-        there || any_meet(other.writes.as_slice(), self.reads.as_slice())
+        there || any_meet(other.writes(), self.reads.as_slice())
+    }
+
+    /// Whether it is known to write all that it reads.
+    fn writes_all(&self) -> bool
+        ensures { result ≡ true → self.now.writes ≡ self.now.reads }
+    {
+        match self.written {
+            Some(_) => false,
+            None => true,
+        }
+    }
+
+    /// The rectangles that the job writes.
+    fn writes(&self) -> &[Rect]
+        ensures { result.now ≡ self.now.writes }
+    {
+        match &self.written {
+            Some(rect) => slice::from_ref(rect),
+            None => self.reads.as_slice(),
+        }
     }
 
     /// A rectangle round all that the job reads and writes.
@@ -78,7 +94,7 @@ impl Footprint {
     {
         Bound::nothing()
             .with_all(self.reads.as_slice())
-            .with_all(self.writes.as_slice())
+            .with_all(self.writes())
     }
 
     /// The place of the first of these that clashes with it.
@@ -95,13 +111,13 @@ fn is_unique(kind: Kind) -> bool
     kind == Kind::Uni
 }
 
-/// Whether the job writes all that it reads.
-fn writes_all(job: &Job) -> bool
-    ensures { result ≡ true → writes job.now ≡ reads job.now }
+/// The rectangle that the job writes, where it doesn't write all that it reads.
+fn written(job: &Job) -> Option<Rect>
+    ensures { writes job.now ≡ written_or result (reads job.now) }
 {
-    match job {
-        Job::Fill { .. } | Job::Dab { .. } | Job::Move { .. } => true,
-        Job::Blur { .. } => false,
+    match *job {
+        Job::Fill { .. } | Job::Dab { .. } | Job::Move { .. } => None,
+        Job::Blur { rect, .. } => Some(rect),
     }
 }
 
