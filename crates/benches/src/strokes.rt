@@ -21,7 +21,9 @@ const PAIRS: u128 = 8_386_560;
 enum Layout {
     /// Points in rows that turn after 64 of them.
     Rows,
-    /// The same points in an order in which neighbours lie far from each other.
+    /// Points in rows that turn after 100 of them.
+    LongRows,
+    /// The same points as in the first in an order in which neighbours lie far from each other.
     Scattered,
     /// One point, again and again, by uniquely concurrent jobs.
     Unique,
@@ -33,6 +35,7 @@ impl Layout {
     fn name(self) -> &'static str {
         match self {
             Layout::Rows => "points in rows",
+            Layout::LongRows => "points in rows of 100",
             Layout::Scattered => "scattered points",
             Layout::Unique => "uniquely concurrent jobs in one place",
             Layout::Moves => "moves across each other",
@@ -44,6 +47,7 @@ impl Layout {
         let i = i % 4096;
         match self {
             Layout::Rows => Some((Kind::Con, fill(i % 64, i / 64)?)),
+            Layout::LongRows => Some((Kind::Con, fill(i % 100, i / 100)?)),
             Layout::Scattered => {
                 let j = i * 1237 % 4096;
                 Some((Kind::Con, fill(j % 64, j / 64)?))
@@ -127,6 +131,7 @@ fn measure_layout(rt: &(impl Print + Clock), alloc: Global, layout: Layout) -> i
 pub fn measure(rt: &(impl Print + Clock), alloc: Global) -> io::Result<()> {
     for layout in [
         Layout::Rows,
+        Layout::LongRows,
         Layout::Scattered,
         Layout::Unique,
         Layout::Moves,

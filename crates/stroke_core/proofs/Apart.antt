@@ -70,7 +70,7 @@ one_way reads writes reads' writes' e f = rw (e, f) (same (any_meet reads reads'
 near_comm : (a b : Bound) → near a b ≡ near b a
 near_comm a b i = and_comm (nat_le a.left b.right) (nat_le b.left a.right) i && and_comm (nat_le a.top b.bottom) (nat_le b.top a.bottom) i
 
-no_clash : (a b : Bound) (m n : Marks) → Encloses a m → Encloses b n → near a b ≡ false → marks_clash m n ≡ false
+pub no_clash : (a b : Bound) (m n : Marks) → Encloses a m → Encloses b n → near a b ≡ false → marks_clash m n ≡ false
 no_clash a b m n p q e =
     rw (all_apart a b m.writes n.reads e p.writes q.reads, all_apart b a n.writes m.reads (near_comm b a ∙ e) q.writes p.reads) (none (not (m.unique && n.unique)))
   where
@@ -93,10 +93,10 @@ pub block_apart : (marks : List Marks) (lefts unique rights tops bottoms : List 
 block_apart marks lefts unique rights tops bottoms new b from to h r n = position_none_within (λ f. marks_clash f new) from to marks (λ k m a l e. at_place marks lefts unique rights tops bottoms new m b k new.unique h r refl e (n k a l))
 
 -- an element of a list with one more
-abbrev IsOld : {A : Type 0} → List A → A → ℕ → A → Type 0
+abbrev pub IsOld : {A : Type 0} → List A → A → ℕ → A → Type 0
 IsOld xs x k y = ((k < length xs) × (slice_get xs k ≡ Some y)) ⊎ ((k ≡ length xs) × (y ≡ x))
 
-old_or_last : {A : Type 0} (xs : List A) (x : A) (k : ℕ) (y : A) → slice_get (xs ++ x ∷ []) k ≡ Some y → IsOld xs x k y
+pub old_or_last : {A : Type 0} (xs : List A) (x : A) (k : ℕ) (y : A) → slice_get (xs ++ x ∷ []) k ≡ Some y → IsOld xs x k y
 old_or_last [] x zero y e = inr (refl, cc)
 old_or_last [] x (suc k) y e = cc
 old_or_last (z ∷ xs) x zero y e = inl (omega arith, e)

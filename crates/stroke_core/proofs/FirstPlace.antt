@@ -84,25 +84,29 @@ get_dropped (suc m) k (y ∷ xs) x e = ap (slice_get (y ∷ xs)) (next m k) ∙ 
     next m k = omega arith
 
 -- where no element of a part passes
+pub position_none_taken : {A : Type 0} (p : A → Bool) (from n : ℕ) (xs : List A) → ((k : ℕ) (x : A) → from ≤ k → k < from + n → slice_get xs k ≡ Some x → p x ≡ false) → position p (take n (drop from xs)) ≡ None
+position_none_taken p from n xs fails = position_none p (take n (drop from xs)) (λ k x e. let t : (k < n) × (slice_get (drop from xs) k ≡ Some x) = get_taken n k (drop from xs) x e in fails (from + k) x (omega arith) (omega (arith, t.0)) (get_dropped from k xs x t.1))
+
 pub position_none_within : {A : Type 0} (p : A → Bool) (from to : ℕ) (xs : List A) → ((k : ℕ) (x : A) → from ≤ k → k < to → slice_get xs k ≡ Some x → p x ≡ false) → position p (take (to - from) (drop from xs)) ≡ None
-position_none_within p from to xs fails = position_none p (take (to - from) (drop from xs)) (λ k x e. let t : (k < to - from) × (slice_get (drop from xs) k ≡ Some x) = get_taken (to - from) k (drop from xs) x e in fails (from + k) x (omega arith) (omega (arith, t.0)) (get_dropped from k xs x t.1))
+position_none_within p from to xs fails = position_none_taken p from (to - from) xs (λ k x a l e. fails k x a (omega arith) e)
+
+-- a part in which none is
+pub part_passed : {A : Type 0} (p : A → Bool) (xs : List A) (from n to : ℕ) → to ≡ from + n → position p xs ≡ plus from (position p (drop from xs)) → position p (take n (drop from xs)) ≡ None → position p xs ≡ plus to (position p (drop to xs))
+part_passed p xs from n to next e none =
+    e ∙ ap (plus from) (position_behind p n (drop from xs) none ∙ ap (λ ys. plus n (position p ys)) (drop-drop n from xs)) ∙ sum (position p (drop (from + n) xs))
+    ∙ ap (λ k. plus k (position p (drop k xs))) (sym next)
+  where
+    sum : (o : Option ℕ) → plus from (plus n o) ≡ plus (from + n) o
+    sum None = refl
+    sum (Some i) = ap Some (omega arith)
 
 -- a block in which none was found
-pub block_none : {A : Type 0} (p : A → Bool) (xs : List A) (from to : ℕ) (found : Option ℕ) → from ≤ to → position p xs ≡ plus from (position p (drop from xs)) → found ≡ plus from (position p (take (to - from) (drop from xs))) → is_some found ≡ false → position p xs ≡ plus to (position p (drop to xs))
-block_none p xs from to found h e f none =
-    e ∙ ap (plus from) (position_behind p (to - from) (drop from xs) (go (position p (take (to - from) (drop from xs))) f) ∙ ap (λ ys. plus (to - from) (position p ys)) (drop-drop (to - from) from xs)) ∙ sum (position p (drop (from + (to - from)) xs))
-    ∙ ap (λ k. plus to (position p (drop k xs))) same
+pub block_none : {A : Type 0} (p : A → Bool) (xs : List A) (from n to : ℕ) (found : Option ℕ) → to ≡ from + n → position p xs ≡ plus from (position p (drop from xs)) → found ≡ plus from (position p (take n (drop from xs))) → is_some found ≡ false → position p xs ≡ plus to (position p (drop to xs))
+block_none p xs from n to found next e f none = part_passed p xs from n to next e (go (position p (take n (drop from xs))) f)
   where
     go : (o : Option ℕ) → found ≡ plus from o → o ≡ None
     go None f = refl
     go (Some i) f = let t : is_some found ≡ true = ap is_some f in cc
-
-    same : from + (to - from) ≡ to
-    same = omega arith
-
-    sum : (o : Option ℕ) → plus from (plus (to - from) o) ≡ plus to o
-    sum None = refl
-    sum (Some i) = ap Some (omega arith)
 
 -- a block in which one was found
 pub block_some : {A : Type 0} (p : A → Bool) (xs : List A) (from n : ℕ) (found : Option ℕ) → position p xs ≡ plus from (position p (drop from xs)) → found ≡ plus from (position p (take n (drop from xs))) → is_some found ≡ true → found ≡ position p xs

@@ -1,4 +1,5 @@
 pub mod MoreJobs
 pub mod FirstPlace
 pub mod Apart
+pub mod Blocks
 pub mod RunFacts

@@ -1,5 +1,5 @@
 -- Rectangles round all that jobs read and write.
-use Rattle.std.specs.Prelude.{◌≡◌, ℕ, ◌+◌, nat_le, pos, ◌-ℤ◌, ◌≤ℤ◌, Bool, false, ◌&&◌, Some, List, length, slice_get, slice_index, All}
+use Rattle.std.specs.Prelude.{◌≡◌, ℕ, ◌+◌, ◌*◌, ◌<◌, ◌≤◌, nat_le, pos, ◌-ℤ◌, ◌≤ℤ◌, Bool, true, false, ◌&&◌, Some, List, length, slice_get, slice_index, All}
 use Rattle.geom_core.specs.Areas.{Area, right, bottom}
 use Rattle.stroke_core.specs.declared.bound.Bound.{Bound}
 use Rattle.stroke_core.specs.Marks.{Marks}
@@ -33,3 +33,19 @@ pub record AreEdges (marks : List Marks) (lefts lefts_for_unique rights tops bot
   pub bottoms_len : length bottoms ≡ length marks
   pub bounded : (k : ℕ) (m : Marks) → slice_get marks k ≡ Some m → Encloses (bound_at lefts rights tops bottoms k) m
   pub seen : (k : ℕ) (m : Marks) → slice_get marks k ≡ Some m → m.unique ≡ false → slice_index lefts_for_unique k ≡ slice_index lefts k
+
+-- the bound encloses the jobs at places from 64 i to 64 i + 63, save unique ones where these are left out
+abbrev pub IsBoundOf : Bool → List Marks → ℕ → Bound → Type 0
+IsBoundOf unique_out marks i b = (k : ℕ) (m : Marks) → 64 * i ≤ k → k < 64 * i + 64 → slice_get marks k ≡ Some m → (unique_out && m.unique) ≡ false → Encloses b m
+
+-- one bound for every 64 neighbouring jobs, and one for those that are left over
+pub record AreBlocks (unique_out : Bool) (marks : List Marks) (blocks : List Bound) : Type 0 where
+  pub enough : length marks ≤ 64 * length blocks
+  pub needed : 64 * length blocks < length marks + 64
+  pub bounded : (i : ℕ) (b : Bound) → slice_get blocks i ≡ Some b → IsBoundOf unique_out marks i b
+
+-- what is kept of the marks of a run: the edges of each bound, and the bounds of the blocks, with all jobs and without the unique ones
+pub record IsLaidOut (marks : List Marks) (lefts lefts_for_unique rights tops bottoms : List ℕ) (blocks blocks_for_unique : List Bound) : Type 0 where
+  pub edges : AreEdges marks lefts lefts_for_unique rights tops bottoms
+  pub all : AreBlocks false marks blocks
+  pub shared : AreBlocks true marks blocks_for_unique

@@ -1,5 +1,5 @@
 -- Where a job reads and writes, and whether it is uniquely concurrent.
-use Rattle.std.specs.Prelude.{Bool, ◌&&◌, ◌||◌, not, List}
+use Rattle.std.specs.Prelude.{Bool, ◌&&◌, ◌||◌, not, List, [], ◌∷◌, Option, Some, None}
 use Rattle.geom_core.specs.Areas.{Area}
 use Rattle.doc_model.specs.declared.job.Job.{Job}
 use Rattle.doc_model.specs.declared.job.Kind.{Kind}
@@ -11,6 +11,11 @@ pub record Marks : Type 0 where
   pub reads : List Area
   pub writes : List Area
   pub unique : Bool
+
+-- what is written: that rectangle, or else all that is read
+abbrev pub written_or : Option Area → List Area → List Area
+written_or None reads = reads
+written_or (Some rect) reads = rect ∷ []
 
 -- those of a job of that kind
 abbrev pub marks_of : Kind × Job → Marks

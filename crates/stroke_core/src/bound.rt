@@ -1,7 +1,7 @@
 //! Rectangles round all that jobs read and write, edge by edge, so that one is compared with many
 //! at once.
 
-ghost use Rattle.std.specs.Prelude.{◌≡◌, ◌≢◌, ℕ, ◌≤◌, ◌<◌, ◌&&◌, nat_le, false, All, length};
+ghost use Rattle.std.specs.Prelude.{◌≡◌, ◌≢◌, ℕ, ◌≤◌, ◌<◌, ◌&&◌, nat_le, false, Some, All, length, slice_get};
 ghost use Rattle.geom_core.specs.Areas.{Area};
 ghost use Rattle.stroke_core.specs.Bounds.{LiesIn, near, bound_at};
 
@@ -35,27 +35,60 @@ impl Bound {
     {
         let mut bound = self;
         for rect in rects {
-            bound = bound.with(rect);
+            bound = bound.joined(Bound::of(rect));
         }
         bound
     }
 
-    /// The least that has this rectangle too.
-    fn with(self, rect: &Rect) -> Bound
-        ensures more { LiesIn result rect.now }
-        ensures kept { (a : Area) → LiesIn self a → LiesIn result a }
+    /// That of one rectangle.
+    fn of(rect: &Rect) -> Bound
+        ensures { LiesIn result rect.now }
     {
-        let left = rect.left() as u16;
-        let top = rect.top() as u16;
-        let right = (rect.left() + rect.w() - 1) as u16;
-        let bottom = (rect.top() + rect.h() - 1) as u16;
         Bound {
-            left: self.left.min(left),
-            right: self.right.max(right),
-            top: self.top.min(top),
-            bottom: self.bottom.max(bottom),
+            left: rect.left() as u16,
+            right: (rect.left() + rect.w() - 1) as u16,
+            top: rect.top() as u16,
+            bottom: (rect.top() + rect.h() - 1) as u16,
         }
     }
+
+    /// The least that has all of both.
+    pub(crate) fn joined(self, other: Bound) -> Bound
+        ensures kept { (a : Area) → LiesIn self a → LiesIn result a }
+        ensures more { (a : Area) → LiesIn other a → LiesIn result a }
+    {
+        Bound {
+            left: self.left.min(other.left),
+            right: self.right.max(other.right),
+            top: self.top.min(other.top),
+            bottom: self.bottom.max(other.bottom),
+        }
+    }
+
+    /// Whether the two have a point in common.
+    pub(crate) fn is_near(self, other: Bound) -> bool
+        ensures { result ≡ near self other }
+    {
+        let across = crosses(self.left, self.right, other.left, other.right);
+        let down = crosses(self.top, self.bottom, other.top, other.bottom);
+        across & down
+    }
+}
+
+/// The first place from that one on whose bound has a point in common with that bound, or else the
+/// number of places.
+pub(crate) fn next_near(bounds: &[Bound], from: usize, bound: Bound) -> usize
+    requires { from ≤ length bounds.now }
+    ensures later { from ≤ result }
+    ensures inside { result ≤ length bounds.now }
+    ensures passed { (k : ℕ) (b : Bound) → from ≤ k → k < result → slice_get bounds.now k ≡ Some b → near b bound ≡ false }
+{
+    for i in from..bounds.len() {
+        if bounds[i].is_near(bound) {
+            return i;
+        }
+    }
+    bounds.len()
 }
 
 /// Whether one of the bounds at these places has a point in common with that bound. It goes through

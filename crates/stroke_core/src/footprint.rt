@@ -1,40 +1,38 @@
 //! Where jobs read and write, kept beside them so that they are quickly compared.
 
-ghost use Rattle.std.specs.Prelude.{◌≡◌, ◌≤◌, ◌-◌, ◌&&◌, ◌||◌, ◌++◌, ◌∷◌, [], true, not, position, if◌then◌else◌, OnOk, OnErr, length, take, drop, ◌<◌, vec_len, vec_capacity};
+ghost use Rattle.std.specs.Prelude.{◌≡◌, ◌≤◌, ◌<◌, ◌+◌, ◌-◌, ◌*◌, ◌&&◌, ◌||◌, ◌++◌, ◌∷◌, [], List, Bool, true, false, not, position, if◌then◌else◌, OnOk, OnErr, length, take, drop, vec_len, vec_capacity};
 ghost use Rattle.std.specs.List.{list_any};
 ghost use Rattle.geom_core.specs.Areas.{meets};
 ghost use Rattle.doc_model.specs.Jobs.{reads, writes};
 ghost use Rattle.doc_model.specs.Lawful.{checks};
 ghost use Rattle.doc_model.specs.Strokes.{any_meet, is_uni};
-ghost use Rattle.stroke_core.specs.Bounds.{Encloses};
+ghost use Rattle.stroke_core.specs.Bounds.{Encloses, AreBlocks};
 ghost use Rattle.stroke_core.specs.Fed.{plus};
+ghost use Rattle.stroke_core.specs.Marks.{Marks, written_or};
 
-use crate::bound::{Bound, any_near};
+use crate::bound::{Bound, any_near, next_near};
 use arrayvec::ArrayVec;
 use doc_model::{Job, Kind};
 use geom_core::Rect;
 use std::alloc::{AllocError, Global};
 use std::marker::Model;
+use std::slice;
 
 /// The rectangles of a job, and whether it is uniquely concurrent.
 #[derive(Drop)]
 pub(crate) struct Footprint {
     reads: ArrayVec<Rect, 2>,
-    writes: ArrayVec<Rect, 2>,
-    /// Whether it is known to write all that it reads.
-    writes_all: bool,
+    /// The rectangle that it writes, where it doesn't write all that it reads.
+    written: Option<Rect>,
     unique: bool,
 }
 
 impl Model for Footprint {
-    ghost use Rattle.std.specs.Prelude.{◌≡◌, true};
-    ghost use Rattle.stroke_core.specs.Marks.{Marks};
+    ghost use Rattle.stroke_core.specs.Marks.{Marks, written_or};
 
     ghost Value = { Marks };
 
-    ghost view = { λ f. record { reads = f.reads.items; writes = f.writes.items; unique = f.unique } };
-
-    ghost invariant = { λ f. f.writes_all ≡ true → f.writes.items ≡ f.reads.items };
+    ghost view = { λ f. record { reads = f.reads.items; writes = written_or f.written f.reads.items; unique = f.unique } };
 }
 
 impl Footprint {
@@ -46,8 +44,7 @@ impl Footprint {
     {
         Footprint {
             reads: job.reads(),
-            writes: job.writes(),
-            writes_all: writes_all(job),
+            written: written(job),
             unique: is_unique(kind),
         }
     }
@@ -64,11 +61,31 @@ impl Footprint {
     fn disturbs(&self, other: &Footprint) -> bool
         ensures { result ≡ (any_meet self.now.writes other.now.reads || any_meet other.now.writes self.now.reads) }
     {
-        let there = any_meet(self.writes.as_slice(), other.reads.as_slice());
-        if self.writes_all && other.writes_all {
+        let there = any_meet(self.writes(), other.reads.as_slice());
+        if self.writes_all() && other.writes_all() {
             return there;
         }
-        there || any_meet(other.writes.as_slice(), self.reads.as_slice())
+        there || any_meet(other.writes(), self.reads.as_slice())
+    }
+
+    /// Whether it is known to write all that it reads.
+    fn writes_all(&self) -> bool
+        ensures { result ≡ true → self.now.writes ≡ self.now.reads }
+    {
+        match self.written {
+            Some(_) => false,
+            None => true,
+        }
+    }
+
+    /// The rectangles that the job writes.
+    fn writes(&self) -> &[Rect]
+        ensures { result.now ≡ self.now.writes }
+    {
+        match &self.written {
+            Some(rect) => slice::from_ref(rect),
+            None => self.reads.as_slice(),
+        }
     }
 
     /// A rectangle round all that the job reads and writes.
@@ -77,7 +94,7 @@ impl Footprint {
     {
         Bound::nothing()
             .with_all(self.reads.as_slice())
-            .with_all(self.writes.as_slice())
+            .with_all(self.writes())
     }
 
     /// The place of the first of these that clashes with it.
@@ -94,13 +111,13 @@ fn is_unique(kind: Kind) -> bool
     kind == Kind::Uni
 }
 
-/// Whether the job writes all that it reads.
-fn writes_all(job: &Job) -> bool
-    ensures { result ≡ true → writes job.now ≡ reads job.now }
+/// The rectangle that the job writes, where it doesn't write all that it reads.
+fn written(job: &Job) -> Option<Rect>
+    ensures { writes job.now ≡ written_or result (reads job.now) }
 {
-    match job {
-        Job::Fill { .. } | Job::Dab { .. } | Job::Move { .. } => true,
-        Job::Blur { .. } => false,
+    match *job {
+        Job::Fill { .. } | Job::Dab { .. } | Job::Move { .. } => None,
+        Job::Blur { rect, .. } => Some(rect),
     }
 }
 
@@ -117,12 +134,15 @@ fn meets_any(rect: &Rect, others: &[Rect]) -> bool
     others.iter().any(|other| rect.meets(other))
 }
 
-/// How many jobs are looked over at once before they are compared one by one.
-const BLOCK: usize = 128;
+/// How many neighbouring jobs of a run have a bound together, and are looked over at once where it
+/// is near.
+const BLOCK: usize = 64;
 
-/// The footprints of a run of jobs, and the edges of a rectangle round each of them.
+/// The footprints of a run of jobs, the edges of a rectangle round each of them, and a rectangle
+/// round each block of them.
 ///
-/// Most jobs lie far from each other, and that shows in the edges alone.
+/// Most jobs lie far from each other, and that shows in the edges alone. Most neighbours in a run lie
+/// close together, and then that shows for a whole block at once.
 #[derive(Drop)]
 pub(crate) struct Footprints {
     exact: Vec<Footprint>,
@@ -132,18 +152,21 @@ pub(crate) struct Footprints {
     rights: Vec<u16>,
     tops: Vec<u16>,
     bottoms: Vec<u16>,
+    blocks: Vec<Bound>,
+    /// The blocks as unique jobs see them: without other unique jobs.
+    blocks_for_unique: Vec<Bound>,
 }
 
 impl Model for Footprints {
     ghost use Rattle.std.specs.Prelude.{List};
     ghost use Rattle.stroke_core.specs.Marks.{Marks};
-    ghost use Rattle.stroke_core.specs.Bounds.{AreEdges};
+    ghost use Rattle.stroke_core.specs.Bounds.{IsLaidOut};
 
     ghost Value = { List Marks };
 
     ghost view = { λ f. f.exact.items };
 
-    ghost invariant = { λ f. AreEdges f.exact.items f.lefts.items f.lefts_for_unique.items f.rights.items f.tops.items f.bottoms.items };
+    ghost invariant = { λ f. IsLaidOut f.exact.items f.lefts.items f.lefts_for_unique.items f.rights.items f.tops.items f.bottoms.items f.blocks.items f.blocks_for_unique.items };
 }
 
 impl Footprints {
@@ -159,6 +182,8 @@ impl Footprints {
             rights: Vec::new(alloc),
             tops: Vec::new(alloc),
             bottoms: Vec::new(alloc),
+            blocks: Vec::new(alloc),
+            blocks_for_unique: Vec::new(alloc),
         }
     }
 
@@ -168,10 +193,10 @@ impl Footprints {
         ensures err { OnErr result (self.new ≡ self.old) }
     {
         let bound = footprint.bound();
-        let left_for_unique = if footprint.unique {
-            u16::MAX
+        let for_unique = if footprint.unique {
+            Bound::nothing()
         } else {
-            bound.left
+            bound
         };
         self.exact.reserve(1)?;
         self.lefts.reserve(1)?;
@@ -179,9 +204,14 @@ impl Footprints {
         self.rights.reserve(1)?;
         self.tops.reserve(1)?;
         self.bottoms.reserve(1)?;
+        self.blocks.reserve(1)?;
+        self.blocks_for_unique.reserve(1)?;
+        let len = self.exact.len();
+        add_to_blocks(&mut self.blocks, len, bound);
+        add_to_blocks(&mut self.blocks_for_unique, len, for_unique);
         push_reserved(&mut self.exact, footprint);
         push_reserved(&mut self.lefts, bound.left);
-        push_reserved(&mut self.lefts_for_unique, left_for_unique);
+        push_reserved(&mut self.lefts_for_unique, for_unique.left);
         push_reserved(&mut self.rights, bound.right);
         push_reserved(&mut self.tops, bound.top);
         push_reserved(&mut self.bottoms, bound.bottom);
@@ -198,6 +228,8 @@ impl Footprints {
         self.rights.clear();
         self.tops.clear();
         self.bottoms.clear();
+        self.blocks.clear();
+        self.blocks_for_unique.clear();
     }
 
     /// The place of the first that clashes with a new one.
@@ -205,20 +237,42 @@ impl Footprints {
         ensures { result ≡ position (λ f. marks_clash f new.now) self.now }
     {
         let bound = new.bound();
-        let len = self.exact.len();
-        let mut from = 0;
-        while from < len {
-            let to = from + BLOCK.min(len - from);
-            let found = self.first_within(from, to, new, bound);
+        let blocks = self.blocks_for(new.unique);
+        let mut i = next_near(blocks, 0, bound);
+        while i < blocks.len() {
+            let found = self.first_in_block(i, new, bound);
             if found.is_some() {
                 return found;
             }
-            from = to;
+            i = next_near(blocks, i + 1, bound);
         }
         None
     }
 
+    /// The bounds of the blocks as a new job sees them.
+    fn blocks_for(&self, unique: bool) -> &[Bound]
+        ensures { AreBlocks unique self.now result.now }
+    {
+        if unique {
+            self.blocks_for_unique.as_slice()
+        } else {
+            self.blocks.as_slice()
+        }
+    }
+
     /// The place of the first in a block that clashes with a new one.
+    fn first_in_block(&self, i: usize, new: &Footprint, bound: Bound) -> Option<usize>
+        requires inside { 64 * i < length self.now }
+        requires bound { Encloses bound new.now }
+        ensures { result ≡ plus (64 * i) (position (λ f. marks_clash f new.now) (take 64 (drop (64 * i) self.now))) }
+    {
+        let len = self.exact.len();
+        let from = i * BLOCK;
+        let to = from + BLOCK.min(len - from);
+        self.first_within(from, to, new, bound)
+    }
+
+    /// The place of the first of a row of neighbours that clashes with a new one.
     fn first_within(&self, from: usize, to: usize, new: &Footprint, bound: Bound) -> Option<usize>
         requires ascending { from ≤ to }
         requires inside { to ≤ length self.now }
@@ -244,6 +298,21 @@ impl Footprints {
         let place = new.first_clash(&self.exact[from..to])?;
         Some(from + place)
     }
+}
+
+/// Adds one more bound, of the job at place `len`, to that of the last block, or to a new one where the others are full.
+fn add_to_blocks(blocks: &mut Vec<Bound>, len: usize, bound: Bound)
+    requires room { vec_len blocks.old < vec_capacity blocks.old }
+    requires enough { len ≤ 64 * length blocks.old.items }
+    requires needed { 64 * length blocks.old.items < len + 64 }
+    ensures { (unique_out : Bool) (marks : List Marks) (m : Marks) → length marks ≡ len → AreBlocks unique_out marks blocks.old.items → ((unique_out && m.unique) ≡ false → Encloses bound m) → AreBlocks unique_out (marks ++ m ∷ []) blocks.new.items }
+{
+    if len % BLOCK == 0 {
+        push_reserved(blocks, bound);
+        return;
+    }
+    let last = blocks.len() - 1;
+    blocks[last] = blocks[last].joined(bound);
 }
 
 /// Adds one where there is room for it.

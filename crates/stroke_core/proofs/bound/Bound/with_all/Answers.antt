@@ -5,8 +5,8 @@ use Rattle.stroke_core.proofs.bound.Bound.with_all.Goals as goal
 
 pub loop-rect-preserved : goal.loop-rect-preserved
 loop-rect-preserved c = record {
-  more = All-more (LiesIn c.with-bound.result) c.args.rects.now c.loop-rect.rect-index c.rect-item.result c.loop-rect-test.true (All-weaker (LiesIn c.loop-rect.bound) (LiesIn c.with-bound.result) (λ a h. c.with-bound.ensures.kept a h) _ c.loop-rect.invariant.more) (rw (← c.rect-item.is) c.with-bound.ensures.more);
-  kept = λ a h. c.with-bound.ensures.kept a (c.loop-rect.invariant.kept a h);
+  more = All-more (LiesIn c.joined-bound.result) c.args.rects.now c.loop-rect.rect-index c.rect-item.result c.loop-rect-test.true (All-weaker (LiesIn c.loop-rect.bound) (LiesIn c.joined-bound.result) (λ a h. c.joined-bound.ensures.kept a h) _ c.loop-rect.invariant.more) (rw (← c.rect-item.is) (c.joined-bound.ensures.more _ c.of.ensures));
+  kept = λ a h. c.joined-bound.ensures.kept a (c.loop-rect.invariant.kept a h);
 }
 
 pub returns-clause-more : goal.returns-clause-more

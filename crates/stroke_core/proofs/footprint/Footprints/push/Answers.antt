@@ -1,5 +1,7 @@
-use Rattle.std.proofs.Common.{◌≡◌, [], ◌∷◌, ◌++◌, true, false, ap, arith, sym, ◌∙◌}
+use Rattle.std.proofs.Common.{◌≡◌, [], ◌∷◌, ◌++◌, length, true, false, ap, arith, sym, subst, List, ◌∙◌}
 use Rattle.std.proofs.lemmas.Grind.{common_steps}
+use Rattle.stroke_core.specs.Bounds.{Encloses, AreBlocks}
+use Rattle.stroke_core.specs.declared.bound.Bound.{Bound}
 use Rattle.stroke_core.specs.Marks.{Marks}
 use Rattle.stroke_core.proofs.Apart.{edges_more}
 use Rattle.stroke_core.proofs.footprint.Footprints.push.Goals as goal
@@ -9,12 +11,23 @@ pub invariant_of-self-2 : goal.invariant_of-self-2
 invariant_of-self-2 c =
     let exact : c.push_reserved.new.items.items ≡ c.self.inside.exact.items ++ c.args.footprint ∷ [] = grind (arith, common_steps) in
     let lefts : c.push_reserved-2.new.items.items ≡ c.self.inside.lefts.items ++ c.bound-bound.result.left ∷ [] = grind (arith, common_steps) in
-    let unique : c.push_reserved-3.new.items.items ≡ c.self.inside.lefts_for_unique.items ++ c.if-footprint.left_for_unique ∷ [] = grind (arith, common_steps) in
+    let unique : c.push_reserved-3.new.items.items ≡ c.self.inside.lefts_for_unique.items ++ c.if-footprint.for_unique.left ∷ [] = grind (arith, common_steps) in
     let rights : c.push_reserved-4.new.items.items ≡ c.self.inside.rights.items ++ c.bound-bound.result.right ∷ [] = grind (arith, common_steps) in
     let tops : c.push_reserved-5.new.items.items ≡ c.self.inside.tops.items ++ c.bound-bound.result.top ∷ [] = grind (arith, common_steps) in
     let bottoms : c.push_reserved-6.new.items.items ≡ c.self.inside.bottoms.items ++ c.bound-bound.result.bottom ∷ [] = grind (arith, common_steps) in
-    let left : c.args.footprint.unique ≡ false → c.if-footprint.left_for_unique ≡ c.bound-bound.result.left = elim c.if-footprint.branch [
+    let left : c.args.footprint.unique ≡ false → c.if-footprint.for_unique.left ≡ c.bound-bound.result.left = elim c.if-footprint.branch [
       | then-footprint w ↦ (λ u. let v : c.args.footprint.unique ≡ true = sym (ap (λ (m : Marks). m.unique) c.footprint.view_is) ∙ w.if-footprint.true in cc)
-      | else-footprint w ↦ (λ u. w.left_for_unique-is)
+      | else-footprint w ↦ (λ u. ap (λ (b : Bound). b.left) w.for_unique-is)
     ] in
-    rw (exact, lefts, unique, rights, tops, bottoms) (edges_more _ _ _ _ _ _ c.args.footprint c.bound-bound.result c.if-footprint.left_for_unique c.self.invariant c.bound-bound.ensures left)
+    let bounded : c.args.footprint.unique ≡ false → Encloses c.if-footprint.for_unique c.args.footprint = elim c.if-footprint.branch [
+      | then-footprint w ↦ (λ u. let v : c.args.footprint.unique ≡ true = sym (ap (λ (m : Marks). m.unique) c.footprint.view_is) ∙ w.if-footprint.true in cc)
+      | else-footprint w ↦ (λ u. subst (λ (b : Bound). Encloses b c.args.footprint) (sym w.for_unique-is) c.bound-bound.ensures)
+    ] in
+    let len : length c.self.inside.exact.items ≡ c.len-len.result = grind (arith, common_steps) in
+    let all : AreBlocks false (c.self.inside.exact.items ++ c.args.footprint ∷ []) c.add_to_blocks.new.blocks.items = c.add_to_blocks.ensures false c.self.inside.exact.items c.args.footprint len (subst (λ (bs : List Bound). AreBlocks false c.self.inside.exact.items bs) (sym c.reserve-7.ensures.items) c.self.invariant.all) (λ _. c.bound-bound.ensures) in
+    let shared : AreBlocks true (c.self.inside.exact.items ++ c.args.footprint ∷ []) c.add_to_blocks-2.new.blocks.items = c.add_to_blocks-2.ensures true c.self.inside.exact.items c.args.footprint len (subst (λ (bs : List Bound). AreBlocks true c.self.inside.exact.items bs) (sym c.reserve-8.ensures.items) c.self.invariant.shared) bounded in
+    rw (exact, lefts, unique, rights, tops, bottoms) (record {
+      edges = edges_more _ _ _ _ _ _ c.args.footprint c.bound-bound.result c.if-footprint.for_unique.left c.self.invariant.edges c.bound-bound.ensures left;
+      all = all;
+      shared = shared;
+    })
