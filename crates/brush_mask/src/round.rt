@@ -25,21 +25,23 @@ pub fn mask(r: u8, soft: bool, dx: i16, dy: i16) -> u8
     }
 }
 
-fn square(x: u16) -> u32
+#[inline]
+pub(crate) fn square(x: u16) -> u16
     requires { x ≤ 128 }
     ensures value { result ≡ x * x }
     ensures small { result ≤ 16384 }
 {
-    x as u32 * x as u32
+    x * x
 }
 
 /// The strength of a soft dab at a distance whose square is `d2`, where its radius has the square `r2`.
-fn fallen(r2: u32, d2: u32) -> u8
+fn fallen(r2: u16, d2: u16) -> u8
     requires within { d2 ≤ r2 }
     requires small { r2 ≤ 16384 }
     ensures { result ≡ inside true r2 d2 }
 {
-    (255 * (r2 + 1 - d2) / (r2 + 1)) as u8
+    let whole = r2 as u32 + 1;
+    (255 * (whole - d2 as u32) / whole) as u8
 }
 
 #[cfg(test)]

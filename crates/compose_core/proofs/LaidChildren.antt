@@ -7,6 +7,7 @@ use Rattle.std.proofs.lemmas.Bool.Decides.{nat_tests}
 use Rattle.std.proofs.lemmas.List.{get_or-take, get_or-drop, drop-drop, append_assoc, length-take-le, drop_all}
 use Rattle.pixel_core.specs.Rgba.{Rgba, clear}
 use Rattle.pixel_core.specs.Compose.{compose}
+use Rattle.pixel_rows.specs.Rows.{LaysRow}
 use Rattle.geom_core.specs.Points.{point}
 use Rattle.geom_core.specs.Areas.{Area, holds}
 use Rattle.tile_core.specs.Pixels.{Pixels, pixel_of}
@@ -17,7 +18,7 @@ use Rattle.doc_model.specs.Picture.{with_look}
 use Rattle.compose_core.specs.declared.children.Given.{Given}
 use Rattle.compose_core.specs.declared.children.Given.TheVariants.{Held}
 use Rattle.compose_core.specs.Children.{given_at, with_child, laid_children, children_on, IsComposed}
-use Rattle.compose_core.specs.Rows.{ComposesRow, LaysChild}
+use Rattle.compose_core.specs.Laid.{LaysChild}
 
 -- ---- one row of a child
 
@@ -54,7 +55,7 @@ seen look p b v = rw v refl
 
 pub row_lays : (look : Look) (given : Given) (source : ℕ → Rgba) (old ys : Pixels) (at k w left row : ℕ) → look.visible ≡ true → at ≡ 64 * row + left → left + w ≤ 64 → row < 64 → length old ≡ 4096 → k ≡ w → length ys ≡ w
     → ((col : ℕ) → left ≤ col → col - left < w → source (col - left) ≡ given_at col row given)
-    → ComposesRow look.op source look.opacity (take k (drop at old)) ys → LaysChild left row w 1 look given old (put_mid at k old ys)
+    → LaysRow look.op source (λ _. look.opacity) (take k (drop at old)) ys → LaysChild left row w 1 look given old (put_mid at k old ys)
 row_lays look given source old ys at k w left row v e across down whole ek many sources laid col r small =
     ap (λ zs. get_or zs (64 * r + col) clear) (put_row old ys at k (many ∙ sym ek))
     ∙ get_or-laid old ys at (64 * r + col) clear (omega (arith, many))

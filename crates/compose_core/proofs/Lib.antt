@@ -1,3 +1,2 @@
-pub mod ComposedRows
 pub mod LaidChildren
 pub mod Pictures

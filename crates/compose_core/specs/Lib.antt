@@ -1,2 +1,2 @@
 pub mod Children
-pub mod Rows
+pub mod Laid

@@ -4,13 +4,13 @@ ghost use Rattle.std.specs.Prelude.{◌≡◌, ◌+◌, ◌<◌, ◌≤◌, leng
 ghost use Rattle.geom_core.specs.Areas.{IsWithin};
 ghost use Rattle.tile_core.specs.Pixels.{whole_tile};
 ghost use Rattle.compose_core.specs.Children.{IsComposed};
-ghost use Rattle.compose_core.specs.Rows.{LaysChild};
+ghost use Rattle.compose_core.specs.Laid.{LaysChild};
 
 use crate::part::{Part, part_of};
-use crate::rows::{compose_plain, compose_row};
 use doc_model::Look;
 use geom_core::{NoMemory, Rect};
 use pixel_core::Pixel;
+use pixel_rows::{lay_colour, lay_sources};
 use std::alloc::Global;
 use tile_core::Tile;
 
@@ -75,8 +75,8 @@ fn lay_row(pixels: &mut [Pixel], part: Part, row: usize, look: Look, given: &Giv
     match given {
         Given::Held(tile) => {
             let sources = &tile.pixels()[at..at + part.w];
-            compose_row(look.op, sources, backdrop, look.opacity);
+            lay_sources(look.op, sources, look.opacity, backdrop);
         }
-        Given::Plain(source) => compose_plain(look.op, *source, backdrop, look.opacity),
+        Given::Plain(source) => lay_colour(look.op, *source, look.opacity, backdrop),
     }
 }

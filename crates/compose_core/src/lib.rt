@@ -4,7 +4,6 @@
 mod children;
 mod laws;
 mod part;
-mod rows;
 
 pub use children::{Given, compose_tile};
 pub use laws::group_of_pictures;

@@ -5,14 +5,15 @@ use borrow.Rule.Slice.PartMut.{put_mid}
 use Rattle.std.proofs.lemmas.Bool.Decides.{nat_tests}
 use Rattle.std.proofs.lemmas.List.{get_or-take, get_or-drop, drop-drop, append_assoc, length-take-le}
 use Rattle.pixel_core.specs.Rgba.{Rgba, clear}
+use Rattle.pixel_core.specs.Bytes.{mul}
 use Rattle.tile_core.proofs.LaidRows.{get_or-laid, stretch}
 use Rattle.job_core.specs.declared.ink.Ink.{Ink}
 use Rattle.job_core.specs.declared.dabs.Brush.{Brush}
 use Rattle.job_core.specs.Dabs.{brushed, DabsRow, DabsRows}
 
--- the dab lies on the places below i, the others are as they were
-abbrev pub RowSoFar : Brush → Ink → ℤ → ℤ → List Rgba → List Rgba → ℕ → Type 0
-RowSoFar brush ink dx dy old new i = (k : ℕ) → k < length old → get_or new k clear ≡ cond (ltb k i) (brushed brush ink (dx +ℤ pos k) dy (get_or old k clear)) (get_or old k clear)
+-- the strengths below i are multiplied, the others are as they were
+abbrev pub WeakenedSoFar : ℕ → List ℕ → List ℕ → ℕ → Type 0
+WeakenedSoFar strength old new i = (k : ℕ) → k < length old → get_or new k 0 ≡ cond (ltb k i) (mul (get_or old k 0) strength) (get_or old k 0)
 
 -- the dab lies on the rows above row i, the others are as they were
 pub record DabSoFar (brush : Brush) (ink : Ink) (dx dy : ℤ) (w : ℕ) (old new : List Rgba) (i from : ℕ) : Type 0 where

@@ -3,6 +3,7 @@ use Rattle.std.proofs.Common.{◌≡◌, ℕ, ◌*◌, true, List, [], ◌∷◌
 use Rattle.pixel_core.specs.declared.blending.Op.{Op}
 use Rattle.pixel_core.specs.Rgba.{Rgba}
 use Rattle.pixel_core.specs.Compose.{compose}
+use Rattle.pixel_rows.specs.Rows.{LaysRow}
 use Rattle.geom_core.specs.Points.{Point}
 use Rattle.geom_core.specs.Areas.{Area, meets, place_in, IsShared}
 use Rattle.geom_core.specs.Grid.{Key, tile, IsWorldKey}
@@ -15,7 +16,6 @@ use Rattle.doc_model.specs.declared.job.Job.TheVariants.{Fill}
 use Rattle.job_core.specs.declared.ink.Ink.{Ink}
 use Rattle.job_core.specs.Paints.{paint, IsPainted}
 use Rattle.job_core.specs.Due.{IsDue}
-use Rattle.job_core.specs.Inks.{LaysInk}
 use Rattle.job_core.proofs.Values.{one_met, world_key, some_of_limits, seen_at, painted_once}
 use Rattle.job_core.specs.Made.{IsBlock}
 
@@ -31,5 +31,5 @@ fill_painted rect part colour op m s key b due shared is = painted_once (Fill re
     (λ p h. ap (λ q. compose op colour q m) (sym (seen_at s rect p (and_left _ _ due.seen) h)))
 
 -- ink laid on each of a rectangle's pixels
-pub inked_pixels : (ink : Ink) (a : Area) (g : Point → Rgba) (old new : List Rgba) → length old ≡ a.h * a.w → HasPixels a g old → LaysInk ink old new → HasPixels a (λ p. compose ink.op ink.colour (g p) ink.strength) new
+pub inked_pixels : (ink : Ink) (a : Area) (g : Point → Rgba) (old new : List Rgba) → length old ≡ a.h * a.w → HasPixels a g old → LaysRow ink.op (λ _. ink.colour) (λ _. ink.strength) old new → HasPixels a (λ p. compose ink.op ink.colour (g p) ink.strength) new
 inked_pixels ink a g old new n has each p h = each (place_in a p) (rw n (place_small a p h)) ∙ ap (λ q. compose ink.op ink.colour q ink.strength) (has p h)

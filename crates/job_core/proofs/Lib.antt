@@ -1,6 +1,4 @@
 pub mod Values
-pub mod InkedRows
-pub mod Hiding
 pub mod FillValues
 pub mod RowLaws
 pub mod DabRows

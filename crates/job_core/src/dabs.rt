@@ -9,13 +9,14 @@ ghost use Rattle.doc_model.specs.Jobs.{square as square_of};
 ghost use Rattle.job_core.specs.Paints.{paint, IsPainted};
 ghost use Rattle.job_core.specs.Due.{IsDue};
 ghost use Rattle.job_core.specs.Made.{dabbed as dabbed_at};
-ghost use Rattle.job_core.specs.Dabs.{DabsRow, DabsRows};
+ghost use Rattle.job_core.specs.Dabs.{DabsRow, DabsRows, HasStrengths, WeakensRow};
 
-use crate::ink::{Ink, laid_on};
+use crate::ink::Ink;
 use crate::part::part_in;
-use brush_mask::mask;
+use brush_mask::mask_row;
 use geom_core::{NoMemory, Rect, TileKey};
 use pixel_core::{Pixel, mul};
+use pixel_rows::lay_masked;
 use std::alloc::Global;
 use tile_core::{Block, Shot};
 
@@ -98,6 +99,7 @@ fn lay_dab(pixels: &mut [Pixel], w: usize, h: usize, dx: i16, dy: i16, brush: &B
 
 /// Lays one row of a dab.
 fn lay_dab_row(row: &mut [Pixel], dx: i16, dy: i16, brush: &Brush, ink: &Ink)
+    requires small { length row.old ≤ 64 }
     requires radius { brush.now.r ≤ 128 }
     requires left { negsuc 127 ≤ℤ dx }
     requires right { (dx +ℤ pos (length row.old)) ≤ℤ pos 129 }
@@ -105,8 +107,32 @@ fn lay_dab_row(row: &mut [Pixel], dx: i16, dy: i16, brush: &Brush, ink: &Ink)
     requires bottom { dy ≤ℤ pos 128 }
     ensures { DabsRow brush.now ink.now dx dy row.old row.new }
 {
+    let mut places = [0; 64];
+    let strengths = &mut places[..row.len()];
+    write_strengths(strengths, dx, dy, brush, ink);
+    lay_masked(ink.op, ink.colour, strengths, row);
+}
+
+/// Writes a dab's strengths along a row, of which the first place is (dx, dy) from the centre.
+fn write_strengths(row: &mut [u8], dx: i16, dy: i16, brush: &Brush, ink: &Ink)
+    requires radius { brush.now.r ≤ 128 }
+    requires left { negsuc 127 ≤ℤ dx }
+    requires right { (dx +ℤ pos (length row.old)) ≤ℤ pos 129 }
+    requires top { negsuc 127 ≤ℤ dy }
+    requires bottom { dy ≤ℤ pos 128 }
+    ensures { HasStrengths brush.now ink.now dx dy row.new }
+{
+    mask_row(brush.r, brush.soft, dx, dy, row);
+    if ink.strength != 255 {
+        weaken(row, ink.strength);
+    }
+}
+
+/// Multiplies each of a row's strengths by another one.
+fn weaken(row: &mut [u8], strength: u8)
+    ensures { WeakensRow strength row.old row.new }
+{
     for i in 0..row.len() {
-        let strength = mul(mask(brush.r, brush.soft, dx + i as i16, dy), ink.strength);
-        row[i] = laid_on(row[i], ink, strength);
+        row[i] = mul(row[i], strength);
     }
 }

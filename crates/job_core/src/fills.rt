@@ -10,10 +10,11 @@ ghost use Rattle.doc_model.specs.declared.job.Job.TheVariants.{Fill};
 ghost use Rattle.job_core.specs.Paints.{paint, IsPainted};
 ghost use Rattle.job_core.specs.Due.{IsDue};
 
-use crate::ink::{Ink, lay_on_all};
+use crate::ink::Ink;
 use crate::part::part_in;
 use geom_core::{NoMemory, Rect, TileKey};
 use pixel_core::Pixel;
+use pixel_rows::lay_colour;
 use std::alloc::Global;
 use tile_core::{Block, Shot};
 
@@ -47,6 +48,6 @@ fn inked(
     ensures has { IfOk result (λ v. HasPixels part.now (λ p. compose ink.now.op ink.now.colour (sight_at shot.now p) ink.now.strength) v.items) }
 {
     let mut pixels = shot.read(alloc, key, part)?;
-    lay_on_all(&mut pixels, ink);
+    lay_colour(ink.op, ink.colour, ink.strength, &mut pixels);
     Ok(pixels)
 }

@@ -1,4 +1,4 @@
-use Rattle.compose_core.specs.Rows.{LaysChild}
+use Rattle.compose_core.specs.Laid.{LaysChild}
 use Rattle.compose_core.proofs.children.lay_child.Given as goal
 
 -- the rows so far are laid

@@ -1,18 +1,11 @@
--- Rows and parts of a tile, composed with others.
-use Rattle.std.specs.Prelude.{◌≡◌, ℕ, ◌<◌, if◌then◌else◌, List, length, slice_index_or}
-use Rattle.pixel_core.specs.declared.blending.Op.{Op}
-use Rattle.pixel_core.specs.Rgba.{Rgba, clear}
-use Rattle.pixel_core.specs.Compose.{compose}
+-- Parts of a tile, with children laid on them.
+use Rattle.std.specs.Prelude.{◌≡◌, ℕ, ◌<◌, if◌then◌else◌}
 use Rattle.tile_core.specs.Pixels.{Pixels, pixel_of}
 use Rattle.tile_core.specs.Parts.{in_part}
 use Rattle.doc_model.specs.declared.tree.Look.{Look}
 use Rattle.doc_model.specs.Picture.{with_look}
 use Rattle.compose_core.specs.declared.children.Given.{Given}
 use Rattle.compose_core.specs.Children.{given_at}
-
--- each new pixel is the source of its place laid on the old one
-abbrev pub ComposesRow : Op → (ℕ → Rgba) → ℕ → List Rgba → List Rgba → Type 0
-ComposesRow op source opacity old new = (k : ℕ) → k < length old → slice_index_or new k clear ≡ compose op (source k) (slice_index_or old k clear) opacity
 
 -- the new tile has the child laid on the old one on a part, and the old one's pixels elsewhere
 abbrev pub LaysChild : ℕ → ℕ → ℕ → ℕ → Look → Given → Pixels → Pixels → Type 0

@@ -1,0 +1,92 @@
+//! Rows of masks.
+
+ghost use Rattle.std.specs.Prelude.{◌≡◌, ◌≤◌, ◌+◌, ◌*◌, ◌-◌, ◌≤ℤ◌, ◌+ℤ◌, negsuc, pos, length, nat_abs};
+ghost use Rattle.brush_mask.specs.Mask.{IsMaskRow};
+ghost use Rattle.brush_mask.specs.Rows.{spare, full, IsHardRow, IsSoftRow};
+
+use crate::fall::Fall;
+use crate::round::square;
+
+/// Writes the strengths of a round dab of radius `r` pixels, as `mask` gives them, to a row whose
+/// first place is (`dx`, `dy`) from the dab's centre.
+pub fn mask_row(r: u8, soft: bool, dx: i16, dy: i16, row: &mut [u8])
+    requires radius { r ≤ 128 }
+    requires left { negsuc 127 ≤ℤ dx }
+    requires right { (dx +ℤ pos (length row.old)) ≤ℤ pos 129 }
+    requires top { negsuc 127 ≤ℤ dy }
+    requires bottom { dy ≤ℤ pos 128 }
+    ensures { IsMaskRow r soft dx dy row.new }
+{
+    let whole = square(r as u16) + 1;
+    let room = whole.saturating_sub(square(dy.unsigned_abs()));
+    if soft {
+        soft_row(whole, room, dx, row);
+    } else {
+        hard_row(room, dx, row);
+    }
+}
+
+/// Writes 255 to the places whose distance across has a square below `room`, and 0 to the others.
+fn hard_row(room: u16, dx: i16, row: &mut [u8])
+    requires left { negsuc 127 ≤ℤ dx }
+    requires right { (dx +ℤ pos (length row.old)) ≤ℤ pos 129 }
+    ensures { IsHardRow room dx row.new }
+{
+    for i in 0..row.len() {
+        row[i] = full_at(room, dx + i as i16);
+    }
+}
+
+/// Writes to each place what the square of its distance across leaves of `room`, in 255ths of
+/// `whole`.
+fn soft_row(whole: u16, room: u16, dx: i16, row: &mut [u8])
+    requires whole { room ≤ whole }
+    requires some { 1 ≤ whole }
+    requires small { whole ≤ 16385 }
+    requires left { negsuc 127 ≤ℤ dx }
+    requires right { (dx +ℤ pos (length row.old)) ≤ℤ pos 129 }
+    ensures { IsSoftRow whole room dx row.new }
+{
+    let fall = Fall::of(whole);
+    for i in 0..row.len() {
+        row[i] = fall.at(spare_at(room, dx + i as i16));
+    }
+}
+
+/// 255 where the square of a distance across is below `room`, else 0.
+#[inline]
+#[tactic(auto, unfolding(crate::specs::Rows::full, crate::specs::Rows::spare))]
+fn full_at(room: u16, dx: i16) -> u8
+    requires { nat_abs dx ≤ 128 }
+    ensures { result ≡ full room dx }
+{
+    if spare_at(room, dx) > 0 { 255 } else { 0 }
+}
+
+/// What the square of a distance across leaves of `room`.
+#[inline]
+#[tactic(auto, unfolding(crate::specs::Rows::spare))]
+fn spare_at(room: u16, dx: i16) -> u16
+    requires { nat_abs dx ≤ 128 }
+    ensures value { result ≡ spare room dx }
+    ensures small { result ≤ room }
+{
+    room.saturating_sub(square(dx.unsigned_abs()))
+}
+
+#[cfg(test)]
+mod tests {
+    use super::*;
+
+    #[test]
+    fn rows(rt: HostRuntime) {
+        let mut row = [7; 5];
+        mask_row(2, true, -2, 1, &mut row);
+        assert_eq!(rt; row, [0, 153, 204, 153, 0]);
+        mask_row(2, false, -2, 0, &mut row);
+        assert_eq!(rt; row, [255; 5]);
+        let mut row = [7; 3];
+        mask_row(128, true, 126, 0, &mut row);
+        assert_eq!(rt; row, [7, 3, 0]);
+    }
+}
