@@ -1,0 +1,99 @@
+//! One pixel laid over another by quotients that are guessed and checked.
+
+ghost use Rattle.std.specs.Prelude.{◌≡◌, ◌+◌, ◌*◌, ◌<◌, ◌≤◌, ◌-◌};
+ghost use Rattle.pixel_core.specs.declared.blending.Op.TheVariants.{Over};
+ghost use Rattle.pixel_core.specs.Bytes.{nearest};
+ghost use Rattle.pixel_core.specs.Compose.{compose as composed};
+
+use crate::quotient::{guess, miss, reciprocal};
+use pixel_core::Pixel;
+
+/// What may be the result of a pixel laid over another: it is where `misses` is 0.
+#[derive(Clone, Copy)]
+pub(crate) struct Guess {
+    pub(crate) pixel: Pixel,
+    pub(crate) misses: u32,
+}
+
+/// `s` laid over `d` at full strength, if nothing is missed.
+#[inline]
+pub(crate) fn over(s: Pixel, d: Pixel) -> Guess
+    ensures { result.misses ≡ 0 → result.pixel ≡ composed Over s d 255 }
+{
+    let [sr, sg, sb, sa] = s.bytes();
+    let [dr, dg, db, da] = d.bytes();
+    let parts = Parts::new(sa, da);
+    let r = parts.mixed(sr, dr);
+    let g = parts.mixed(sg, dg);
+    let b = parts.mixed(sb, db);
+    let a = nearest_255th(parts.source + parts.backdrop);
+    Guess {
+        pixel: Pixel::new(r.colour, g.colour, b.colour, a),
+        misses: r.miss.max(g.miss).max(b.miss),
+    }
+}
+
+/// The parts that a source's and a backdrop's colours have in the result's, as weights.
+#[derive(Clone, Copy)]
+struct Parts {
+    source: u32,
+    backdrop: u32,
+    /// Their sum, or 1 where that is 0.
+    sum: u32,
+    reciprocal: u32,
+    ghost small: { source + backdrop ≤ 65025 },
+    ghost whole: { 0 < source + backdrop → sum ≡ source + backdrop },
+    ghost some: { 0 < sum },
+    ghost most: { sum ≤ 65025 },
+    ghost above: { 805306368 ≤ reciprocal },
+    ghost below: { reciprocal < 1073741824 },
+}
+
+/// What may be a channel of the result: it is where `miss` is 0.
+#[derive(Clone, Copy)]
+struct Mixed {
+    colour: u8,
+    miss: u32,
+}
+
+impl Parts {
+    /// The parts of a source and a backdrop with these alphas.
+    #[inline]
+    fn new(sa: u8, da: u8) -> Parts
+        ensures source { result.source ≡ 255 * sa }
+        ensures backdrop { result.backdrop ≡ (255 - sa) * da }
+    {
+        let source = 255 * sa as u32;
+        let backdrop = (255 - sa as u32) * da as u32;
+        let sum = (source + backdrop).max(1);
+        Parts {
+            source,
+            backdrop,
+            sum,
+            reciprocal: reciprocal(sum),
+        }
+    }
+
+    /// The mean of two colours by these weights, to the nearest whole number.
+    #[inline]
+    fn mixed(self, s: u8, d: u8) -> Mixed
+        ensures { result.miss ≡ 0 → 0 < self.source + self.backdrop → result.colour ≡ nearest (self.source * s + self.backdrop * d) (self.source + self.backdrop) }
+    {
+        let n = self.source * s as u32 + self.backdrop * d as u32 + self.sum / 2;
+        let colour = guess(n, self.reciprocal);
+        Mixed {
+            colour: colour as u8,
+            miss: miss(n, self.sum, colour),
+        }
+    }
+}
+
+/// `n / 255` to the nearest whole number, by shifts in place of a division.
+#[inline]
+fn nearest_255th(n: u32) -> u8
+    requires { n ≤ 65025 }
+    ensures { result ≡ nearest n 255 }
+{
+    let t = n + 128;
+    (((t >> 8) + t) >> 8) as u8
+}
