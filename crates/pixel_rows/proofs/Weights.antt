@@ -66,3 +66,20 @@ over_is s d r g b a h k er eg eb ea = go (weight s.a d.a == 0) refl ∙ sym (ap 
         let covers : 0 < 255 * s.a + (255 - s.a) * d.a = omega (arith, weight_is s.a d.a h) in
         let alpha : a ≡ nearest (weight s.a d.a) 255 = ea ∙ ap (λ n. nearest n 255) (weight_is s.a d.a h) in
         rw (test_false a (λ z. omega (arith, alpha))) (same_rgba (er covers ∙ channel_is s.a d.a s.r d.r h k) (eg covers ∙ channel_is s.a d.a s.g d.g h k) (eb covers ∙ channel_is s.a d.a s.b d.b h k) alpha)
+
+-- 255 times as much by 255 times as much
+scaled : (n : ℕ) → nearest (255 * n) 65025 ≡ nearest n 255
+scaled n = omega arith
+
+-- a channel over an opaque backdrop
+pub mean_whole : (sa da s d c : ℕ) → sa ≤ 255 → da ≡ 255 → c ≡ nearest (sa * s + (255 - sa) * d) 255 → IsMean sa da s d c
+mean_whole sa da s d c h o e some =
+    let w : 65025 ≡ 255 * sa + (255 - sa) * da = rw o (omega arith) in
+    let n : 255 * (sa * s + (255 - sa) * d) ≡ 255 * sa * s + (255 - sa) * da * d = rw o (omega arith) in
+    e ∙ sym (scaled (sa * s + (255 - sa) * d)) ∙ ap (nearest (255 * (sa * s + (255 - sa) * d))) w ∙ ap (λ m. nearest m (255 * sa + (255 - sa) * da)) n
+
+pub over_opaque_is : (s d : Rgba) (r g b : ℕ) → s.a ≤ 255 → d.a ≡ 255 → r ≡ nearest (s.a * s.r + (255 - s.a) * d.r) 255 → g ≡ nearest (s.a * s.g + (255 - s.a) * d.g) 255
+    → b ≡ nearest (s.a * s.b + (255 - s.a) * d.b) 255 → if_canonical r g b 255 ≡ compose Over s d 255
+over_opaque_is s d r g b h o er eg eb =
+    over_is s d r g b 255 h (omega (arith, o)) (mean_whole s.a d.a s.r d.r r h o er) (mean_whole s.a d.a s.g d.g g h o eg) (mean_whole s.a d.a s.b d.b b h o eb)
+    (rw o (let w : 65025 ≡ 255 * s.a + (255 - s.a) * 255 = omega arith in ap (λ m. nearest m 255) w))

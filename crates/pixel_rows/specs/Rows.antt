@@ -1,7 +1,7 @@
 -- Rows of pixels laid on others.
 use Rattle.std.specs.Prelude.{◌≡◌, ℕ, ◌<◌, ◌≤◌, ◌-◌, List, length, slice_index_or}
 use Rattle.pixel_core.specs.declared.blending.Op.{Op}
-use Rattle.pixel_core.specs.Rgba.{Rgba, clear}
+use Rattle.pixel_core.specs.Rgba.{Rgba, clear, IsCanonical}
 use Rattle.pixel_core.specs.Compose.{compose}
 
 -- each new pixel is the source of its place laid on the old one, with the strength of its place
@@ -29,3 +29,9 @@ LaysBlock op sources start end old new = ChangesPart (λ k d. compose op (slice_
 -- the pixels from one place up to another are those of a list, the first on the first of them
 abbrev pub PutsBlock : List Rgba → ℕ → ℕ → List Rgba → List Rgba → Type 0
 PutsBlock pixels start end old new = ChangesPart (λ k _. slice_index_or pixels (k - start) clear) start end old new
+
+-- a pixel whose alpha lies between these
+pub record CoversWithin (least most : ℕ) (p : Rgba) : Type 0 where
+  pub canonical : IsCanonical p
+  pub not_below : least ≤ p.a
+  pub not_above : p.a ≤ most

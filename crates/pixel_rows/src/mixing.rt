@@ -33,6 +33,29 @@ pub(crate) fn over(s: Pixel, d: Pixel) -> Guess
     }
 }
 
+/// `s` laid over an opaque `d` at full strength.
+#[inline]
+pub(crate) fn over_opaque(s: Pixel, d: Pixel) -> Pixel
+    requires { d.a ≡ 255 }
+    ensures { result ≡ composed Over s d 255 }
+{
+    let [sr, sg, sb, sa] = s.bytes();
+    let [dr, dg, db, _] = d.bytes();
+    let r = mixed_whole(sa, sr, dr);
+    let g = mixed_whole(sa, sg, dg);
+    let b = mixed_whole(sa, sb, db);
+    Pixel::new(r, g, b, 255)
+}
+
+/// The mean of two colours where the source has this many of 255 parts, to the nearest whole number.
+#[inline]
+fn mixed_whole(sa: u8, s: u8, d: u8) -> u8
+    ensures { result ≡ nearest (sa * s + (255 - sa) * d) 255 }
+{
+    let sa = sa as u32;
+    nearest_255th(sa * s as u32 + (255 - sa) * d as u32)
+}
+
 /// The parts that a source's and a backdrop's colours have in the result's, as weights.
 #[derive(Clone, Copy)]
 struct Parts {
