@@ -21,6 +21,12 @@ parts_most sa da h k =
     let p : (255 - sa) * da ≤ (255 - sa) * 255 = grind arith in
     omega (arith, p)
 
+-- all but what neither covers
+pub cover_is : (sa da : ℕ) → sa ≤ 255 → da ≤ 255 → 65025 - (255 - sa) * (255 - da) ≡ 255 * sa + (255 - sa) * da
+cover_is sa da h k =
+    let e : (255 - da) + da ≡ 255 = omega arith in
+    omega (arith, ap (λ n. (255 - sa) * n) e)
+
 -- a mean of bytes is a byte
 pub mean_most : (u v s d : ℕ) → u + v ≤ 65025 → s ≤ 255 → d ≤ 255 → u * s + v * d ≤ 255 * (u + v)
 mean_most u v s d h p q =

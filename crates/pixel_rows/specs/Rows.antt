@@ -22,14 +22,6 @@ LaysPart op source strength start end old new = ChangesPart (λ k d. compose op 
 abbrev pub Dims : Rgba → Rgba → ℕ → Type 0
 Dims p s strength = (op : Op) (d : Rgba) → compose op p d 255 ≡ compose op s d strength
 
--- the pixels from one place up to another are laid on with full strength, the first source on the first of them
-abbrev pub LaysBlock : Op → List Rgba → ℕ → ℕ → List Rgba → List Rgba → Type 0
-LaysBlock op sources start end old new = ChangesPart (λ k d. compose op (slice_index_or sources (k - start) clear) d 255) start end old new
-
--- the pixels from one place up to another are those of a list, the first on the first of them
-abbrev pub PutsBlock : List Rgba → ℕ → ℕ → List Rgba → List Rgba → Type 0
-PutsBlock pixels start end old new = ChangesPart (λ k _. slice_index_or pixels (k - start) clear) start end old new
-
 -- a pixel whose alpha lies between these
 pub record CoversWithin (least most : ℕ) (p : Rgba) : Type 0 where
   pub canonical : IsCanonical p

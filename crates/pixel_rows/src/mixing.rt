@@ -26,7 +26,7 @@ pub(crate) fn over(s: Pixel, d: Pixel) -> Guess
     let r = parts.mixed(sr, dr);
     let g = parts.mixed(sg, dg);
     let b = parts.mixed(sb, db);
-    let a = nearest_255th(parts.source + parts.backdrop);
+    let a = nearest_255th(parts.cover);
     Guess {
         pixel: Pixel::new(r.colour, g.colour, b.colour, a),
         misses: r.miss.max(g.miss).max(b.miss),
@@ -61,9 +61,12 @@ fn mixed_whole(sa: u8, s: u8, d: u8) -> u8
 struct Parts {
     source: u32,
     backdrop: u32,
-    /// Their sum, or 1 where that is 0.
+    /// Their sum.
+    cover: u32,
+    /// The sum, or 1 where that is 0.
     sum: u32,
     reciprocal: u32,
+    ghost both: { cover ≡ source + backdrop },
     ghost small: { source + backdrop ≤ 65025 },
     ghost whole: { 0 < source + backdrop → sum ≡ source + backdrop },
     ghost some: { 0 < sum },
@@ -85,13 +88,15 @@ impl Parts {
     fn new(sa: u8, da: u8) -> Parts
         ensures source { result.source ≡ 255 * sa }
         ensures backdrop { result.backdrop ≡ (255 - sa) * da }
+        ensures cover { result.cover ≡ 255 * sa + (255 - sa) * da }
     {
         let source = 255 * sa as u32;
-        let backdrop = (255 - sa as u32) * da as u32;
-        let sum = (source + backdrop).max(1);
+        let cover = 65025 - (255 - sa as u32) * (255 - da as u32);
+        let sum = cover.max(1);
         Parts {
             source,
-            backdrop,
+            backdrop: cover - source,
+            cover,
             sum,
             reciprocal: reciprocal(sum),
         }

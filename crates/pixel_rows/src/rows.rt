@@ -15,7 +15,8 @@ pub fn lay_sources(op: Op, sources: &[Pixel], opacity: u8, backdrop: &mut [Pixel
     let whole = backdrop.len() / BLOCK;
     for i in 0..whole {
         let block = dimmed_block(sources, opacity, i);
-        lay_block(op, &block, backdrop, BLOCK * i);
+        let at = BLOCK * i;
+        lay_block(op, &block, &mut backdrop[at..at + BLOCK]);
     }
     lay_last_sources(op, sources, opacity, backdrop, BLOCK * whole);
 }
@@ -51,7 +52,8 @@ pub fn lay_colour(op: Op, colour: Pixel, strength: u8, backdrop: &mut [Pixel])
     let whole = backdrop.len() / BLOCK;
     let block = [dimmed(colour, strength); BLOCK];
     for i in 0..whole {
-        lay_block(op, &block, backdrop, BLOCK * i);
+        let at = BLOCK * i;
+        lay_block(op, &block, &mut backdrop[at..at + BLOCK]);
     }
     lay_last_colour(op, colour, strength, backdrop, BLOCK * whole);
 }
@@ -74,7 +76,8 @@ pub fn lay_masked(op: Op, colour: Pixel, mask: &[u8], backdrop: &mut [Pixel])
     let whole = backdrop.len() / BLOCK;
     for i in 0..whole {
         let block = masked_block(colour, mask, i);
-        lay_block(op, &block, backdrop, BLOCK * i);
+        let at = BLOCK * i;
+        lay_block(op, &block, &mut backdrop[at..at + BLOCK]);
     }
     lay_last_masked(op, colour, mask, backdrop, BLOCK * whole);
 }

@@ -8,4 +8,4 @@ returns c = λ hit.
     (rw (c.new-parts.ensures.source, c.new-parts.ensures.backdrop, c.bytes.ensures.value, c.bytes-2.ensures.value) at (c.mixed-r.ensures (omega (arith, hit, c.max.ensures, c.max-2.ensures))))
     (rw (c.new-parts.ensures.source, c.new-parts.ensures.backdrop, c.bytes.ensures.value, c.bytes-2.ensures.value) at (c.mixed-g.ensures (omega (arith, hit, c.max.ensures, c.max-2.ensures))))
     (rw (c.new-parts.ensures.source, c.new-parts.ensures.backdrop, c.bytes.ensures.value, c.bytes-2.ensures.value) at (c.mixed-b.ensures (omega (arith, hit, c.max.ensures, c.max-2.ensures))))
-    (rw (c.new-parts.ensures.source, c.new-parts.ensures.backdrop, c.bytes.ensures.value, c.bytes-2.ensures.value) at c.nearest_255th-a.ensures)
+    (rw (c.new-parts.ensures.cover, c.bytes.ensures.value, c.bytes-2.ensures.value) at c.nearest_255th-a.ensures)
