@@ -1,5 +1,5 @@
 -- What the weights of a source and a backdrop make of their colours.
-use Rattle.std.proofs.Common.{◌≡◌, ◌≢◌, ℕ, ◌+◌, ◌-◌, ◌*◌, ◌/◌, ◌%◌, ◌≤◌, ◌<◌, arith, ap, sym, ◌∙◌, ◌==◌, Bool, true, false, refl, if◌then◌else◌}
+use Rattle.std.proofs.Common.{◌≡◌, ◌≢◌, ℕ, ◌+◌, ◌-◌, ◌*◌, ◌/◌, ◌%◌, ◌≤◌, ◌<◌, arith, ap, sym, ◌∙◌, ◌==◌, Bool, true, false, refl, if◌then◌else◌, zero, suc}
 use Rattle.std.proofs.lemmas.Bool.Decides.{nat_tests}
 use Rattle.std.proofs.lemmas.Nat.{div-mul-add}
 use Rattle.std.proofs.Math.Nat.{div-add-mod, mod-lt}
@@ -26,6 +26,14 @@ pub cover_is : (sa da : ℕ) → sa ≤ 255 → da ≤ 255 → 65025 - (255 - sa
 cover_is sa da h k =
     let e : (255 - da) + da ≡ 255 = omega arith in
     omega (arith, ap (λ n. (255 - sa) * n) e)
+
+-- what covers at all weighs as much as the least alpha
+pub cover_least : (sa da : ℕ) → sa ≤ 255 → da ≤ 255 → 0 < 65025 - (255 - sa) * (255 - da) → 255 ≤ 65025 - (255 - sa) * (255 - da)
+cover_least sa da h k some = go sa refl
+  where
+    go : (x : ℕ) → x ≡ sa → 255 ≤ 65025 - (255 - sa) * (255 - da)
+    go zero e = rw (cover_is sa da h k) (rw (sym e) (let t : 0 < 255 * 0 + (255 - 0) * da = rw (cover_is sa da h k, sym e) at some in omega (arith, t)))
+    go (suc x) e = omega (arith, e, cover_is sa da h k)
 
 -- a mean of bytes is a byte
 pub mean_most : (u v s d : ℕ) → u + v ≤ 65025 → s ≤ 255 → d ≤ 255 → u * s + v * d ≤ 255 * (u + v)

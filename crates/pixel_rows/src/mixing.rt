@@ -63,7 +63,7 @@ struct Parts {
     backdrop: u32,
     /// Their sum.
     cover: u32,
-    /// The sum, or 1 where that is 0.
+    /// The sum, or 255 where that is 0. The quotient 0 / 255 is guessed well, 0 / 1 isn't.
     sum: u32,
     reciprocal: u32,
     ghost both: { cover ≡ source + backdrop },
@@ -92,7 +92,7 @@ impl Parts {
     {
         let source = 255 * sa as u32;
         let cover = 65025 - (255 - sa as u32) * (255 - da as u32);
-        let sum = cover.max(1);
+        let sum = cover.max(255);
         Parts {
             source,
             backdrop: cover - source,

@@ -2,15 +2,16 @@
 
 ghost use Rattle.std.specs.Prelude.{◌≡◌, ◌<◌, ◌≤◌, ◌/◌, ◌^◌};
 
-/// The bits of an `f32` near 2 / `w`. How near it is decides speed alone: nothing is promised but
-/// that it is a plain number above 0.
+/// The bits of an `f32` a little above 2 / `w`, so that a quotient that is whole isn't guessed too
+/// small. How near it is decides speed alone: nothing is promised but that it is a plain number
+/// above 0.
 #[inline]
 pub(crate) fn reciprocal(w: u32) -> u32
     requires { w < 2 ^ 23 }
     ensures least { 805306368 ≤ result }
     ensures most { result < 1073741824 }
 {
-    let close = 2.0 / (f32::from_bits(0x4b00_0000 + w) - 8_388_608.0);
+    let close = 2.000_000_2 / (f32::from_bits(0x4b00_0000 + w) - 8_388_608.0);
     0x3000_0000 + (close.to_bits() & 0x0fff_ffff)
 }
 

@@ -27,11 +27,23 @@ fn dimmed_block(sources: &[Pixel], opacity: u8, i: usize) -> [Pixel; BLOCK]
     requires { 16 * i + 16 ≤ length sources.now }
     ensures { (k : ℕ) → k < 16 → Dims (slice_index_or result k clear) (slice_index_or sources.now (16 * i + k) clear) opacity }
 {
+    let at = BLOCK * i;
     let mut block = [Pixel::CLEAR; BLOCK];
-    for k in 0..BLOCK {
-        block[k] = dimmed(sources[BLOCK * i + k], opacity);
+    block.copy_from_slice(&sources[at..at + BLOCK]);
+    if opacity < 255 {
+        dim(&mut block, opacity);
     }
     block
+}
+
+/// Dims each source.
+#[inline]
+fn dim(block: &mut [Pixel; BLOCK], opacity: u8)
+    ensures { (k : ℕ) → k < 16 → Dims (slice_index_or block.new k clear) (slice_index_or block.old k clear) opacity }
+{
+    for k in 0..BLOCK {
+        block[k] = dimmed(block[k], opacity);
+    }
 }
 
 /// The same for the pixels from a place on, one by one.

@@ -8,5 +8,5 @@ float_from_bits-close c = bits_number (1258291200 + c.args.w) (omega (arith, c.r
 
 pub float_to_bits-result : goal.float_to_bits-result
 float_to_bits-result c =
-    div_number binary32 _ _ (bits_positive 1073741824 (omega arith) (omega arith))
+    div_number binary32 _ _ (bits_positive 1073741825 (omega arith) (omega arith))
     (sub_number binary32 _ _ (bits_finite (1258291200 + c.args.w) (omega arith) (omega (arith, c.requires))) (bits_finite 1258291200 (omega arith) (omega arith)))
