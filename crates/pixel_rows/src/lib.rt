@@ -1,6 +1,9 @@
 //! Rows of pixels laid on others: what composing pixel by pixel gives, many pixels at a time.
 #![tactic(auto)]
 
+mod block;
+mod mixing;
+mod quotient;
 mod rows;
 #[cfg(test)]
 mod tests;

@@ -1,9 +1,10 @@
 //! Rows of pixels laid on others.
 
-ghost use Rattle.std.specs.Prelude.{◌≡◌, length, slice_index_or};
+ghost use Rattle.std.specs.Prelude.{◌≡◌, ◌*◌, ◌+◌, ◌≤◌, ◌<◌, ℕ, length, slice_index_or};
 ghost use Rattle.pixel_core.specs.Rgba.{clear};
-ghost use Rattle.pixel_rows.specs.Rows.{LaysRow};
+ghost use Rattle.pixel_rows.specs.Rows.{LaysRow, LaysPart, Dims};
 
+use crate::block::{BLOCK, dimmed, lay_block};
 use pixel_core::{Op, Pixel, compose};
 
 /// Lays each source on the pixel at its place, all with the same opacity in 255ths.
@@ -11,7 +12,47 @@ pub fn lay_sources(op: Op, sources: &[Pixel], opacity: u8, backdrop: &mut [Pixel
     requires each { length sources.now ≡ length backdrop.old }
     ensures { LaysRow op (λ k. slice_index_or sources.now k clear) (λ _. opacity) backdrop.old backdrop.new }
 {
-    for i in 0..backdrop.len() {
+    let whole = backdrop.len() / BLOCK;
+    for i in 0..whole {
+        let block = dimmed_block(sources, opacity, i);
+        let at = BLOCK * i;
+        lay_block(op, &block, &mut backdrop[at..at + BLOCK]);
+    }
+    lay_last_sources(op, sources, opacity, backdrop, BLOCK * whole);
+}
+
+/// The sources of the `i`th block.
+#[inline]
+fn dimmed_block(sources: &[Pixel], opacity: u8, i: usize) -> [Pixel; BLOCK]
+    requires { 16 * i + 16 ≤ length sources.now }
+    ensures { (k : ℕ) → k < 16 → Dims (slice_index_or result k clear) (slice_index_or sources.now (16 * i + k) clear) opacity }
+{
+    let at = BLOCK * i;
+    let mut block = [Pixel::CLEAR; BLOCK];
+    block.copy_from_slice(&sources[at..at + BLOCK]);
+    if opacity < 255 {
+        dim(&mut block, opacity);
+    }
+    block
+}
+
+/// Dims each source.
+#[inline]
+fn dim(block: &mut [Pixel; BLOCK], opacity: u8)
+    ensures { (k : ℕ) → k < 16 → Dims (slice_index_or block.new k clear) (slice_index_or block.old k clear) opacity }
+{
+    for k in 0..BLOCK {
+        block[k] = dimmed(block[k], opacity);
+    }
+}
+
+/// The same for the pixels from a place on, one by one.
+fn lay_last_sources(op: Op, sources: &[Pixel], opacity: u8, backdrop: &mut [Pixel], start: usize)
+    requires each { length sources.now ≡ length backdrop.old }
+    requires within { start ≤ length backdrop.old }
+    ensures { LaysPart op (λ k. slice_index_or sources.now k clear) (λ _. opacity) start (length backdrop.old) backdrop.old backdrop.new }
+{
+    for i in start..backdrop.len() {
         backdrop[i] = compose(op, sources[i], backdrop[i], opacity);
     }
 }
@@ -20,7 +61,21 @@ pub fn lay_sources(op: Op, sources: &[Pixel], opacity: u8, backdrop: &mut [Pixel
 pub fn lay_colour(op: Op, colour: Pixel, strength: u8, backdrop: &mut [Pixel])
     ensures { LaysRow op (λ _. colour) (λ _. strength) backdrop.old backdrop.new }
 {
-    for i in 0..backdrop.len() {
+    let whole = backdrop.len() / BLOCK;
+    let block = [dimmed(colour, strength); BLOCK];
+    for i in 0..whole {
+        let at = BLOCK * i;
+        lay_block(op, &block, &mut backdrop[at..at + BLOCK]);
+    }
+    lay_last_colour(op, colour, strength, backdrop, BLOCK * whole);
+}
+
+/// The same for the pixels from a place on, one by one.
+fn lay_last_colour(op: Op, colour: Pixel, strength: u8, backdrop: &mut [Pixel], start: usize)
+    requires { start ≤ length backdrop.old }
+    ensures { LaysPart op (λ _. colour) (λ _. strength) start (length backdrop.old) backdrop.old backdrop.new }
+{
+    for i in start..backdrop.len() {
         backdrop[i] = compose(op, colour, backdrop[i], strength);
     }
 }
@@ -30,7 +85,35 @@ pub fn lay_masked(op: Op, colour: Pixel, mask: &[u8], backdrop: &mut [Pixel])
     requires each { length mask.now ≡ length backdrop.old }
     ensures { LaysRow op (λ _. colour) (λ k. slice_index_or mask.now k 0) backdrop.old backdrop.new }
 {
-    for i in 0..backdrop.len() {
+    let whole = backdrop.len() / BLOCK;
+    for i in 0..whole {
+        let block = masked_block(colour, mask, i);
+        let at = BLOCK * i;
+        lay_block(op, &block, &mut backdrop[at..at + BLOCK]);
+    }
+    lay_last_masked(op, colour, mask, backdrop, BLOCK * whole);
+}
+
+/// The colour with the strengths of the `i`th block.
+#[inline]
+fn masked_block(colour: Pixel, mask: &[u8], i: usize) -> [Pixel; BLOCK]
+    requires { 16 * i + 16 ≤ length mask.now }
+    ensures { (k : ℕ) → k < 16 → Dims (slice_index_or result k clear) colour (slice_index_or mask.now (16 * i + k) 0) }
+{
+    let mut block = [Pixel::CLEAR; BLOCK];
+    for k in 0..BLOCK {
+        block[k] = dimmed(colour, mask[BLOCK * i + k]);
+    }
+    block
+}
+
+/// The same for the pixels from a place on, one by one.
+fn lay_last_masked(op: Op, colour: Pixel, mask: &[u8], backdrop: &mut [Pixel], start: usize)
+    requires each { length mask.now ≡ length backdrop.old }
+    requires within { start ≤ length backdrop.old }
+    ensures { LaysPart op (λ _. colour) (λ k. slice_index_or mask.now k 0) start (length backdrop.old) backdrop.old backdrop.new }
+{
+    for i in start..backdrop.len() {
         backdrop[i] = compose(op, colour, backdrop[i], mask[i]);
     }
 }

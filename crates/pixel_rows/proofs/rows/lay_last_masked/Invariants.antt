@@ -1,0 +1,8 @@
+use Rattle.std.proofs.Common.{get_or}
+use Rattle.pixel_core.specs.Rgba.{clear}
+use Rattle.pixel_rows.specs.Rows.{LaysPart}
+use Rattle.pixel_rows.proofs.rows.lay_last_masked.Given as goal
+
+-- the pixels so far are laid on
+abbrev pub invariant-loop-i : goal.invariant-loop-i
+invariant-loop-i l = LaysPart l.op (λ _. l.colour) (λ k. get_or l.mask k 0) l.start l.i l.initial.backdrop l.backdrop

@@ -1,0 +1,152 @@
+//! Blocks of pixels laid on others, at full strength.
+
+ghost use Rattle.std.specs.Prelude.{◌≡◌, ◌<◌, ℕ, length, slice_index_or};
+ghost use Rattle.pixel_core.specs.Rgba.{clear};
+ghost use Rattle.pixel_core.specs.declared.blending.Op.TheVariants.{Over};
+ghost use Rattle.pixel_core.specs.Compose.{compose as composed};
+ghost use Rattle.pixel_rows.specs.Rows.{CoversWithin, Dims, LaysRow};
+
+use crate::mixing::{over, over_opaque};
+use pixel_core::{Op, Pixel, compose, mul};
+
+/// How many pixels a block has.
+pub(crate) const BLOCK: usize = 16;
+
+/// What has the same effect at full strength as `s` with this strength in 255ths.
+#[inline]
+pub(crate) fn dimmed(s: Pixel, strength: u8) -> Pixel
+    ensures { Dims result s strength }
+{
+    let [r, g, b, a] = s.bytes();
+    Pixel::new(r, g, b, mul(a, strength))
+}
+
+/// Lays each source at full strength on the pixel at its place, with as little work as the alphas allow.
+#[inline]
+pub(crate) fn lay_block(op: Op, sources: &[Pixel], row: &mut [Pixel])
+    requires sources { length sources.now ≡ 16 }
+    requires row { length row.old ≡ 16 }
+    ensures { LaysRow op (λ k. slice_index_or sources.now k clear) (λ _. 255) row.old row.new }
+{
+    let above = alphas_of(sources);
+    let below = alphas_of(row);
+    if above.most == 0 {
+        return;
+    }
+    match op {
+        Op::Erase => lay_each(op, sources, row),
+        _ if below.most == 0 => row.copy_from_slice(sources),
+        Op::Over => lay_over(sources, above, row, below),
+        _ => lay_each(op, sources, row),
+    }
+}
+
+/// The bounds of some pixels' alphas.
+#[derive(Clone, Copy)]
+struct Alphas {
+    least: u8,
+    most: u8,
+}
+
+/// The least and the greatest alpha of a block.
+#[inline(never)]
+fn alphas_of(pixels: &[Pixel]) -> Alphas
+    requires { length pixels.now ≡ 16 }
+    ensures { (k : ℕ) → k < 16 → CoversWithin result.least result.most (slice_index_or pixels.now k clear) }
+{
+    let mut least = 255;
+    let mut most = 0;
+    for i in 0..BLOCK {
+        let [_, _, _, a] = pixels[i].bytes();
+        least = least.min(a);
+        most = most.max(a);
+    }
+    Alphas { least, most }
+}
+
+/// The same for `Op::Over`, by what is known of the alphas.
+#[inline]
+fn lay_over(sources: &[Pixel], above: Alphas, row: &mut [Pixel], below: Alphas)
+    requires sources { length sources.now ≡ 16 }
+    requires row { length row.old ≡ 16 }
+    requires above { (k : ℕ) → k < 16 → CoversWithin above.least above.most (slice_index_or sources.now k clear) }
+    requires below { (k : ℕ) → k < 16 → CoversWithin below.least below.most (slice_index_or row.old k clear) }
+    ensures { LaysRow Over (λ k. slice_index_or sources.now k clear) (λ _. 255) row.old row.new }
+{
+    if above.least == 255 {
+        row.copy_from_slice(sources);
+    } else if below.least == 255 {
+        lay_on_opaque(sources, row);
+    } else {
+        lay_on_any(sources, row);
+    }
+}
+
+/// The same over opaque pixels alone.
+#[inline]
+fn lay_on_opaque(sources: &[Pixel], row: &mut [Pixel])
+    requires sources { length sources.now ≡ 16 }
+    requires row { length row.old ≡ 16 }
+    requires opaque { (k : ℕ) → k < 16 → CoversWithin 255 255 (slice_index_or row.old k clear) }
+    ensures { LaysRow Over (λ k. slice_index_or sources.now k clear) (λ _. 255) row.old row.new }
+{
+    let laid = opaque_block(sources, row);
+    row.copy_from_slice(&laid);
+}
+
+/// The sources laid over opaque pixels.
+#[inline]
+fn opaque_block(sources: &[Pixel], row: &[Pixel]) -> [Pixel; BLOCK]
+    requires sources { length sources.now ≡ 16 }
+    requires row { length row.now ≡ 16 }
+    requires opaque { (k : ℕ) → k < 16 → CoversWithin 255 255 (slice_index_or row.now k clear) }
+    ensures { (k : ℕ) → k < 16 → slice_index_or result k clear ≡ composed Over (slice_index_or sources.now k clear) (slice_index_or row.now k clear) 255 }
+{
+    let mut laid = [Pixel::CLEAR; BLOCK];
+    for i in 0..BLOCK {
+        laid[i] = over_opaque(sources[i], row[i]);
+    }
+    laid
+}
+
+/// Guesses all results, and does without guesses where one is missed.
+#[inline]
+fn lay_on_any(sources: &[Pixel], row: &mut [Pixel])
+    requires sources { length sources.now ≡ 16 }
+    requires row { length row.old ≡ 16 }
+    ensures { LaysRow Over (λ k. slice_index_or sources.now k clear) (λ _. 255) row.old row.new }
+{
+    let mut laid = [Pixel::CLEAR; BLOCK];
+    if guess_block(sources, row, &mut laid) == 0 {
+        row.copy_from_slice(&laid);
+    } else {
+        lay_each(Op::Over, sources, row);
+    }
+}
+
+/// What may be the results: they are where 0 comes back.
+#[inline]
+fn guess_block(sources: &[Pixel], row: &[Pixel], laid: &mut [Pixel; BLOCK]) -> u32
+    requires sources { length sources.now ≡ 16 }
+    requires row { length row.now ≡ 16 }
+    ensures { result ≡ 0 → (k : ℕ) → k < 16 → slice_index_or laid.new k clear ≡ composed Over (slice_index_or sources.now k clear) (slice_index_or row.now k clear) 255 }
+{
+    let mut misses = 0;
+    for i in 0..BLOCK {
+        let guess = over(sources[i], row[i]);
+        laid[i] = guess.pixel;
+        misses = misses.max(guess.misses);
+    }
+    misses
+}
+
+/// Lays each source by itself.
+fn lay_each(op: Op, sources: &[Pixel], row: &mut [Pixel])
+    requires sources { length sources.now ≡ 16 }
+    requires row { length row.old ≡ 16 }
+    ensures { LaysRow op (λ k. slice_index_or sources.now k clear) (λ _. 255) row.old row.new }
+{
+    for i in 0..BLOCK {
+        row[i] = compose(op, sources[i], row[i], 255);
+    }
+}

@@ -1,0 +1,127 @@
+//! One pixel laid over another by quotients that are guessed and checked.
+
+ghost use Rattle.std.specs.Prelude.{◌≡◌, ◌+◌, ◌*◌, ◌<◌, ◌≤◌, ◌-◌};
+ghost use Rattle.pixel_core.specs.declared.blending.Op.TheVariants.{Over};
+ghost use Rattle.pixel_core.specs.Bytes.{nearest};
+ghost use Rattle.pixel_core.specs.Compose.{compose as composed};
+
+use crate::quotient::{guess, miss, reciprocal};
+use pixel_core::Pixel;
+
+/// What may be the result of a pixel laid over another: it is where `misses` is 0.
+#[derive(Clone, Copy)]
+pub(crate) struct Guess {
+    pub(crate) pixel: Pixel,
+    pub(crate) misses: u32,
+}
+
+/// `s` laid over `d` at full strength, if nothing is missed.
+#[inline]
+pub(crate) fn over(s: Pixel, d: Pixel) -> Guess
+    ensures { result.misses ≡ 0 → result.pixel ≡ composed Over s d 255 }
+{
+    let [sr, sg, sb, sa] = s.bytes();
+    let [dr, dg, db, da] = d.bytes();
+    let parts = Parts::new(sa, da);
+    let r = parts.mixed(sr, dr);
+    let g = parts.mixed(sg, dg);
+    let b = parts.mixed(sb, db);
+    let a = nearest_255th(parts.cover);
+    Guess {
+        pixel: Pixel::new(r.colour, g.colour, b.colour, a),
+        misses: r.miss.max(g.miss).max(b.miss),
+    }
+}
+
+/// `s` laid over an opaque `d` at full strength.
+#[inline]
+pub(crate) fn over_opaque(s: Pixel, d: Pixel) -> Pixel
+    requires { d.a ≡ 255 }
+    ensures { result ≡ composed Over s d 255 }
+{
+    let [sr, sg, sb, sa] = s.bytes();
+    let [dr, dg, db, _] = d.bytes();
+    let r = mixed_whole(sa, sr, dr);
+    let g = mixed_whole(sa, sg, dg);
+    let b = mixed_whole(sa, sb, db);
+    Pixel::new(r, g, b, 255)
+}
+
+/// The mean of two colours where the source has this many of 255 parts, to the nearest whole number.
+#[inline]
+fn mixed_whole(sa: u8, s: u8, d: u8) -> u8
+    ensures { result ≡ nearest (sa * s + (255 - sa) * d) 255 }
+{
+    let sa = sa as u32;
+    nearest_255th(sa * s as u32 + (255 - sa) * d as u32)
+}
+
+/// The parts that a source's and a backdrop's colours have in the result's, as weights.
+#[derive(Clone, Copy)]
+struct Parts {
+    source: u32,
+    backdrop: u32,
+    /// Their sum.
+    cover: u32,
+    /// The sum, or 255 where that is 0. The quotient 0 / 255 is guessed well, 0 / 1 isn't.
+    sum: u32,
+    reciprocal: u32,
+    ghost both: { cover ≡ source + backdrop },
+    ghost small: { source + backdrop ≤ 65025 },
+    ghost whole: { 0 < source + backdrop → sum ≡ source + backdrop },
+    ghost some: { 0 < sum },
+    ghost most: { sum ≤ 65025 },
+    ghost above: { 805306368 ≤ reciprocal },
+    ghost below: { reciprocal < 1073741824 },
+}
+
+/// What may be a channel of the result: it is where `miss` is 0.
+#[derive(Clone, Copy)]
+struct Mixed {
+    colour: u8,
+    miss: u32,
+}
+
+impl Parts {
+    /// The parts of a source and a backdrop with these alphas.
+    #[inline]
+    fn new(sa: u8, da: u8) -> Parts
+        ensures source { result.source ≡ 255 * sa }
+        ensures backdrop { result.backdrop ≡ (255 - sa) * da }
+        ensures cover { result.cover ≡ 255 * sa + (255 - sa) * da }
+    {
+        let source = 255 * sa as u32;
+        let cover = 65025 - (255 - sa as u32) * (255 - da as u32);
+        let sum = cover.max(255);
+        Parts {
+            source,
+            backdrop: cover - source,
+            cover,
+            sum,
+            reciprocal: reciprocal(sum),
+        }
+    }
+
+    /// The mean of two colours by these weights, to the nearest whole number.
+    #[inline]
+    fn mixed(self, s: u8, d: u8) -> Mixed
+        ensures { result.miss ≡ 0 → 0 < self.source + self.backdrop → result.colour ≡ nearest (self.source * s + self.backdrop * d) (self.source + self.backdrop) }
+    {
+        let n = self.source * s as u32 + self.backdrop * d as u32 + self.sum / 2;
+        let colour = guess(n, self.reciprocal);
+        Mixed {
+            colour: colour as u8,
+            miss: miss(n, self.sum, colour),
+        }
+    }
+}
+
+/// `n / 255` to the nearest whole number, by shifts in place of a division.
+#[inline]
+fn nearest_255th(n: u32) -> u8
+    requires { n ≤ 65025 }
+    ensures { result ≡ nearest n 255 }
+{
+    let t = n + 128;
+    (((t >> 8) + t) >> 8) as u8
+}
