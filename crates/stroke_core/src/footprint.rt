@@ -300,7 +300,8 @@ impl Footprints {
     }
 }
 
-/// Adds one more bound, of the job at place `len`, to that of the last block, or to a new one where the others are full.
+/// Adds the bound of the job at place `len` to that of the last block, or as a new one where the
+/// others are full.
 fn add_to_blocks(blocks: &mut Vec<Bound>, len: usize, bound: Bound)
     requires room { vec_len blocks.old < vec_capacity blocks.old }
     requires enough { len ≤ 64 * length blocks.old.items }
