@@ -5,6 +5,7 @@ mod run;
 mod solo;
 mod steps;
 mod strokes;
+mod unseen;
 #[cfg(test)]
 mod tests;
 
