@@ -1,4 +1,4 @@
--- The points of a canvas, and marks of their tiles.
+-- The points of a canvas, and their tiles.
 use Rattle.std.proofs.Common.{◌≡◌, ℕ, ◌+◌, ◌*◌, ◌/◌, ◌<◌, ◌&&◌, Bool, true, false, cond, Some, None, is_some, slice_index_or, replicate, nat_lt, refl, ap, ◌∙◌, arith}
 use Rattle.std.specs.Prelude.{ℤ, pos, negsuc, ◌+ℤ◌, int_le, int_lt}
 use Rattle.std.proofs.lemmas.Bool.Decides.{nat_tests}
@@ -8,7 +8,7 @@ use Rattle.geom_core.specs.Points.{Point, point}
 use Rattle.geom_core.specs.Areas.{holds}
 use Rattle.geom_core.specs.Grid.{Key, key_of}
 use Rattle.geom_core.proofs.Tests.{taken, both_true, and_left, and_right}
-use Rattle.tile_core.specs.Marks.{Grid, place_at, mark_at, has_mark, on_canvas}
+use Rattle.tile_core.specs.Marks.{on_canvas}
 use Rattle.doc_model.specs.declared.canvas.Canvas.{Canvas}
 use Rattle.doc_model.specs.Picture.{canvas_area}
 
@@ -18,22 +18,6 @@ few_tiles x h = let few : x / 64 < 32 = omega arith in grind (arith, nat_tests)
 -- a point of the largest canvas lies in one of its tiles
 pub canvas_key : (x y : ℕ) → x < 2048 → y < 2048 → on_canvas (key_of (point (pos x) (pos y))) ≡ true
 canvas_key x y h k = ap is_some (taken (nat_lt (x / 64) 32 && nat_lt (y / 64) 32) (Some (32 * (y / 64) + x / 64)) None (both_true _ _ (few_tiles x h) (few_tiles y k)))
-
--- where all its tiles are marked, each of them is
-pub all_marked : (g : Grid) (k : Key) → g ≡ replicate 1024 true → on_canvas k ≡ true → has_mark g k ≡ true
-all_marked g k all on = go k.col k.row on
-  where
-    below : (c r : ℕ) → (nat_lt c 32 && nat_lt r 32) ≡ true → 32 * r + c < 1024
-    below c r e = grind (arith, nat_tests)
-
-    placed : (c r : ℕ) (b : Bool) → (nat_lt c 32 && nat_lt r 32) ≡ b → is_some (cond b (Some (32 * r + c)) None) ≡ true → mark_at g (cond b (Some (32 * r + c)) None) ≡ true
-    placed c r true e h = ap (λ (l : Grid). slice_index_or l (32 * r + c) false) all ∙ get_or-replicate 1024 (32 * r + c) true false (below c r e)
-    placed c r false e h = absurd (let t : false ≡ true = h in cc)
-
-    go : (c r : ℤ) → is_some (place_at c r) ≡ true → mark_at g (place_at c r) ≡ true
-    go (pos c) (pos r) h = placed c r (nat_lt c 32 && nat_lt r 32) refl h
-    go (pos c) (negsuc r) h = absurd (let t : false ≡ true = h in cc)
-    go (negsuc c) r h = absurd (let t : false ≡ true = h in cc)
 
 -- whether it is one of the n numbers from 0 on
 abbrev in_span : ℕ → ℤ → Bool

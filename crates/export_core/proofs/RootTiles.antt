@@ -1,5 +1,5 @@
 -- A frame of a document, tile by tile.
-use Rattle.std.proofs.Common.{◌≡◌, ℕ, zero, suc, ◌+◌, ◌*◌, ◌%◌, ◌≤◌, ◌<◌, Bool, true, false, ◌||◌, cond, List, [], ◌∷◌, Option, Some, None, length, take, replicate, map, refl, sym, ap, subst, ◌∙◌, arith, inl, inr}
+use Rattle.std.proofs.Common.{◌≡◌, ℕ, zero, suc, ◌+◌, ◌*◌, ◌%◌, ◌≤◌, ◌<◌, Bool, true, false, ◌||◌, cond, List, [], ◌∷◌, Option, Some, None, is_some, length, take, replicate, map, refl, sym, ap, subst, ◌∙◌, arith, inl, inr}
 use Rattle.std.specs.FinMap as finite
 use Rattle.std.specs.List.{list_any, AllByRecursion, IsDistinct}
 use Rattle.std.specs.Prelude.{slice_get, pos}
@@ -12,19 +12,20 @@ use Rattle.geom_core.specs.Points.{Point, point}
 use Rattle.geom_core.specs.Areas.{Area, area, points_of}
 use Rattle.geom_core.specs.Place.{across, down}
 use Rattle.geom_core.specs.Grid.{Key, key_cmp_total, key_of, same_key, keys_of}
-use Rattle.geom_core.proofs.Tests.{taken, kept, true_or_false, none_left, none_right}
+use Rattle.geom_core.proofs.Tests.{taken, kept, true_or_false, none_left, none_right, is_some-None}
 use Rattle.geom_core.proofs.Keys.{key_of_held}
 use Rattle.geom_core.proofs.Tiles.{key_same, key_is}
 use Rattle.geom_core.proofs.Axes.{tiles_met}
 use Rattle.tile_core.specs.Pixels.{Pixels, pixel_at, pixel_or}
 use Rattle.tile_core.specs.Frames.{Scene, scene, put_at, colours_at, with_put}
 use Rattle.tile_core.specs.Marks.{Grid, has_mark}
+use Rattle.tile_core.specs.Damage.{Parts, part_at, is_damaged}
 use Rattle.tile_core.specs.Films.{Renews}
 use Rattle.doc_model.specs.declared.canvas.Canvas.{Canvas}
 use Rattle.doc_model.specs.Canvases.{IsOfLimits}
 use Rattle.doc_model.specs.Picture.{Doc, picture, canvas_area}
 use Rattle.machine_model.proofs.CanvasPoints.{same_list}
-use Rattle.export_core.specs.Exports.{ShowsDoc, ShowsElsewhere}
+use Rattle.export_core.specs.Exports.{ShowsDoc, ShowsElsewhere, RenewsTiles}
 use Rattle.export_core.specs.Pieces.{seen, Alike, IsRenewed, PutsOn}
 use Rattle.export_core.proofs.SeenPixels.{paper_alike}
 use Rattle.export_core.proofs.CanvasKeys.{canvas_holds, each_held}
@@ -56,14 +57,6 @@ fits_too {key = key} {new = new} so puts = record { canvas = puts.canvas; there 
 pub plain_at : (tile : Pixels) (c : Rgba) (p : Point) → tile ≡ replicate 4096 c → pixel_at tile p ≡ c
 plain_at tile c p e = ap (λ (t : Pixels). pixel_at t p) e ∙ get_or-replicate 4096 (64 * (down p % 64) + across p % 64) c clear (omega arith)
 
--- what fits where the key is marked
-pub is_marked : {doc : Doc} {before : Scene} {stale : Grid} {key : Key} {o : Option Pixels} → has_mark stale key ≡ true → ((p : Point) → same_key (key_of p) key ≡ true → Alike (pixel_or o clear p) (picture doc p)) → IsRenewed doc before stale key o
-is_marked {stale = stale} {key = key} m looks = record { marked = λ _. looks; unmarked = λ n. absurd (let t : has_mark stale key ≡ true = m in cc) }
-
--- and where it isn't
-pub is_unmarked : {doc : Doc} {before : Scene} {stale : Grid} {key : Key} {o : Option Pixels} → has_mark stale key ≡ false → o ≡ finite.get before.tiles key → IsRenewed doc before stale key o
-is_unmarked {stale = stale} {key = key} n same = record { marked = λ m. absurd (let t : has_mark stale key ≡ false = n in cc); unmarked = λ _. same }
-
 all_at : {A : Type 0} (P : A → Type 0) (xs : List A) (i : ℕ) (x : A) → AllByRecursion P xs → slice_get xs i ≡ Some x → P x
 all_at P [] i x a e = absurd (omega (arith, slice_get_within [] i x e))
 all_at P (y ∷ ys) zero x a e = let is : y ≡ x = cc in subst P is a.0
@@ -81,14 +74,14 @@ not_before (m ∷ ks) (suc i) k d e = go (not_before ks i k d.1 e) (same_key k m
     go rest false is = rest
 
 -- so far the frame has the tiles of these keys, and no others
-pub record IsRenewedOn (doc : Doc) (canvas : Canvas) (before : Scene) (stale : Grid) (keys : List Key) (f : Scene) : Type 0 where
+pub record IsRenewedOn (doc : Doc) (canvas : Canvas) (before : Scene) (stale : Parts) (keys : List Key) (f : Scene) : Type 0 where
   pub width : f.width ≡ canvas.w
   pub height : f.height ≡ canvas.h
   pub paper : f.paper ≡ canvas.paper
   pub there : (k : Key) → list_any (same_key k) keys ≡ true → IsRenewed doc before stale k (finite.get f.tiles k)
   pub free : (k : Key) → list_any (same_key k) keys ≡ false → finite.get f.tiles k ≡ None
 
-pub none_yet : (doc : Doc) (canvas : Canvas) (before : Scene) (stale : Grid) (f : Scene) → f ≡ scene canvas.w canvas.h canvas.paper finite.empty → IsRenewedOn doc canvas before stale [] f
+pub none_yet : (doc : Doc) (canvas : Canvas) (before : Scene) (stale : Parts) (f : Scene) → f ≡ scene canvas.w canvas.h canvas.paper finite.empty → IsRenewedOn doc canvas before stale [] f
 none_yet doc canvas before stale f e = record {
   width = ap (λ (s : Scene). s.width) e;
   height = ap (λ (s : Scene). s.height) e;
@@ -98,13 +91,13 @@ none_yet doc canvas before stale f e = record {
 }
 
 -- the next key has no tile yet
-pub next_free : {doc : Doc} {canvas : Canvas} {before : Scene} {stale : Grid} {f : Scene} (rect : Area) (i : ℕ) (k : Key) → IsOfLimits canvas → rect ≡ canvas_area canvas → slice_get (keys_of rect) i ≡ Some k
+pub next_free : {doc : Doc} {canvas : Canvas} {before : Scene} {stale : Parts} {f : Scene} (rect : Area) (i : ℕ) (k : Key) → IsOfLimits canvas → rect ≡ canvas_area canvas → slice_get (keys_of rect) i ≡ Some k
     → IsRenewedOn doc canvas before stale (take i (keys_of rect)) f → finite.get f.tiles k ≡ None
 next_free {canvas = canvas} rect i k limits e at s =
     s.free k (not_before (keys_of rect) i k (subst (λ a. IsDistinct same_key (keys_of a)) (sym e) (tiles_met (canvas_area canvas) limits.w.0 limits.h.0).distinct) at)
 
 -- one tile more
-pub one_more : {doc : Doc} {canvas : Canvas} {before : Scene} {stale : Grid} {old new : Scene} (keys : List Key) (i : ℕ) (k : Key) → slice_get keys i ≡ Some k
+pub one_more : {doc : Doc} {canvas : Canvas} {before : Scene} {stale : Parts} {old new : Scene} (keys : List Key) (i : ℕ) (k : Key) → slice_get keys i ≡ Some k
     → IsRenewedOn doc canvas before stale (take i keys) old → PutsOn k (IsRenewed doc before stale k) old new → IsRenewedOn doc canvas before stale (take (i + 1) keys) new
 one_more {doc = doc} {before = before} {stale = stale} {old = old} {new = new} keys i k at s t = record {
   width = t.canvas.width ∙ s.width;
@@ -125,23 +118,23 @@ one_more {doc = doc} {before = before} {stale = stale} {old = old} {new = new} k
     go q false false is h so = absurd (let t : false ≡ true = h in cc)
 
 -- all tiles of the canvas are there
-pub all_there : {doc : Doc} {canvas : Canvas} {before : Scene} {stale : Grid} {f : Scene} (rect : Area) (i : ℕ) → rect ≡ canvas_area canvas → length (keys_of rect) ≤ i
+pub all_there : {doc : Doc} {canvas : Canvas} {before : Scene} {stale : Parts} {f : Scene} (rect : Area) (i : ℕ) → rect ≡ canvas_area canvas → length (keys_of rect) ≤ i
     → IsRenewedOn doc canvas before stale (take i (keys_of rect)) f → IsRenewedOn doc canvas before stale (keys_of (canvas_area canvas)) f
 all_there {doc = doc} {canvas = canvas} {before = before} {stale = stale} {f = f} rect i e all s = subst (λ ks. IsRenewedOn doc canvas before stale ks f) (take_all i (keys_of rect) all ∙ ap keys_of e) s
 
-module _ {doc : Doc} {canvas : Canvas} {before : Scene} {stale : Grid} {f : Scene} where
+module _ {doc : Doc} {canvas : Canvas} {before : Scene} {stale : Parts} {f : Scene} where
   renewed_at : (x y : ℕ) → x < canvas.w → y < canvas.h → IsRenewedOn doc canvas before stale (keys_of (canvas_area canvas)) f → IsRenewed doc before stale (key_of (point (pos x) (pos y))) (finite.get f.tiles (key_of (point (pos x) (pos y))))
   renewed_at x y h k s = s.there _ (key_of_held (canvas_area canvas) (point (pos x) (pos y)) (canvas_holds canvas x y h k))
 
   looks_at : (x y : ℕ) → x < canvas.w → y < canvas.h → ShowsElsewhere stale doc canvas before → IsRenewedOn doc canvas before stale (keys_of (canvas_area canvas)) f → Alike (put_at f (point (pos x) (pos y))) (picture doc (point (pos x) (pos y)))
-  looks_at x y h k shows s = elim (true_or_false (has_mark stale (key_of (point (pos x) (pos y))))) [
-    | inl m ↦ (renewed_at x y h k s).marked m (point (pos x) (pos y)) (key_is (key_of (point (pos x) (pos y))) (key_of (point (pos x) (pos y))) refl)
-    | inr m ↦ ap (λ o. seen (pixel_or o clear (point (pos x) (pos y)))) ((renewed_at x y h k s).unmarked m) ∙ shows.looks x y h k m
+  looks_at x y h k shows s = elim (true_or_false (is_damaged stale (point (pos x) (pos y)))) [
+    | inl m ↦ (renewed_at x y h k s).damaged (point (pos x) (pos y)) (key_is (key_of (point (pos x) (pos y))) (key_of (point (pos x) (pos y))) refl) m
+    | inr m ↦ ap seen ((renewed_at x y h k s).intact (point (pos x) (pos y)) (key_is (key_of (point (pos x) (pos y))) (key_of (point (pos x) (pos y))) refl) m) ∙ shows.looks x y h k m
   ]
 
-  -- the frame looks like the document at each point, be some marked or none
-  pub shows_all : (marks : Grid) → ShowsElsewhere stale doc canvas before → IsRenewedOn doc canvas before stale (keys_of (canvas_area canvas)) f → ShowsElsewhere marks doc canvas f
-  shows_all marks shows s = record {
+  -- the frame looks like the document at each point, be some damaged or none
+  pub shows_all : (more : Parts) → ShowsElsewhere stale doc canvas before → IsRenewedOn doc canvas before stale (keys_of (canvas_area canvas)) f → ShowsElsewhere more doc canvas f
+  shows_all more shows s = record {
     width = s.width;
     height = s.height;
     paper = s.paper;
@@ -158,6 +151,10 @@ module _ {doc : Doc} {canvas : Canvas} {before : Scene} {stale : Grid} {f : Scen
         (λ x y h k. ap (λ c. on_paper (put_at f (point (pos x) (pos y))) c) s.paper ∙ paper_alike (put_at f (point (pos x) (pos y))) (picture doc (point (pos x) (pos y))) canvas.paper (looks_at x y h k shows s)));
   }
 
-  -- and what isn't marked is that of the frame before
-  pub renews : IsRenewedOn doc canvas before stale (keys_of (canvas_area canvas)) f → Renews f before stale
-  renews s x y h k m = (renewed_at x y (subst (λ n. x < n) s.width h) (subst (λ n. y < n) s.height k) s).unmarked m
+  -- and a tile without a damaged part is that of the frame before
+  pub renews : IsRenewedOn doc canvas before stale (keys_of (canvas_area canvas)) f → RenewsTiles f before stale
+  renews s x y h k m = (renewed_at x y (subst (λ n. x < n) s.width h) (subst (λ n. y < n) s.height k) s).untouched m
+
+-- so the tiles that have a damaged part are all that may differ
+pub renews_marks : (f before : Scene) (stale : Parts) (marks : Grid) → ((k : Key) → has_mark marks k ≡ is_some (part_at stale k)) → RenewsTiles f before stale → Renews f before marks
+renews_marks f before stale marks told r x y h k m = r x y h k (is_some-None (part_at stale (key_of (point (pos x) (pos y)))) (sym (told (key_of (point (pos x) (pos y)))) ∙ m))

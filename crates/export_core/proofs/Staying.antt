@@ -1,12 +1,14 @@
--- Frames that show one document, as frames of another that looks the same outside the marked tiles.
-use Rattle.std.proofs.Common.{◌≡◌, ℕ, ◌<◌, Bool, true, false, cond, Some, replicate, eqb, refl, sym, ap, ◌∙◌, arith}
+-- Frames that show one document, as frames of another that looks the same where nothing is damaged.
+use Rattle.std.proofs.Common.{◌≡◌, ℕ, ◌<◌, Bool, true, false, cond, Some, None, eqb, refl, sym, ap, ◌∙◌, arith}
 use Rattle.std.specs.Prelude.{pos}
 use Rattle.std.specs.FinSet as set
 use Rattle.std.specs.FinSet.{FinSet}
 use Rattle.pixel_core.specs.Rgba.{Rgba, clear}
 use Rattle.geom_core.specs.Points.{Point, point}
-use Rattle.geom_core.specs.Grid.{Key, key_cmp, key_of}
-use Rattle.tile_core.specs.Marks.{Grid, has_mark}
+use Rattle.geom_core.specs.Grid.{Key, key_cmp, key_of, tile}
+use Rattle.tile_core.specs.Marks.{on_canvas}
+use Rattle.tile_core.specs.Damage.{Parts, part_at, is_damaged}
+use Rattle.tile_core.proofs.DamagedPoints.{all_damaged}
 use Rattle.tile_core.specs.Frames.{Scene}
 use Rattle.doc_model.specs.declared.canvas.Canvas.{Canvas}
 use Rattle.doc_model.specs.Canvases.{IsOfLimits}
@@ -19,7 +21,7 @@ use Rattle.doc_model.proofs.Paths.{content_put_back}
 use Rattle.machine_model.specs.Reached.{ReachesOneLayer}
 use Rattle.export_core.specs.Exports.{ShowsElsewhere}
 use Rattle.export_core.specs.Pieces.{seen}
-use Rattle.export_core.proofs.CanvasKeys.{canvas_key, all_marked}
+use Rattle.export_core.proofs.CanvasKeys.{canvas_key}
 use Rattle.export_core.proofs.SameTree.{same_cond, chosen}
 
 -- a layer's pixels elsewhere change nothing at a point
@@ -44,26 +46,26 @@ unless : (a b : Bool) → (a ≡ true → b ≡ true) → b ≡ false → a ≡ 
 unless true b h e = absurd (let t : b ≡ true = h refl in cc)
 unless false b h e = refl
 
--- whatever is marked in the first is marked in the second
-abbrev pub MarksToo : Grid → Grid → Type 0
-MarksToo stale more = (k : Key) → has_mark stale k ≡ true → has_mark more k ≡ true
+-- whatever is damaged in the first is damaged in the second
+abbrev pub DamagesToo : Parts → Parts → Type 0
+DamagesToo stale more = (p : Point) → is_damaged stale p ≡ true → is_damaged more p ≡ true
 
--- a frame of one document as one of another, where both look the same on the tiles that aren't marked
-pub stays : (stale more : Grid) (doc new : Doc) (canvas : Canvas) (f : Scene) → MarksToo stale more
-    → ((x y : ℕ) → x < canvas.w → y < canvas.h → has_mark more (key_of (point (pos x) (pos y))) ≡ false → picture doc (point (pos x) (pos y)) ≡ picture new (point (pos x) (pos y)))
+-- a frame of one document as one of another, where both look the same at the points that aren't damaged
+pub stays : (stale more : Parts) (doc new : Doc) (canvas : Canvas) (f : Scene) → DamagesToo stale more
+    → ((x y : ℕ) → x < canvas.w → y < canvas.h → is_damaged more (point (pos x) (pos y)) ≡ false → picture doc (point (pos x) (pos y)) ≡ picture new (point (pos x) (pos y)))
     → ShowsElsewhere stale doc canvas f → ShowsElsewhere more new canvas f
 stays stale more doc new canvas f too same shows = record {
   width = shows.width;
   height = shows.height;
   paper = shows.paper;
-  looks = λ x y h k m. shows.looks x y h k (unless (has_mark stale (key_of (point (pos x) (pos y)))) _ (too (key_of (point (pos x) (pos y)))) m) ∙ ap seen (same x y h k m);
+  looks = λ x y h k m. shows.looks x y h k (unless (is_damaged stale (point (pos x) (pos y))) _ (too (point (pos x) (pos y))) m) ∙ ap seen (same x y h k m);
 }
 
--- where all tiles are marked, nothing is asked but the sides and the paper
-pub all_stale : (g : Grid) (doc : Doc) (canvas : Canvas) (f : Scene) → IsOfLimits canvas → g ≡ replicate 1024 true → f.width ≡ canvas.w → f.height ≡ canvas.h → f.paper ≡ canvas.paper → ShowsElsewhere g doc canvas f
+-- where all is damaged, nothing is asked but the sides and the paper
+pub all_stale : (g : Parts) (doc : Doc) (canvas : Canvas) (f : Scene) → IsOfLimits canvas → ((k : Key) → part_at g k ≡ cond (on_canvas k) (Some (tile k)) None) → f.width ≡ canvas.w → f.height ≡ canvas.h → f.paper ≡ canvas.paper → ShowsElsewhere g doc canvas f
 all_stale g doc canvas f limits all w h paper = record {
   width = w;
   height = h;
   paper = paper;
-  looks = λ x y i j m. absurd (let t : has_mark g (key_of (point (pos x) (pos y))) ≡ true = all_marked g (key_of (point (pos x) (pos y))) all (canvas_key x y (omega (arith, i, limits.w.1)) (omega (arith, j, limits.h.1))) in cc);
+  looks = λ x y i j m. absurd (let t : is_damaged g (point (pos x) (pos y)) ≡ true = all_damaged g all (point (pos x) (pos y)) (canvas_key x y (omega (arith, i, limits.w.1)) (omega (arith, j, limits.h.1))) in cc);
 }

@@ -1,5 +1,5 @@
 -- What nodes of a document and frames of it have on one tile.
-use Rattle.std.specs.Prelude.{◌≡◌, ℕ, suc, ◌%◌, Bool, ◌==◌, ◌&&◌, not, true, false, if◌then◌else◌, Option, List}
+use Rattle.std.specs.Prelude.{◌≡◌, ℕ, suc, ◌%◌, Bool, ◌==◌, ◌&&◌, not, true, false, if◌then◌else◌, Option, None, List}
 use Rattle.std.specs.FinMap as map
 use Rattle.pixel_core.specs.Rgba.{Rgba, clear}
 use Rattle.pixel_core.specs.declared.blending.Op.{Op}
@@ -9,7 +9,7 @@ use Rattle.geom_core.specs.Place.{across, down}
 use Rattle.geom_core.specs.Grid.{Key, key_of, same_key}
 use Rattle.tile_core.specs.Pixels.{Pixels, pixel_or}
 use Rattle.tile_core.specs.Frames.{Scene, SameCanvas}
-use Rattle.tile_core.specs.Marks.{Grid, has_mark}
+use Rattle.tile_core.specs.Damage.{Parts, part_at, is_damaged}
 use Rattle.doc_model.specs.declared.tree.Look.{Look}
 use Rattle.doc_model.specs.Layers.{at}
 use Rattle.doc_model.specs.Forest.{upper}
@@ -81,10 +81,11 @@ shows_itself look = (look.visible && (look.opacity == 255)) && not (is_erase loo
 abbrev pub LooksOn : (Point → Rgba) → Key → Option Pixels → Type 0
 LooksOn shown key o = (p : Point) → same_key (key_of p) key ≡ true → Alike (pixel_or o clear p) (shown p)
 
--- what a new frame has under the key: where it is marked the document's picture, and else what the frame before has
-pub record IsRenewed (doc : Doc) (before : Scene) (stale : Grid) (key : Key) (o : Option Pixels) : Type 0 where
-  pub marked : has_mark stale key ≡ true → LooksOn (picture doc) key o
-  pub unmarked : has_mark stale key ≡ false → o ≡ map.get before.tiles key
+-- what a new frame has under the key: the document's picture at the damaged points of the tile, and at all others the pixels of the frame before. A tile without a damaged part stays
+pub record IsRenewed (doc : Doc) (before : Scene) (stale : Parts) (key : Key) (o : Option Pixels) : Type 0 where
+  pub damaged : (p : Point) → same_key (key_of p) key ≡ true → is_damaged stale p ≡ true → Alike (pixel_or o clear p) (picture doc p)
+  pub intact : (p : Point) → same_key (key_of p) key ≡ true → is_damaged stale p ≡ false → pixel_or o clear p ≡ pixel_or (map.get before.tiles key) clear p
+  pub untouched : part_at stale key ≡ None → o ≡ map.get before.tiles key
 
 -- what the new frame has under the key fits. All else stays
 pub record PutsOn (key : Key) (fits : Option Pixels → Type 0) (old new : Scene) : Type 0 where

@@ -10,7 +10,7 @@ use geom_core::NoMemory;
 use pixel_core::Pixel;
 use std::alloc::Global;
 use std::test::Fail;
-use tile_core::{Frame, Marks};
+use tile_core::{Damage, Frame};
 
 /// Sets a red layer in. Whether it came.
 fn add_red(store: &mut Store, alloc: Global) -> bool
@@ -35,8 +35,8 @@ fn second_frame(alloc: Global, store: &Store, canvas: &Canvas) -> Result<Frame, 
     ensures height { IfOk result (λ f. f.height ≡ canvas.now.h) }
 {
     let first = frame_of(alloc, store, *canvas)?;
-    let unmarked = Marks::none();
-    frame_after(alloc, store, *canvas, &first, &unmarked)
+    let undamaged = Damage::none();
+    frame_after(alloc, store, *canvas, &first, &undamaged)
 }
 
 #[test]

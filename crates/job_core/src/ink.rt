@@ -5,8 +5,7 @@ ghost use Rattle.pixel_core.specs.declared.blending.Op.TheVariants.{Over};
 ghost use Rattle.pixel_core.specs.Compose.{compose as composed};
 ghost use Rattle.job_core.specs.Inks.{LaysInk};
 
-use pixel_core::{Op, Pixel};
-use pixel_rows::lay;
+use pixel_core::{Op, Pixel, compose};
 
 /// A colour, and how it is laid on pixels.
 #[derive(Clone, Copy)]
@@ -35,7 +34,7 @@ pub fn laid_on(old: Pixel, ink: &Ink, strength: u8) -> Pixel
     if strength == 255 && hides(ink) {
         hidden_by(old, ink.colour)
     } else {
-        lay(ink.op, ink.colour, old, strength)
+        compose(ink.op, ink.colour, old, strength)
     }
 }
 
@@ -86,6 +85,6 @@ fn mix_all(pixels: &mut [Pixel], ink: &Ink)
     ensures { LaysInk ink.now pixels.old pixels.new }
 {
     for i in 0..pixels.len() {
-        pixels[i] = lay(ink.op, ink.colour, pixels[i], ink.strength);
+        pixels[i] = compose(ink.op, ink.colour, pixels[i], ink.strength);
     }
 }

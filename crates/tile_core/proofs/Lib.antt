@@ -12,4 +12,6 @@ pub mod SameRows
 pub mod TileLaws
 pub mod PictureRows
 pub mod MarkedTiles
+pub mod DamagedParts
+pub mod DamagedPoints
 pub mod Films

@@ -36,12 +36,3 @@ paper_shows paper e = clear_shows paper ∙ ap (on_paper clear) (sym (is_opaque 
 -- an opaque pixel hides the paper
 pub paper_hidden : (p paper : Rgba) → p.a ≡ 255 → paper.a ≡ 255 → (p.r ∷ p.g ∷ p.b ∷ []) ≡ on_paper p paper
 paper_hidden p paper e h = opaque_hides p paper ∙ ap (λ q. on_paper q (opaque paper)) (sym (is_opaque p e)) ∙ ap (on_paper p) (sym (is_opaque paper h))
-
--- a test for the clear pixel
-pub is_clear : (p : Rgba) → (nat_eq p.r 0 && (nat_eq p.g 0 && (nat_eq p.b 0 && nat_eq p.a 0))) ≡ true → p ≡ clear
-is_clear p t =
-    let er : p.r ≡ 0 = grind (arith, nat_tests) in
-    let eg : p.g ≡ 0 = grind (arith, nat_tests) in
-    let eb : p.b ≡ 0 = grind (arith, nat_tests) in
-    let ea : p.a ≡ 0 = grind (arith, nat_tests) in
-    λ i. rgba (er i) (eg i) (eb i) (ea i)

@@ -5,23 +5,20 @@ use Rattle.std.proofs.lemmas.Bool.Decides.{nat_tests}
 use Rattle.std.specs.Int.{to_le_bytes, w32}
 use Rattle.std.proofs.Math.Seq.{take-append_seam, drop-append_seam}
 use Rattle.std.proofs.lemmas.List.{ext_get_or, get_or-take, get_or-drop, take_more, length-take-le}
-use Rattle.pixel_core.specs.Rgba.{Rgba, rgba, clear, bytes_of}
+use Rattle.pixel_core.specs.Rgba.{Rgba, rgba, clear, bytes_of, same_pixel}
 use Rattle.tile_core.specs.Pixels.{Pixels, pixel_of}
 use Rattle.tile_core.specs.Parts.{SamePart}
 use Rattle.tile_core.proofs.SoFar.{SameSoFar}
 use Rattle.tile_core.proofs.LaidRows.{length_range}
 
--- a derived test of pixels
-abbrev pub alike : Rgba → Rgba → Bool
-alike p q = nat_eq p.r q.r && (nat_eq p.g q.g && (nat_eq p.b q.b && nat_eq p.a q.a))
+same_pixel-refl : (p : Rgba) → same_pixel p p ≡ true
+same_pixel-refl p = grind (arith, nat_tests)
 
-alike-refl : (p : Rgba) → alike p p ≡ true
-alike-refl p = grind (arith, nat_tests)
-
-pub alike-Decides : (p q : Rgba) → (alike p q ≡ true → p ≡ q) × (p ≡ q → alike p q ≡ true)
-alike-Decides p q = ((λ t. one p q t), (λ e. subst (λ v. alike p v ≡ true) e (alike-refl p)))
+-- the test of pixels tells whether they are one
+pub same_pixel-Decides : (p q : Rgba) → (same_pixel p q ≡ true → p ≡ q) × (p ≡ q → same_pixel p q ≡ true)
+same_pixel-Decides p q = ((λ t. one p q t), (λ e. subst (λ v. same_pixel p v ≡ true) e (same_pixel-refl p)))
   where
-    one : (p q : Rgba) → alike p q ≡ true → p ≡ q
+    one : (p q : Rgba) → same_pixel p q ≡ true → p ≡ q
     one p q t =
         let er : p.r ≡ q.r = grind (arith, nat_tests) in
         let eg : p.g ≡ q.g = grind (arith, nat_tests) in

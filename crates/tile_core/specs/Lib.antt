@@ -7,3 +7,4 @@ pub mod Maps
 pub mod Laws
 pub mod Marks
 pub mod Films
+pub mod Damage

@@ -2,6 +2,7 @@
 #![tactic(auto)]
 
 mod block;
+mod damage;
 mod film;
 mod frame;
 mod keyed;
@@ -13,6 +14,7 @@ mod shot;
 mod tile;
 
 pub use block::Block;
+pub use damage::Damage;
 pub use film::Film;
 pub use frame::Frame;
 pub use marks::Marks;

@@ -1,6 +1,6 @@
 //! Marked tiles of a canvas.
 
-ghost use Rattle.std.specs.Prelude.{◌≡◌, ◌<◌, ◌&&◌, ◌||◌, true, false, pos, replicate, IfSome};
+ghost use Rattle.std.specs.Prelude.{◌≡◌, ◌<◌, ◌&&◌, ◌||◌, true, false, pos, replicate, slice_set, IfSome};
 ghost use Rattle.geom_core.specs.Grid.{Key, same_key, keys_of};
 ghost use Rattle.std.specs.List.{list_any};
 ghost use Rattle.tile_core.specs.Marks.{place_at, mark_at, has_mark, on_canvas, no_marks};
@@ -72,6 +72,14 @@ impl Marks {
         }
     }
 
+    /// Marks the tile at that place of the largest canvas, in row order.
+    pub(crate) fn mark_place(&mut self, i: usize)
+        requires { i < 1024 }
+        ensures { self.new ≡ slice_set self.old i true }
+    {
+        self.tiles[i] = true;
+    }
+
     /// Marks the tiles of the largest canvas that the rectangle meets.
     pub fn mark_all(&mut self, rect: &Rect)
         ensures { (k : Key) → has_mark self.new k ≡ (has_mark self.old k || (list_any (same_key k) (keys_of rect.now) && on_canvas k)) }
@@ -84,7 +92,7 @@ impl Marks {
 
 /// Where the key's tile stands among those of the largest canvas in row order. None for any other key.
 #[inline]
-fn place_of(key: TileKey) -> Option<usize>
+pub(crate) fn place_of(key: TileKey) -> Option<usize>
     ensures value { result ≡ place_at key.col key.row }
     ensures inside { IfSome result (λ place. place < 1024) }
 {

@@ -1,0 +1,112 @@
+//! Damaged parts of the tiles of a canvas.
+
+ghost use Rattle.std.specs.Prelude.{◌≡◌, ◌&&◌, pos, if◌then◌else◌, Some, None, is_some, IfSome};
+ghost use Rattle.geom_core.specs.Areas.{area, clipped, IsWithin};
+ghost use Rattle.geom_core.specs.Grid.{Key, same_key, tile, IsWorldKey};
+ghost use Rattle.tile_core.specs.Marks.{has_mark, on_canvas};
+ghost use Rattle.tile_core.specs.Damage.{part_at, grown, intact};
+
+use crate::Marks;
+use crate::marks::place_of;
+use geom_core::{Rect, TileKey};
+use std::marker::Model;
+
+/// What may have changed of a canvas: of each of its tiles a rectangle inside the tile, or nothing.
+/// The largest canvas has 32 by 32 tiles; no other tile is ever damaged.
+#[derive(Drop)]
+pub struct Damage {
+    parts: [Option<Rect>; 1024],
+}
+
+impl Model for Damage {
+    ghost use Rattle.tile_core.specs.Damage.{Parts, FitTiles};
+
+    ghost Value = { Parts };
+
+    ghost view = { λ d. d.parts };
+
+    ghost invariant = { λ d. FitTiles d.parts };
+}
+
+impl Damage {
+    /// Nothing is damaged.
+    pub fn none() -> Damage
+        ensures { result ≡ intact }
+    {
+        Damage {
+            parts: [None; 1024],
+        }
+    }
+
+    /// Every point of the largest canvas is damaged.
+    pub fn all() -> Damage
+        ensures { (k : Key) → part_at result k ≡ (if on_canvas k then Some (tile k) else None) }
+    {
+        let mut damage = Damage::none();
+        damage.add(&largest());
+        damage
+    }
+
+    /// The damaged part of the key's tile.
+    #[inline]
+    pub fn part(&self, key: TileKey) -> Option<Rect>
+        ensures value { result ≡ part_at self.now key }
+        ensures inside { IfSome result (λ a. IsWithin a (tile key)) }
+    {
+        match place_of(key) {
+            Some(place) => self.parts[place],
+            None => None,
+        }
+    }
+
+    /// The points of the rectangle are damaged too. In each tile of the largest canvas the part
+    /// becomes the least rectangle round both.
+    pub fn add(&mut self, rect: &Rect)
+        ensures { (k : Key) → part_at self.new k ≡ (if on_canvas k then grown (part_at self.old k) (clipped rect.now (tile k)) else None) }
+    {
+        for i in 0..rect.tile_count() {
+            self.add_in(rect.tile_at(i), rect);
+        }
+    }
+
+    /// The points of the rectangle in the key's tile are damaged too.
+    fn add_in(&mut self, key: TileKey, rect: &Rect)
+        requires { IsWorldKey key }
+        ensures { (k : Key) → part_at self.new k ≡ (if same_key k key && on_canvas k then grown (part_at self.old k) (clipped rect.now (tile k)) else part_at self.old k) }
+    {
+        if let Some(place) = place_of(key) {
+            self.parts[place] = grown(self.parts[place], rect.clip(&key.rect()));
+        }
+    }
+
+    /// The tiles that have a damaged part.
+    pub fn tiles(&self) -> Marks
+        ensures { (k : Key) → has_mark result k ≡ is_some (part_at self.now k) }
+    {
+        let mut marks = Marks::none();
+        for place in 0..1024 {
+            if self.parts[place].is_some() {
+                marks.mark_place(place);
+            }
+        }
+        marks
+    }
+}
+
+/// The points of the largest canvas.
+fn largest() -> Rect
+    ensures { result ≡ area (pos 0) (pos 0) 2048 2048 }
+{
+    Rect::new(0, 0, 2048, 2048).unwrap()
+}
+
+/// The least rectangle round both, or the one that is there.
+fn grown(old: Option<Rect>, more: Option<Rect>) -> Option<Rect>
+    ensures { result ≡ grown old more }
+{
+    match (old, more) {
+        (Some(a), Some(b)) => Some(a.bound(&b)),
+        (Some(a), None) => Some(a),
+        (None, more) => more,
+    }
+}
