@@ -1,5 +1,5 @@
 -- What damage tells of the pictures of two documents.
-use Rattle.std.proofs.Common.{◌≡◌, ℕ, ◌+◌, ◌≤◌, Bool, true, false, ◌&&◌, ◌||◌, cond, Option, Some, None, is_some, List, [], ◌∷◌, ◌++◌, take, refl, sym, ap, ◌∙◌, subst, ◌⊎◌, inl, inr}
+use Rattle.std.proofs.Common.{◌≡◌, ℕ, ◌+◌, ◌≤◌, Bool, true, false, ◌&&◌, ◌||◌, cond, Option, Some, None, List, [], ◌∷◌, ◌++◌, take, refl, sym, ap, ◌∙◌, subst, ◌⊎◌, inl, inr}
 use Rattle.std.specs.Prelude.{slice_get}
 use Rattle.std.specs.List.{fold}
 use Rattle.std.specs.FinSet as set
@@ -8,7 +8,7 @@ use Rattle.std.proofs.lemmas.List.{append-nil, append_assoc}
 use Rattle.std.proofs.lemmas.List.Folds.{list_any-append}
 use Rattle.std.proofs.lemmas.List.Sums.{fold-append}
 use Rattle.geom_core.specs.Points.{Point}
-use Rattle.geom_core.specs.Areas.{Area, holds, any_holds, clipped, common, meets}
+use Rattle.geom_core.specs.Areas.{Area, holds, any_holds, clipped}
 use Rattle.geom_core.specs.Grid.{Key, key_cmp, key_of, tile}
 use Rattle.geom_core.specs.declared.Touched.{Touched}
 use Rattle.geom_core.proofs.Tests.{none_left, none_right, or_cases, taken}
@@ -21,16 +21,16 @@ use Rattle.doc_model.specs.Forest.{content, with_content}
 use Rattle.doc_model.specs.Ids.{IsTree}
 use Rattle.doc_model.specs.Picture.{Doc, picture}
 use Rattle.doc_model.specs.Strokes.{Jobs}
-use Rattle.doc_model.proofs.Conflicts.{meets_at}
 use Rattle.doc_model.proofs.JobLaws.{laws_of_jobs}
-use Rattle.doc_model.proofs.QueueLaws.{bound_left, bound_right, common_holds}
 use Rattle.doc_model.proofs.Weights.{weight_with_content}
 use Rattle.machine_model.specs.State.{Reach, Whole, Part}
 use Rattle.machine_model.specs.Effects.{writes_of}
 use Rattle.machine_model.specs.Reached.{Reaches, ReachesOneLayer, PastReaches, FutureReaches}
 use Rattle.machine_model.proofs.TileBounds.{held_by, set_holds}
-use Rattle.tile_core.specs.Marks.{place_at, on_canvas}
-use Rattle.tile_core.specs.Damage.{Parts, part_in, part_at, part_has, is_damaged, grown}
+use Rattle.tile_core.specs.Marks.{on_canvas}
+use Rattle.tile_core.specs.Damage.{Parts, part_at, part_has, is_damaged, grown}
+use Rattle.tile_core.proofs.DamagedParts.{no_part}
+use Rattle.tile_core.proofs.DamagedPoints.{grown_first, grown_second, clipped_has, damaged_on_canvas, all_damaged}
 use Rattle.export_core.specs.Pieces.{seen}
 use Rattle.export_core.proofs.Staying.{picture_reached, picture_with}
 use Rattle.desk_steps.specs.declared.reach.Reach as told
@@ -46,44 +46,16 @@ never e = cc
 abbrev part_after : List Area → Key → Option Area → Option Area
 part_after rects k part = fold (λ o a. grown o (clipped a (tile k))) part rects
 
-grown_left : (o more : Option Area) (p : Point) → part_has o p ≡ true → part_has (grown o more) p ≡ true
-grown_left None more p h = absurd (never (sym h))
-grown_left (Some a) None p h = h
-grown_left (Some a) (Some b) p h = bound_left a b p h
-
-grown_right : (o more : Option Area) (p : Point) → part_has more p ≡ true → part_has (grown o more) p ≡ true
-grown_right None more p h = h
-grown_right (Some a) None p h = absurd (never (sym h))
-grown_right (Some a) (Some b) p h = bound_right a b p h
-
-clipped_has : (a b : Area) (p : Point) → holds a p ≡ true → holds b p ≡ true → part_has (clipped a b) p ≡ true
-clipped_has a b p h k = ap (λ o. part_has o p) (taken (meets a b) (Some (common a b)) None (meets_at a b p h k)) ∙ common_holds a b p h k
-
 after_stays : (rects : List Area) (k : Key) (o : Option Area) (p : Point) → part_has o p ≡ true → part_has (part_after rects k o) p ≡ true
 after_stays [] k o p h = h
-after_stays (a ∷ rects) k o p h = after_stays rects k (grown o (clipped a (tile k))) p (grown_left o (clipped a (tile k)) p h)
+after_stays (a ∷ rects) k o p h = after_stays rects k (grown o (clipped a (tile k))) p (grown_first o (clipped a (tile k)) p h)
 
 after_holds : (rects : List Area) (k : Key) (o : Option Area) (p : Point) → holds (tile k) p ≡ true → any_holds rects p ≡ true → part_has (part_after rects k o) p ≡ true
 after_holds [] k o p t h = absurd (never (sym h))
 after_holds (a ∷ rects) k o p t h = elim (or_cases (holds a p) (any_holds rects p) h) [
-  | inl e ↦ after_stays rects k (grown o (clipped a (tile k))) p (grown_right o (clipped a (tile k)) p (clipped_has a (tile k) p e t))
+  | inl e ↦ after_stays rects k (grown o (clipped a (tile k))) p (grown_second o (clipped a (tile k)) p (clipped_has a (tile k) p e t))
   | inr e ↦ after_holds rects k (grown o (clipped a (tile k))) p t e
 ]
-
--- outside the largest canvas no tile has a damaged part
-part_outside : (parts : Parts) (k : Key) → on_canvas k ≡ false → part_at parts k ≡ None
-part_outside parts k h = go (place_at k.col k.row) h
-  where
-    go : (o : Option ℕ) → is_some o ≡ false → part_in parts o ≡ None
-    go None h = refl
-    go (Some i) h = absurd (never h)
-
-damaged_on : (parts : Parts) (p : Point) → is_damaged parts p ≡ true → on_canvas (key_of p) ≡ true
-damaged_on parts p h = go (on_canvas (key_of p)) refl
-  where
-    go : (b : Bool) → on_canvas (key_of p) ≡ b → b ≡ true
-    go true e = refl
-    go false e = absurd (never (sym h ∙ ap (λ o. part_has o p) (part_outside parts (key_of p) e)))
 
 -- damage by some rectangles
 module _ (rects : List Area) (old new : Parts) (d : DamagesRects rects old new) where
@@ -91,7 +63,7 @@ module _ (rects : List Area) (old new : Parts) (d : DamagesRects rects old new) 
   part_now p on = ap (λ o. part_has o p) (sym (d (key_of p) ∙ taken (on_canvas (key_of p)) (part_after rects (key_of p) (part_at old (key_of p))) None on))
 
   damaged_stays : (p : Point) → is_damaged old p ≡ true → is_damaged new p ≡ true
-  damaged_stays p h = sym (part_now p (damaged_on old p h)) ∙ after_stays rects (key_of p) (part_at old (key_of p)) p h
+  damaged_stays p h = sym (part_now p (damaged_on_canvas old p h)) ∙ after_stays rects (key_of p) (part_at old (key_of p)) p h
 
   -- a point that isn't damaged is none of theirs
   none_held : (p : Point) → on_canvas (key_of p) ≡ true → is_damaged new p ≡ false → any_holds rects p ≡ false
@@ -107,7 +79,7 @@ damages_none parts k = go (on_canvas k) refl
   where
     go : (b : Bool) → on_canvas k ≡ b → part_at parts k ≡ cond b (part_at parts k) None
     go true e = refl
-    go false e = part_outside parts k e
+    go false e = no_part parts k e
 
 -- some rectangles after others
 pub damages_then : (ls rs : List Area) (a b c : Parts) → DamagesRects ls a b → DamagesRects rs b c → DamagesRects (ls ++ rs) a c
@@ -146,12 +118,9 @@ stroke_damages id jobs layer doc old new t e d = record {
 -- whatever changed
 pub all_damages : (before after : Doc) (old new : Parts) → IsAll new → DamagesChanges before after old new
 all_damages before after old new all = record {
-  stays = λ p h. is p (damaged_on old p h);
-  same = λ p on h. absurd (never (sym (is p on) ∙ h));
+  stays = λ p h. all_damaged new all p (damaged_on_canvas old p h);
+  same = λ p on h. absurd (never (sym (all_damaged new all p on) ∙ h));
 }
-  where
-    is : (p : Point) → on_canvas (key_of p) ≡ true → is_damaged new p ≡ true
-    is p on = ap (λ o. part_has o p) (all (key_of p) ∙ taken (on_canvas (key_of p)) (Some (tile (key_of p))) None on) ∙ own_tile p
 
 tree_back : (id : ℕ) (x : Layer) (doc : Doc) → IsTree (with_content id x doc) → IsTree doc
 tree_back id x doc t = record {

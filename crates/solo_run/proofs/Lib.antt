@@ -1,6 +1,6 @@
 pub mod Fronts
 pub mod Damaged
-pub mod Unseen
+pub mod LooksAlike
 pub mod Published
 pub mod Left
 pub mod Scripts

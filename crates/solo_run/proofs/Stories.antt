@@ -48,7 +48,7 @@ use Rattle.desk_steps.specs.Archives as archives
 use Rattle.desk_steps.specs.Archives.{Archive, IsArchive, finished, shape}
 use Rattle.solo_run.proofs.Fronts.{take_more}
 use Rattle.solo_run.proofs.Damaged.{all_damages, stroke_damages}
-use Rattle.solo_run.proofs.Unseen.{unseen_same, unseen_shape}
+use Rattle.solo_run.proofs.LooksAlike.{unseen_same, unseen_shape}
 use Rattle.solo_run.specs.Unseen.{is_unseen}
 use Rattle.solo_run.specs.declared.solo.Solo.{Solo}
 use Rattle.solo_run.specs.Painting.{Paints, PaintsOn, jobs_only}

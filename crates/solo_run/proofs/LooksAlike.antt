@@ -11,7 +11,7 @@ use Rattle.doc_model.specs.declared.tree.Change.{Change}
 use Rattle.doc_model.specs.declared.tree.Change.TheVariants as change
 use Rattle.doc_model.specs.declared.tree.TreeFault.{TreeFault}
 use Rattle.doc_model.specs.Ids.{IsTree}
-use Rattle.doc_model.specs.Layers.{at, plain, same_pixel-same, at-plain}
+use Rattle.doc_model.specs.Layers.{at, plain, at-plain}
 use Rattle.doc_model.specs.Forest.{Forest, none, paint, group, has, join, lower, upper, inserted, within, without, only, or_else}
 use Rattle.doc_model.specs.Forest as forest
 use Rattle.doc_model.specs.Readers.{look_in}
@@ -19,6 +19,7 @@ use Rattle.doc_model.specs.Changes.{new_look, answer, no_new, no_place, no_node,
 use Rattle.doc_model.specs.Picture.{Doc, with_look, laid, picture}
 use Rattle.doc_model.proofs.Parents.{Distinct}
 use Rattle.doc_model.proofs.Weights.{tree_distinct}
+use Rattle.tile_core.proofs.SameRows.{same_pixel-Decides}
 use Rattle.export_core.specs.Pieces.{seen, Alike}
 use Rattle.export_core.proofs.SameTree.{look_each}
 use Rattle.export_core.proofs.SeenPixels.{laid_alike, look_alike, clear_passed}
@@ -51,15 +52,15 @@ within_same : (q : ℕ) (f : Doc → Doc) → ((nodes : Doc) → SameLaid nodes 
 within_same q f h none p c = refl
 within_same q f h (paint id look layer rest) p c = within_same q f h rest p (with_look look (at layer p) c)
 within_same q f h (group id look nodes rest) p c =
-    laid_alike rest p (with_look look (laid nodes p clear) c) (with_look look (laid now p clear) c) (look_alike look (laid nodes p clear) (laid now p clear) c c (go (eqb q id)) refl)
+    laid_alike rest p (with_look look (laid nodes p clear) c) (with_look look (laid now p clear) c) (look_alike look (laid nodes p clear) (laid now p clear) c c (go (within_same q f h nodes p clear) (eqb q id)) refl)
     ∙ within_same q f h rest p (with_look look (laid now p clear) c)
   where
     now : Doc
     now = cond (eqb q id) (f nodes) (within q f nodes)
 
-    go : (b : Bool) → Alike (laid nodes p clear) (laid (cond b (f nodes) (within q f nodes)) p clear)
-    go true = h nodes p clear
-    go false = within_same q f h nodes p clear
+    go : Alike (laid nodes p clear) (laid (within q f nodes) p clear) → (b : Bool) → Alike (laid nodes p clear) (laid (cond b (f nodes) (within q f nodes)) p clear)
+    go below true = h nodes p clear
+    go below false = below
 
 set_same : (above place : ℕ) (nodes doc : Doc) → SameLaid none nodes → SameLaid doc (set_in above place nodes doc)
 set_same above place nodes doc h p c = go (eqb above 0)
@@ -103,89 +104,79 @@ same_absent q id f e h = let is : q ≡ id = grind (arith, nat_tests) in ap (λ 
 hides_all : {A : Type 0} (q : ℕ) (f : Forest A) → Distinct f → is_hidden (look_in q f) ≡ true → hides q f ≡ true
 unfolding hides
 hides_all q none d h = refl
-hides_all q (paint id look x rest) d h = go (eqb q id) refl h
+hides_all q (paint id look x rest) d h = go (hides_all q rest d.1) (eqb q id) refl h
   where
-    go : (b : Bool) → eqb q id ≡ b → is_hidden (cond b (Some look) (look_in q rest)) ≡ true → ((not b || not look.visible) && hides q rest) ≡ true
-    go true e h = both_true _ _ h (hides_absent q rest (same_absent q id rest e d.0))
-    go false e h = hides_all q rest d.1 h
-hides_all q (group id look nodes rest) d h = go (eqb q id) refl h
+    go : (is_hidden (look_in q rest) ≡ true → hides q rest ≡ true) → (b : Bool) → eqb q id ≡ b → is_hidden (cond b (Some look) (look_in q rest)) ≡ true → ((not b || not look.visible) && hides q rest) ≡ true
+    go all true e h = both_true _ _ h (hides_absent q rest (same_absent q id rest e d.0))
+    go all false e h = all h
+hides_all q (group id look nodes rest) d h = go (hides_all q nodes d.3) (hides_all q rest d.4) (eqb q id) refl h
   where
-    below : (o : Option Look) → look_in q nodes ≡ o → is_hidden (or_else o (look_in q rest)) ≡ true → (hides q nodes && hides q rest) ≡ true
-    below None e h = both_true _ _ (hides_absent q nodes (sym (looked q nodes) ∙ ap is_some e)) (hides_all q rest d.4 h)
-    below (Some l) e h = both_true _ _ (hides_all q nodes d.3 (ap is_hidden e ∙ h)) (hides_absent q rest (d.2 q (sym (looked q nodes) ∙ ap is_some e)))
+    below : (is_hidden (look_in q nodes) ≡ true → hides q nodes ≡ true) → (is_hidden (look_in q rest) ≡ true → hides q rest ≡ true) → (o : Option Look) → look_in q nodes ≡ o → is_hidden (or_else o (look_in q rest)) ≡ true → (hides q nodes && hides q rest) ≡ true
+    below inside beside None e h = both_true _ _ (hides_absent q nodes (sym (looked q nodes) ∙ ap is_some e)) (beside h)
+    below inside beside (Some l) e h = both_true _ _ (inside (ap is_hidden e ∙ h)) (hides_absent q rest (d.2 q (sym (looked q nodes) ∙ ap is_some e)))
 
-    go : (b : Bool) → eqb q id ≡ b → is_hidden (cond b (Some look) (or_else (look_in q nodes) (look_in q rest))) ≡ true → ((not b || not look.visible) && (hides q nodes && hides q rest)) ≡ true
-    go true e h = both_true _ _ h (both_true _ _ (hides_absent q nodes (same_absent q id nodes e d.0)) (hides_absent q rest (same_absent q id rest e d.1)))
-    go false e h = below (look_in q nodes) refl h
+    go : (is_hidden (look_in q nodes) ≡ true → hides q nodes ≡ true) → (is_hidden (look_in q rest) ≡ true → hides q rest ≡ true) → (b : Bool) → eqb q id ≡ b → is_hidden (cond b (Some look) (or_else (look_in q nodes) (look_in q rest))) ≡ true → ((not b || not look.visible) && (hides q nodes && hides q rest)) ≡ true
+    go inside beside true e h = both_true _ _ h (both_true _ _ (hides_absent q nodes (same_absent q id nodes e d.0)) (hides_absent q rest (same_absent q id rest e d.1)))
+    go inside beside false e h = below inside beside (look_in q nodes) refl h
 
 -- a node that isn't visible leaves its backdrop
 passed : (look : Look) (s c : Rgba) → not look.visible ≡ true → c ≡ with_look look s c
 passed look s c h = sym (kept look.visible (compose look.op s c look.opacity) c (not_true look.visible h))
 
+-- whether a node isn't that of the id, or isn't visible
+abbrev clears : ℕ → ℕ → Look → Bool
+clears q id look = not (eqb q id) || not look.visible
+
 without_hidden : (q : ℕ) (f : Doc) (p : Point) (c : Rgba) → hides q f ≡ true → laid f p c ≡ laid (without q f) p c
 unfolding hides
 without_hidden q none p c h = refl
-without_hidden q (paint id look layer rest) p c h = go (eqb q id) (and_left (not (eqb q id) || not look.visible) _ h)
+without_hidden q (paint id look layer rest) p c h = go (λ b. without_hidden q rest p b (and_right (clears q id look) _ h)) (eqb q id) (and_left (clears q id look) _ h)
   where
-    more : (b : Rgba) → laid rest p b ≡ laid (without q rest) p b
-    more b = without_hidden q rest p b (and_right (not (eqb q id) || not look.visible) _ h)
-
-    go : (b : Bool) → (not b || not look.visible) ≡ true → laid rest p (with_look look (at layer p) c) ≡ laid (cond b (without q rest) (paint id look layer (without q rest))) p c
-    go true e = ap (laid rest p) (sym (passed look (at layer p) c e)) ∙ more c
-    go false e = more (with_look look (at layer p) c)
-without_hidden q (group id look nodes rest) p c h = go (eqb q id) (and_left (not (eqb q id) || not look.visible) _ h)
+    go : ((b : Rgba) → laid rest p b ≡ laid (without q rest) p b) → (b : Bool) → (not b || not look.visible) ≡ true → laid rest p (with_look look (at layer p) c) ≡ laid (cond b (without q rest) (paint id look layer (without q rest))) p c
+    go more true e = ap (laid rest p) (sym (passed look (at layer p) c e)) ∙ more c
+    go more false e = more (with_look look (at layer p) c)
+without_hidden q (group id look nodes rest) p c h =
+    let both : (hides q nodes && hides q rest) ≡ true = and_right (clears q id look) _ h in
+    go (without_hidden q nodes p clear (and_left (hides q nodes) _ both)) (λ b. without_hidden q rest p b (and_right (hides q nodes) _ both)) (eqb q id) (and_left (clears q id look) _ h)
   where
-    both : (hides q nodes && hides q rest) ≡ true
-    both = and_right (not (eqb q id) || not look.visible) _ h
-
-    more : (b : Rgba) → laid rest p b ≡ laid (without q rest) p b
-    more b = without_hidden q rest p b (and_right (hides q nodes) _ both)
-
-    go : (b : Bool) → (not b || not look.visible) ≡ true → laid rest p (with_look look (laid nodes p clear) c) ≡ laid (cond b (without q rest) (group id look (without q nodes) (without q rest))) p c
-    go true e = ap (laid rest p) (sym (passed look (laid nodes p clear) c e)) ∙ more c
-    go false e = ap (λ s. laid rest p (with_look look s c)) (without_hidden q nodes p clear (and_left (hides q nodes) _ both)) ∙ more (with_look look (laid (without q nodes) p clear) c)
+    go : laid nodes p clear ≡ laid (without q nodes) p clear → ((b : Rgba) → laid rest p b ≡ laid (without q rest) p b)
+        → (b : Bool) → (not b || not look.visible) ≡ true → laid rest p (with_look look (laid nodes p clear) c) ≡ laid (cond b (without q rest) (group id look (without q nodes) (without q rest))) p c
+    go inside more true e = ap (laid rest p) (sym (passed look (laid nodes p clear) c e)) ∙ more c
+    go inside more false e = ap (λ s. laid rest p (with_look look s c)) inside ∙ more (with_look look (laid (without q nodes) p clear) c)
 
 only_hidden : (q : ℕ) (f : Doc) (p : Point) (c : Rgba) → hides q f ≡ true → c ≡ laid (only q f) p c
 unfolding hides
 only_hidden q none p c h = refl
-only_hidden q (paint id look layer rest) p c h = go (eqb q id) (and_left (not (eqb q id) || not look.visible) _ h)
+only_hidden q (paint id look layer rest) p c h = go (only_hidden q rest p c (and_right (clears q id look) _ h)) (eqb q id) (and_left (clears q id look) _ h)
   where
-    go : (b : Bool) → (not b || not look.visible) ≡ true → c ≡ laid (cond b (paint id look layer none) (only q rest)) p c
-    go true e = passed look (at layer p) c e
-    go false e = only_hidden q rest p c (and_right (not (eqb q id) || not look.visible) _ h)
-only_hidden q (group id look nodes rest) p c h = go (eqb q id) (and_left (not (eqb q id) || not look.visible) _ h)
+    go : c ≡ laid (only q rest) p c → (b : Bool) → (not b || not look.visible) ≡ true → c ≡ laid (cond b (paint id look layer none) (only q rest)) p c
+    go more true e = passed look (at layer p) c e
+    go more false e = more
+only_hidden q (group id look nodes rest) p c h =
+    let both : (hides q nodes && hides q rest) ≡ true = and_right (clears q id look) _ h in
+    go (only_hidden q nodes p c (and_left (hides q nodes) _ both)) (only_hidden q rest p (laid (only q nodes) p c) (and_right (hides q nodes) _ both)) (eqb q id) (and_left (clears q id look) _ h)
   where
-    both : (hides q nodes && hides q rest) ≡ true
-    both = and_right (not (eqb q id) || not look.visible) _ h
+    go : c ≡ laid (only q nodes) p c → laid (only q nodes) p c ≡ laid (only q rest) p (laid (only q nodes) p c)
+        → (b : Bool) → (not b || not look.visible) ≡ true → c ≡ laid (cond b (group id look nodes none) (join (only q nodes) (only q rest))) p c
+    go inside more true e = passed look (laid nodes p clear) c e
+    go inside more false e = inside ∙ more ∙ sym (laid_join (only q nodes) (only q rest) p c)
 
-    go : (b : Bool) → (not b || not look.visible) ≡ true → c ≡ laid (cond b (group id look nodes none) (join (only q nodes) (only q rest))) p c
-    go true e = passed look (laid nodes p clear) c e
-    go false e =
-        only_hidden q nodes p c (and_left (hides q nodes) _ both)
-        ∙ only_hidden q rest p (laid (only q nodes) p c) (and_right (hides q nodes) _ both)
-        ∙ sym (laid_join (only q nodes) (only q rest) p c)
+-- one node's look, where that changes
+turned_look : (b : Bool) (look new : Look) (s c : Rgba) → not new.visible ≡ true → (not b || not look.visible) ≡ true → with_look look s c ≡ with_look (cond b new look) s c
+turned_look true look new s c n e = sym (passed look s c e) ∙ passed new s c n
+turned_look false look new s c n e = refl
 
 -- a hidden node's look may change, where it stays hidden
 looks_hidden : (q : ℕ) (new : Look) (f : Doc) (p : Point) (c : Rgba) → not new.visible ≡ true → hides q f ≡ true → laid f p c ≡ laid (forest.with_look q new f) p c
 unfolding hides
 looks_hidden q new none p c n h = refl
 looks_hidden q new (paint id look layer rest) p c n h =
-    ap (laid rest p) (go (eqb q id) (and_left (not (eqb q id) || not look.visible) _ h))
-    ∙ looks_hidden q new rest p (with_look (cond (eqb q id) new look) (at layer p) c) n (and_right (not (eqb q id) || not look.visible) _ h)
-  where
-    go : (b : Bool) → (not b || not look.visible) ≡ true → with_look look (at layer p) c ≡ with_look (cond b new look) (at layer p) c
-    go true e = sym (passed look (at layer p) c e) ∙ passed new (at layer p) c n
-    go false e = refl
+    ap (laid rest p) (turned_look (eqb q id) look new (at layer p) c n (and_left (clears q id look) _ h))
+    ∙ looks_hidden q new rest p (with_look (cond (eqb q id) new look) (at layer p) c) n (and_right (clears q id look) _ h)
 looks_hidden q new (group id look nodes rest) p c n h =
-    ap (laid rest p) (go (eqb q id) (and_left (not (eqb q id) || not look.visible) _ h) ∙ ap (λ s. with_look (cond (eqb q id) new look) s c) (looks_hidden q new nodes p clear n (and_left (hides q nodes) _ both)))
+    let both : (hides q nodes && hides q rest) ≡ true = and_right (clears q id look) _ h in
+    ap (laid rest p) (turned_look (eqb q id) look new (laid nodes p clear) c n (and_left (clears q id look) _ h) ∙ ap (λ s. with_look (cond (eqb q id) new look) s c) (looks_hidden q new nodes p clear n (and_left (hides q nodes) _ both)))
     ∙ looks_hidden q new rest p (with_look (cond (eqb q id) new look) (laid (forest.with_look q new nodes) p clear) c) n (and_right (hides q nodes) _ both)
-  where
-    both : (hides q nodes && hides q rest) ≡ true
-    both = and_right (not (eqb q id) || not look.visible) _ h
-
-    go : (b : Bool) → (not b || not look.visible) ≡ true → with_look look (laid nodes p clear) c ≡ with_look (cond b new look) (laid nodes p clear) c
-    go true e = sym (passed look (laid nodes p clear) c e) ∙ passed new (laid nodes p clear) c n
-    go false e = refl
 
 -- what an answer gives looks as that
 answered : (o : Option TreeFault) (doc given new : Doc) → LooksSame doc given → answer o given ≡ Ok new → LooksSame doc new
@@ -196,7 +187,7 @@ answered (Some fault) doc given new h e p = cc
 pub unseen_same : (c : Change) (doc new : Doc) → IsTree doc → is_unseen c doc ≡ true → changed plain c doc ≡ Ok new → LooksSame doc new
 unseen_same (change.Layer id above place pixel) doc new t h e =
     answered (no_new id above place doc) doc (set_in above place (paint id new_look (plain pixel) none) doc) new
-    (λ p. set_same above place (paint id new_look (plain pixel) none) doc (λ p b. clear_passed new_look (at (plain pixel) p) b (at-plain pixel p ∙ same_pixel-same pixel clear h)) p clear) e
+    (λ p. set_same above place (paint id new_look (plain pixel) none) doc (λ p b. clear_passed new_look (at (plain pixel) p) b (at-plain pixel p ∙ (same_pixel-Decides pixel clear).0 h)) p clear) e
 unseen_same (change.Group id above place) doc new t h e =
     answered (no_new id above place doc) doc (set_in above place (group id new_look none none) doc) new
     (λ p. set_same above place (group id new_look none none) doc (λ p b. clear_passed new_look clear b refl) p clear) e
