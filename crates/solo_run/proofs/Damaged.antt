@@ -1,5 +1,5 @@
 -- What damage tells of the pictures of two documents.
-use Rattle.std.proofs.Common.{◌≡◌, ℕ, ◌+◌, ◌≤◌, Bool, true, false, ◌&&◌, ◌||◌, cond, Option, Some, None, List, [], ◌∷◌, ◌++◌, take, refl, sym, ap, ◌∙◌, subst, ◌⊎◌, inl, inr}
+use Rattle.std.proofs.Common.{◌≡◌, ℕ, ◌+◌, ◌≤◌, Bool, true, false, ◌||◌, cond, Option, Some, None, List, [], ◌∷◌, ◌++◌, take, refl, sym, ap, ◌∙◌, subst, ◌⊎◌, inl, inr}
 use Rattle.std.specs.Prelude.{slice_get}
 use Rattle.std.specs.List.{fold}
 use Rattle.std.specs.FinSet as set
@@ -19,7 +19,7 @@ use Rattle.doc_model.specs.Layers.{Layer, at}
 use Rattle.doc_model.specs.Jobs.{writes, apply, apply_all}
 use Rattle.doc_model.specs.Forest.{content, with_content}
 use Rattle.doc_model.specs.Ids.{IsTree}
-use Rattle.doc_model.specs.Picture.{Doc, picture}
+use Rattle.doc_model.specs.Picture.{Doc}
 use Rattle.doc_model.specs.Strokes.{Jobs}
 use Rattle.doc_model.proofs.JobLaws.{laws_of_jobs}
 use Rattle.doc_model.proofs.Weights.{weight_with_content}

@@ -3,7 +3,7 @@ use Rattle.std.proofs.Common.{◌≡◌, ℕ, suc, zero, Bool, true, false, ◌&
 use Rattle.std.specs.Prelude.{Ok}
 use Rattle.std.proofs.lemmas.Bool.Decides.{nat_tests}
 use Rattle.geom_core.specs.Points.{Point}
-use Rattle.geom_core.proofs.Tests.{and_left, and_right, both_true, or_right, none_left, none_right, not_true, kept, taken}
+use Rattle.geom_core.proofs.Tests.{and_left, and_right, both_true, none_left, none_right, not_true, kept}
 use Rattle.pixel_core.specs.Rgba.{Rgba, clear}
 use Rattle.pixel_core.specs.Compose.{compose}
 use Rattle.doc_model.specs.declared.tree.Look.{Look}

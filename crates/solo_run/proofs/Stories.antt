@@ -1,5 +1,5 @@
 -- What the entries of a queue mean, and what becomes of the story.
-use Rattle.std.proofs.Common.{◌≡◌, ℕ, suc, zero, ◌+◌, ◌-◌, ◌<◌, replicate, Bool, true, false, not, Option, Some, None, is_some, List, [], ◌∷◌, ◌++◌, map, length, drop, take, cond, refl, sym, ap, ◌∙◌, subst, arith}
+use Rattle.std.proofs.Common.{◌≡◌, ℕ, suc, zero, ◌+◌, ◌-◌, ◌<◌, Bool, true, false, not, Option, Some, None, is_some, List, [], ◌∷◌, ◌++◌, map, length, drop, take, cond, refl, sym, ap, ◌∙◌, subst, arith}
 use Rattle.std.proofs.lemmas.List.{length-append, map-append}
 use Rattle.std.proofs.lemmas.List.Elements.{All-append, All-cons, All-nil}
 use Rattle.std.proofs.lemmas.Option.{slice_get_read}

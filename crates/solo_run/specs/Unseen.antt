@@ -1,5 +1,5 @@
 -- Changes of the tree that nobody sees.
-use Rattle.std.specs.Prelude.{ℕ, Bool, true, false, ◌&&◌, not, Option, Some, None}
+use Rattle.std.specs.Prelude.{Bool, true, false, ◌&&◌, not, Option, Some, None}
 use Rattle.pixel_core.specs.Rgba.{same_pixel, clear}
 use Rattle.geom_core.specs.Points.{Point}
 use Rattle.doc_model.specs.declared.tree.Look.{Look}

@@ -5,8 +5,8 @@ mod run;
 mod solo;
 mod steps;
 mod strokes;
-mod unseen;
 #[cfg(test)]
 mod tests;
+mod unseen;
 
 pub use run::{Shown, run_solo};
