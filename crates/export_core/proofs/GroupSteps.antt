@@ -2,7 +2,7 @@
 use Rattle.std.proofs.Common.{refl, ◌≡◌, ℕ, suc, ◌≤◌, Bool, true, false, List, Option, Some, None, sym, ap, ◌∙◌, arith}
 use Rattle.pixel_core.specs.Rgba.{Rgba}
 use Rattle.geom_core.specs.Points.{Point}
-use Rattle.geom_core.specs.Grid.{Key, key_of, same_key}
+use Rattle.geom_core.specs.Areas.{Area, holds}
 use Rattle.geom_core.proofs.Tests.{taken, kept}
 use Rattle.doc_model.specs.declared.tree.Look.{Look}
 use Rattle.doc_model.specs.Forest.{Forest, none, has, width, upper}
@@ -57,9 +57,9 @@ laid_given doc nodes k id look given p old new next shows lays =
     ap seen (next.laid_next p old) ∙ laid_alike (upper (suc k) nodes) p _ _ (look_alike look (node_pixel id doc p) (given_on given p) old old (sym shows) refl ∙ sym lays)
 
 -- where all children are laid, the pile is the group
-pub group_done : (doc : Doc) (t : Tree) (g n i : ℕ) (key : Key) (looks : List Look) (tiles : List Given) (p : Point) → t ≡ shape doc → n ≡ child_count g t → n ≤ i → takes g doc ≡ true
-    → LaidSoFar (nodes_in g doc) i key looks tiles → same_key (key_of p) key ≡ true → Alike (laid_at looks tiles p) (node_pixel g doc p)
-group_done doc t g n i key looks tiles p e h low is so there =
+pub group_done : (doc : Doc) (t : Tree) (g n i : ℕ) (part : Area) (looks : List Look) (tiles : List Given) (p : Point) → t ≡ shape doc → n ≡ child_count g t → n ≤ i → takes g doc ≡ true
+    → LaidSoFar (nodes_in g doc) i part looks tiles → holds part p ≡ true → Alike (laid_at looks tiles p) (node_pixel g doc p)
+group_done doc t g n i part looks tiles p e h low is so there =
     let many : n ≡ width (nodes_in g doc) = h ∙ ap (child_count g) e ∙ child_count_each _ g doc in
     let all : upper i (nodes_in g doc) ≡ none = upper_all i (nodes_in g doc) (omega arith) in
     sym (ap (λ f. seen (laid f p (laid_at looks tiles p))) all) ∙ so p there ∙ ap seen (sym (taken (takes g doc) (picture (nodes_in g doc) p) (at (layer_in g doc) p) is))

@@ -3,6 +3,7 @@ pub mod SeenPixels
 pub mod LoneNodes
 pub mod NextNodes
 pub mod Piles
+pub mod PartPoints
 pub mod GroupSteps
 pub mod CanvasKeys
 pub mod Staying

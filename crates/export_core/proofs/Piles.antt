@@ -1,19 +1,18 @@
 -- Piles of children, laid one on another.
 use Rattle.std.proofs.Common.{◌≡◌, ℕ, ◌%◌, ◌<◌, ◌&&◌, true, List, [], ◌∷◌, ◌++◌, length, get_or, refl, sym, ap, ◌∙◌, arith}
-use Rattle.std.specs.Prelude.{fold, pos, int_le, int_lt, ◌+ℤ◌}
-use borrow.Author.Differences.{ints}
+use Rattle.std.specs.Prelude.{fold}
 use Rattle.pixel_core.specs.Rgba.{Rgba, clear}
-use Rattle.geom_core.specs.Points.{Point, point}
-use Rattle.geom_core.specs.Areas.{holds}
+use Rattle.geom_core.specs.Points.{Point}
+use Rattle.geom_core.specs.Areas.{Area, holds}
 use Rattle.geom_core.specs.Place.{across, down}
-use Rattle.geom_core.specs.Grid.{Key, key_of, same_key}
-use Rattle.geom_core.proofs.Tests.{taken, both_true}
-use Rattle.tile_core.specs.Pixels.{Pixels, pixel_of, whole_tile}
+use Rattle.geom_core.proofs.Tests.{taken}
+use Rattle.tile_core.specs.Pixels.{Pixels, pixel_of}
 use Rattle.doc_model.specs.declared.tree.Look.{Look}
 use Rattle.doc_model.specs.Forest.{upper}
 use Rattle.doc_model.specs.Picture.{Doc, with_look, laid, picture}
 use Rattle.compose_core.specs.declared.children.Given.{Given}
 use Rattle.compose_core.specs.Children.{given_at, with_child, laid_children, children_on, IsComposed}
+use Rattle.export_core.specs.Spots.{point_in_tile}
 use Rattle.export_core.specs.Pieces.{given_on, laid_at, seen, Alike, shows_itself}
 use Rattle.export_core.proofs.SeenPixels.{shown_alone}
 
@@ -43,15 +42,12 @@ laid_alone (l ∷ []) (t ∷ s ∷ tiles) look given g p m n e f h same = absurd
 laid_alone (l ∷ []) (t ∷ []) look given g p m n e f h same =
     ap (λ x. seen (given_on x p)) (same ∙ f) ∙ shown_alone l (given_on t p) (ap shows_itself (sym e) ∙ sym h)
 
-inside : (n : ℕ) → n < 64 → (int_le (pos 0) (pos n) && int_lt (pos n) (pos 0 +ℤ pos 64)) ≡ true
-inside n h = grind (arith, ints)
-
--- the whole tile, composed
-pub composed_whole : (looks : List Look) (tiles : List Given) (tile : Pixels) (p : Point) → IsComposed whole_tile looks tiles tile → pixel_of tile (across p % 64) (down p % 64) ≡ laid_at looks tiles p
-composed_whole looks tiles tile p is =
+-- a part of the tile, composed
+pub composed_on : (part : Area) (looks : List Look) (tiles : List Given) (tile : Pixels) (p : Point) → IsComposed part looks tiles tile → holds part (point_in_tile p) ≡ true → pixel_of tile (across p % 64) (down p % 64) ≡ laid_at looks tiles p
+composed_on part looks tiles tile p is held =
     is (across p % 64) (down p % 64) (omega arith) (omega arith)
-    ∙ taken (holds whole_tile (point (pos (across p % 64)) (pos (down p % 64)))) _ _ (both_true _ _ (inside (across p % 64) (omega arith)) (inside (down p % 64) (omega arith)))
+    ∙ taken (holds part (point_in_tile p)) _ _ held
 
--- on the key's tile the pile looks like the nodes below the k-th
-abbrev pub LaidSoFar : Doc → ℕ → Key → List Look → List Given → Type 0
-LaidSoFar nodes k key looks tiles = (p : Point) → same_key (key_of p) key ≡ true → Alike (laid (upper k nodes) p (laid_at looks tiles p)) (picture nodes p)
+-- on the part the pile looks like the nodes below the k-th
+abbrev pub LaidSoFar : Doc → ℕ → Area → List Look → List Given → Type 0
+LaidSoFar nodes k part looks tiles = (p : Point) → holds part p ≡ true → Alike (laid (upper k nodes) p (laid_at looks tiles p)) (picture nodes p)

@@ -20,7 +20,7 @@ use Rattle.doc_model.proofs.Weights.{tree_distinct}
 use Rattle.doc_model.proofs.Paths.{content_put_back}
 use Rattle.machine_model.specs.Reached.{ReachesOneLayer}
 use Rattle.export_core.specs.Exports.{ShowsElsewhere}
-use Rattle.export_core.specs.Pieces.{seen}
+use Rattle.export_core.specs.Pieces.{seen, Alike}
 use Rattle.export_core.proofs.CanvasKeys.{canvas_key}
 use Rattle.export_core.proofs.SameTree.{same_cond, chosen}
 
@@ -50,15 +50,15 @@ unless false b h e = refl
 abbrev pub DamagesToo : Parts → Parts → Type 0
 DamagesToo stale more = (p : Point) → is_damaged stale p ≡ true → is_damaged more p ≡ true
 
--- a frame of one document as one of another, where both look the same at the points that aren't damaged
+-- a frame of one document as one of another, where both look alike at the points that aren't damaged
 pub stays : (stale more : Parts) (doc new : Doc) (canvas : Canvas) (f : Scene) → DamagesToo stale more
-    → ((x y : ℕ) → x < canvas.w → y < canvas.h → is_damaged more (point (pos x) (pos y)) ≡ false → picture doc (point (pos x) (pos y)) ≡ picture new (point (pos x) (pos y)))
+    → ((x y : ℕ) → x < canvas.w → y < canvas.h → is_damaged more (point (pos x) (pos y)) ≡ false → Alike (picture doc (point (pos x) (pos y))) (picture new (point (pos x) (pos y))))
     → ShowsElsewhere stale doc canvas f → ShowsElsewhere more new canvas f
 stays stale more doc new canvas f too same shows = record {
   width = shows.width;
   height = shows.height;
   paper = shows.paper;
-  looks = λ x y h k m. shows.looks x y h k (unless (is_damaged stale (point (pos x) (pos y))) _ (too (point (pos x) (pos y))) m) ∙ ap seen (same x y h k m);
+  looks = λ x y h k m. shows.looks x y h k (unless (is_damaged stale (point (pos x) (pos y))) _ (too (point (pos x) (pos y))) m) ∙ same x y h k m;
 }
 
 -- where all is damaged, nothing is asked but the sides and the paper

@@ -5,6 +5,7 @@ use Rattle.pixel_core.specs.Rgba.{Rgba, clear}
 use Rattle.pixel_core.specs.declared.blending.Op.{Op}
 use Rattle.pixel_core.specs.declared.blending.Op.TheVariants.{Erase}
 use Rattle.geom_core.specs.Points.{Point}
+use Rattle.geom_core.specs.Areas.{Area, holds}
 use Rattle.geom_core.specs.Place.{across, down}
 use Rattle.geom_core.specs.Grid.{Key, key_of, same_key}
 use Rattle.tile_core.specs.Pixels.{Pixels, pixel_or}
@@ -20,6 +21,8 @@ use Rattle.machine_model.specs.Effects.{layer_in}
 use Rattle.compose_core.specs.declared.children.Given.{Given}
 use Rattle.compose_core.specs.Children.{given_at, laid_children, children_on}
 use Rattle.export_core.specs.declared.pile.Pile.{Pile}
+use Rattle.export_core.specs.declared.spot.Spot.{Spot}
+use Rattle.export_core.specs.Spots.{point_in_tile}
 
 -- what is seen of a pixel: where its alpha is 0 no colours are
 abbrev pub seen : Rgba → Rgba
@@ -41,9 +44,9 @@ node_pixel id doc p = if takes id doc then picture (nodes_in id doc) p else at (
 abbrev pub ShowsLayer : Doc → ℕ → Key → Given → Type 0
 ShowsLayer doc id key given = (p : Point) → same_key (key_of p) key ≡ true → given_on given p ≡ at (layer_in id doc) p
 
--- what is given looks like the node on the key's tile
-abbrev pub ShowsNode : Doc → ℕ → Key → Given → Type 0
-ShowsNode doc id key given = (p : Point) → same_key (key_of p) key ≡ true → Alike (given_on given p) (node_pixel id doc p)
+-- what is given looks like the node on the part
+abbrev pub ShowsNode : Doc → ℕ → Area → Given → Type 0
+ShowsNode doc id part given = (p : Point) → holds part p ≡ true → Alike (given_on given p) (node_pixel id doc p)
 
 -- children with these looks, laid from the bottom on a clear backdrop at a point of the tile
 abbrev pub laid_at : List Look → List Given → Point → Rgba
@@ -53,21 +56,21 @@ laid_at looks tiles p = laid_children (children_on looks tiles (across p % 64) (
 abbrev pub pile_at : Pile → Point → Rgba
 pile_at pile p = laid_at pile.looks.items pile.tiles.items p
 
--- what is given looks like the children together
-abbrev pub ShowsChildren : List Look → List Given → Given → Type 0
-ShowsChildren looks tiles given = (p : Point) → Alike (given_on given p) (laid_at looks tiles p)
+-- what is given looks like the children together on a part whose columns and rows count from the tile's corner
+abbrev pub ShowsChildren : List Look → List Given → Area → Given → Type 0
+ShowsChildren looks tiles part given = (p : Point) → holds part (point_in_tile p) ≡ true → Alike (given_on given p) (laid_at looks tiles p)
 
--- what is given looks like the pile
-abbrev pub ShowsPile : Pile → Given → Type 0
-ShowsPile pile given = ShowsChildren pile.looks.items pile.tiles.items given
+-- what is given looks like the pile on that part
+abbrev pub ShowsPile : Pile → Area → Given → Type 0
+ShowsPile pile part given = ShowsChildren pile.looks.items pile.tiles.items part given
 
 -- a child with that look is laid on the old pile
 abbrev pub LaysOn : Look → Given → Pile → Pile → Type 0
 LaysOn look given old new = (p : Point) → Alike (pile_at new p) (with_look look (given_on given p) (pile_at old p))
 
--- on the key's tile the new pile is the old one with the k-th node laid on it, so that the nodes above it come next
-abbrev pub AddsChild : Doc → ℕ → Key → Pile → Pile → Type 0
-AddsChild nodes k key old new = (p : Point) → same_key (key_of p) key ≡ true → Alike (laid (upper k nodes) p (pile_at old p)) (laid (upper (suc k) nodes) p (pile_at new p))
+-- on the part the new pile is the old one with the k-th node laid on it, so that the nodes above it come next
+abbrev pub AddsChild : Doc → ℕ → Area → Pile → Pile → Type 0
+AddsChild nodes k part old new = (p : Point) → holds part p ≡ true → Alike (laid (upper k nodes) p (pile_at old p)) (laid (upper (suc k) nodes) p (pile_at new p))
 
 -- whether a source with that look on a clear backdrop is left as it is
 abbrev pub shows_itself : Look → Bool
@@ -76,6 +79,11 @@ shows_itself look = (look.visible && (look.opacity == 255)) && not (is_erase loo
     is_erase : Op → Bool
     is_erase Erase = true
     is_erase op = false
+
+-- on the part what is under the key looks like these pixels, and elsewhere on the tile it has the old pixels
+pub record LooksOnPart (shown : Point → Rgba) (spot : Spot) (old o : Option Pixels) : Type 0 where
+  pub on : (p : Point) → same_key (key_of p) spot.key ≡ true → holds spot.part p ≡ true → Alike (pixel_or o clear p) (shown p)
+  pub off : (p : Point) → same_key (key_of p) spot.key ≡ true → holds spot.part p ≡ false → pixel_or o clear p ≡ pixel_or old clear p
 
 -- what is under the key, a tile or none, looks like these pixels on the key's tile
 abbrev pub LooksOn : (Point → Rgba) → Key → Option Pixels → Type 0

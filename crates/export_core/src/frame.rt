@@ -2,13 +2,17 @@
 
 ghost use Rattle.std.specs.Prelude.{◌≡◌, None, IfOk, OnOk};
 ghost use Rattle.std.specs.FinMap as map;
+ghost use Rattle.std.specs.Option.{option_copied};
+ghost use Rattle.geom_core.specs.Grid.{IsWorldKey};
 ghost use Rattle.doc_model.specs.Canvases.{IsOfLimits};
 ghost use Rattle.doc_model.specs.Picture.{picture};
 ghost use Rattle.tile_core.specs.Damage.{intact};
 ghost use Rattle.export_core.specs.Exports.{ShowsDoc, ShowsElsewhere, RenewsTiles};
-ghost use Rattle.export_core.specs.Pieces.{LooksOn, PutsOn};
+ghost use Rattle.export_core.specs.Pieces.{given_on, LooksOn, LooksOnPart, IsRenewed, PutsOn, ShowsNode};
+ghost use Rattle.export_core.specs.Spots.{IsSpot};
 
 use crate::group::node_on;
+use crate::spot::{Spot, repainted};
 use compose_core::Given;
 use desk_steps::Store;
 use doc_model::Canvas;
@@ -49,20 +53,89 @@ pub fn frame_after(
     ensures everywhere { IfOk result (ShowsElsewhere intact store.now.present canvas) }
     ensures renews { IfOk result (λ f. RenewsTiles f before.now stale.now) }
 {
-    Err(NoMemory)
+    let mut frame = Frame::new(alloc, canvas.w, canvas.h, canvas.paper)?;
+    let shown = canvas.rect();
+    for i in 0..shown.tile_count() {
+        put_tile(alloc, store, shown.tile_at(i), before, stale, &mut frame)?;
+    }
+    Ok(frame)
 }
 
-/// Puts the root's picture on one tile into the frame. A document without nodes needs no tile.
-fn put_root(alloc: Global, store: &Store, key: TileKey, frame: &mut Frame) -> Result<(), NoMemory>
+/// Puts one tile into the frame: that of the frame before, its damaged part composed anew.
+fn put_tile(
+    alloc: Global,
+    store: &Store,
+    key: TileKey,
+    before: &Frame,
+    stale: &Damage,
+    frame: &mut Frame,
+) -> Result<(), NoMemory>
+    requires key { IsWorldKey key }
+    requires free { map.get frame.old.tiles key ≡ None }
+    ensures { OnOk result (PutsOn key (IsRenewed store.now.present before.now stale.now key) frame.old frame.new) }
+{
+    let old = before.tile(key);
+    match stale.part(key) {
+        Some(part) => put_part(alloc, store, &Spot { key, part }, old, frame),
+        None => put_old(key, old, frame),
+    }
+}
+
+/// Puts the tile that was there into the frame, if there was one.
+fn put_old(key: TileKey, old: Option<&Tile>, frame: &mut Frame) -> Result<(), NoMemory>
     requires { map.get frame.old.tiles key ≡ None }
-    ensures { OnOk result (PutsOn key (LooksOn (picture store.now.present) key) frame.old frame.new) }
+    ensures { OnOk result (PutsOn key (λ o. o ≡ option_copied old.entry) frame.old frame.new) }
+{
+    match old {
+        Some(tile) => frame.put(key, tile),
+        None => Ok(()),
+    }
+}
+
+/// Puts a tile into the frame that has the root's picture on the part, and elsewhere what was there.
+fn put_part(
+    alloc: Global,
+    store: &Store,
+    spot: &Spot,
+    old: Option<&Tile>,
+    frame: &mut Frame,
+) -> Result<(), NoMemory>
+    requires spot { IsSpot spot.now }
+    requires free { map.get frame.old.tiles spot.now.key ≡ None }
+    ensures { OnOk result (PutsOn spot.now.key (LooksOnPart (picture store.now.present) spot.now (option_copied old.entry)) frame.old frame.new) }
+{
+    let given = root_on(alloc, store, spot)?;
+    if spot.is_whole() {
+        return put_given(alloc, spot.key, &given, frame);
+    }
+    let tile = repainted(alloc, spot, &given, old)?;
+    frame.put(spot.key, &tile)
+}
+
+/// The root's picture on a part of a tile. A document without nodes is clear.
+fn root_on(alloc: Global, store: &Store, spot: &Spot) -> Result<Given, NoMemory>
+    requires { IsSpot spot.now }
+    ensures { IfOk result (ShowsNode store.now.present 0 spot.now.part) }
 {
     if store.tree().node_count() == 0 {
-        return Ok(());
+        return Ok(Given::Plain(Pixel::CLEAR));
     }
-    match node_on(alloc, store, ROOT, MOST_LEVELS, key)? {
-        Given::Held(tile) => frame.put(key, &tile),
-        Given::Plain(pixel) => put_plain(alloc, pixel, key, frame),
+    node_on(alloc, store, ROOT, MOST_LEVELS, spot)
+}
+
+/// Puts what is given at the points of a tile into the frame.
+fn put_given(
+    alloc: Global,
+    key: TileKey,
+    given: &Given,
+    frame: &mut Frame,
+) -> Result<(), NoMemory>
+    requires { map.get frame.old.tiles key ≡ None }
+    ensures { OnOk result (PutsOn key (LooksOn (given_on given.now) key) frame.old frame.new) }
+{
+    match given {
+        Given::Held(tile) => frame.put(key, tile),
+        Given::Plain(pixel) => put_plain(alloc, *pixel, key, frame),
     }
 }
 

@@ -4,6 +4,7 @@
 mod frame;
 mod group;
 mod pile;
+mod spot;
 #[cfg(test)]
 mod tests;
 

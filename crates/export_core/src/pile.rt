@@ -2,6 +2,8 @@
 
 ghost use Rattle.std.specs.Prelude.{◌≡◌, IfOk, OnOk, length, [], IsTrue, ◌↔◌};
 ghost use Rattle.pixel_core.specs.Rgba.{clear};
+ghost use Rattle.geom_core.specs.Areas.{IsWithin};
+ghost use Rattle.tile_core.specs.Pixels.{whole_tile};
 ghost use Rattle.compose_core.specs.declared.children.Given.TheVariants.{Plain};
 ghost use Rattle.export_core.specs.Pieces.{LaysOn, ShowsPile, ShowsChildren, shows_itself};
 
@@ -44,10 +46,12 @@ impl Pile {
         Ok(())
     }
 
-    /// What they make together. No tile is made for no children, or for one that is left as it is.
-    pub fn composed(&self, alloc: Global) -> Result<Given, NoMemory>
-        requires { length self.now.looks.items ≡ length self.now.tiles.items }
-        ensures { IfOk result (ShowsPile self.now) }
+    /// What they make together on a part of the tile, whose columns and rows count from the tile's
+    /// corner. No tile is made for no children, or for one that is left as it is.
+    pub fn composed(&self, alloc: Global, part: &Rect) -> Result<Given, NoMemory>
+        requires paired { length self.now.looks.items ≡ length self.now.tiles.items }
+        requires inside { IsWithin part.now whole_tile }
+        ensures { IfOk result (ShowsPile self.now part.now) }
     {
         if self.looks.is_empty() {
             return Ok(Given::Plain(Pixel::CLEAR));
@@ -55,7 +59,7 @@ impl Pile {
         if self.looks.len() == 1 && shows_itself(self.looks[0]) {
             return shared(&self.tiles[0]);
         }
-        laid(alloc, &self.looks, &self.tiles)
+        laid(alloc, &self.looks, &self.tiles, part)
     }
 }
 
@@ -89,11 +93,16 @@ fn shared(given: &Given) -> Result<Given, NoMemory>
     }
 }
 
-/// A tile of the children, laid from the bottom.
-fn laid(alloc: Global, looks: &[Look], tiles: &[Given]) -> Result<Given, NoMemory>
-    requires { length looks.now ≡ length tiles.now }
-    ensures { IfOk result (ShowsChildren looks.now tiles.now) }
+/// A tile of the children on the part, laid from the bottom.
+fn laid(
+    alloc: Global,
+    looks: &[Look],
+    tiles: &[Given],
+    part: &Rect,
+) -> Result<Given, NoMemory>
+    requires paired { length looks.now ≡ length tiles.now }
+    requires inside { IsWithin part.now whole_tile }
+    ensures { IfOk result (ShowsChildren looks.now tiles.now part.now) }
 {
-    let whole = Rect::new(0, 0, 64, 64).unwrap();
-    Ok(Given::Held(compose_tile(alloc, looks, tiles, &whole)?))
+    Ok(Given::Held(compose_tile(alloc, looks, tiles, part)?))
 }

@@ -1,5 +1,6 @@
 pub mod Fronts
-pub mod Marked
+pub mod Damaged
+pub mod LooksAlike
 pub mod Published
 pub mod Left
 pub mod Scripts

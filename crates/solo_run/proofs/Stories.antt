@@ -1,5 +1,5 @@
 -- What the entries of a queue mean, and what becomes of the story.
-use Rattle.std.proofs.Common.{◌≡◌, ℕ, suc, zero, ◌+◌, ◌-◌, ◌<◌, replicate, Bool, true, false, not, Option, Some, None, is_some, List, [], ◌∷◌, ◌++◌, map, length, drop, take, cond, refl, sym, ap, ◌∙◌, subst, arith}
+use Rattle.std.proofs.Common.{◌≡◌, ℕ, suc, zero, ◌+◌, ◌-◌, ◌<◌, Bool, true, false, not, Option, Some, None, is_some, List, [], ◌∷◌, ◌++◌, map, length, drop, take, cond, refl, sym, ap, ◌∙◌, subst, arith}
 use Rattle.std.proofs.lemmas.List.{length-append, map-append}
 use Rattle.std.proofs.lemmas.List.Elements.{All-append, All-cons, All-nil}
 use Rattle.std.proofs.lemmas.Option.{slice_get_read}
@@ -20,7 +20,7 @@ use Rattle.doc_model.specs.Layers.{Layer}
 use Rattle.doc_model.specs.Jobs.{apply_all}
 use Rattle.doc_model.specs.Forest.{content, with_content}
 use Rattle.doc_model.specs.Changes.{there}
-use Rattle.doc_model.specs.Picture.{Doc, frame}
+use Rattle.doc_model.specs.Picture.{Doc, frame, picture}
 use Rattle.doc_model.specs.Laws.{IsDocument, EachDoc}
 use Rattle.doc_model.specs.Lawful.{is_closed_entry, is_open, lawful}
 use Rattle.doc_model.specs.Meaning.{Story, start, told, told_all, told_stroke, closed_stroke, laid_stroke, told_change, undone, redone, meaning, ends_with}
@@ -33,9 +33,10 @@ use Rattle.machine_model.specs.State.{Reach, Part}
 use Rattle.machine_model.specs.Effects.{writes_of}
 use Rattle.tile_core.specs.Frames.{Scene}
 use Rattle.tile_core.specs.Films.{newest}
-use Rattle.tile_core.specs.Marks.{Grid, no_marks}
+use Rattle.tile_core.specs.Damage.{Parts, intact}
 use Rattle.ppm_out.specs.Pictures.{colours_of}
 use Rattle.export_core.specs.Exports.{ShowsDoc, ShowsElsewhere}
+use Rattle.export_core.specs.Pieces.{seen}
 use Rattle.export_core.proofs.CanvasKeys.{canvas_key}
 use Rattle.export_core.proofs.Staying.{stays}
 use Rattle.stroke_core.specs.Fed.{Closed}
@@ -44,14 +45,16 @@ use Rattle.entry_queue.specs.declared.entry.Entry.TheVariants.{Waiting, Whole, O
 use Rattle.entry_queue.specs.Pushed.{Pending, StandsFor, kept_of, may_leave, queued, stroke_of}
 use Rattle.entry_queue.proofs.Taking.{Fits, kept_fit, lawful_fits}
 use Rattle.desk_steps.specs.Archives as archives
-use Rattle.desk_steps.specs.Archives.{Archive, finished}
+use Rattle.desk_steps.specs.Archives.{Archive, IsArchive, finished, shape}
 use Rattle.solo_run.proofs.Fronts.{take_more}
-use Rattle.solo_run.proofs.Marked.{all_marks, stroke_marks}
+use Rattle.solo_run.proofs.Damaged.{all_damages, stroke_damages}
+use Rattle.solo_run.proofs.LooksAlike.{unseen_same, unseen_shape}
+use Rattle.solo_run.specs.Unseen.{is_unseen}
 use Rattle.solo_run.specs.declared.solo.Solo.{Solo}
 use Rattle.solo_run.specs.Painting.{Paints, PaintsOn, jobs_only}
 use Rattle.script_text.specs.Script.{Contents}
 use Rattle.solo_run.specs.Shows.{HasSides, Shows}
-use Rattle.solo_run.specs.Stale.{MarksTiles, MarksChanges}
+use Rattle.solo_run.specs.Stale.{DamagesRects, DamagesChanges, IsAll}
 use Rattle.solo_run.specs.Told.{Ends, GoesOn, HasCome, IsReady, Rests, docs, done_or, fits, story_of}
 
 abbrev pub fate_of : Bool → Fate
@@ -90,7 +93,7 @@ told_whole canvas story (doc.Purges k) c h = cc
 told_whole canvas story doc.Exports c h = cc
 
 goes_as : (one other : Story → Story) (old new : Solo) (o : Outcome) → ((story : Story) → one story ≡ other story) → GoesOn one old new o → GoesOn other old new o
-goes_as one other old new o same g = record { rests = g.rests; canvas = g.canvas; story = λ outcomes. g.story outcomes ∙ same (story_of old outcomes); unmarked = g.unmarked }
+goes_as one other old new o same g = record { rests = g.rests; canvas = g.canvas; story = λ outcomes. g.story outcomes ∙ same (story_of old outcomes); undamaged = g.undamaged }
 
 if_goes : {E : Type 0} (one other : Story → Story) (old new : Solo) (r : Result Outcome E) → ((story : Story) → one story ≡ other story) → IfOk r (GoesOn one old new) → IfOk r (GoesOn other old new)
 if_goes one other old new (Ok o) same g = goes_as one other old new o same g
@@ -110,8 +113,8 @@ absent id doc h = go (content id doc) refl
     go None e = refl
     go (Some x) e = let t : there id doc ≡ true = or_right _ _ (content_has id x doc e) in cc
 
--- another store, where the marks tell what changed
-rests_on : (s : Solo) (new : Archive) (stale : Grid) → Rests s → new.way ≡ None → new.present ≡ new.base → MarksChanges s.store.present new.present s.stale stale → Rests (record s { store = new; stale = stale })
+-- another store, where the damage tells what changed
+rests_on : (s : Solo) (new : Archive) (stale : Parts) → Rests s → new.way ≡ None → new.present ≡ new.base → DamagesChanges s.store.present new.present s.stale stale → Rests (record s { store = new; stale = stale })
 rests_on s new stale r way present changes = record {
   canvas = r.canvas;
   no_way = way;
@@ -127,7 +130,7 @@ roomy s a is next o r e = subst (λ b. GoesOn next s (record s { store = b }) o)
   rests = record { canvas = r.canvas; no_way = r.no_way; present = r.present; sides = r.sides; newest = r.newest };
   canvas = refl;
   story = λ outcomes. sym (e outcomes);
-  unmarked = λ _. refl;
+  undamaged = λ _. refl;
 })
 
 -- a stroke whose layer isn't there
@@ -146,10 +149,10 @@ abbrev after : Archive → ℕ → FinSet key_cmp → Doc → Archive
 after a id keys new = record { past = (a.base, Part id keys) ∷ a.past; base = new; present = new; future = []; way = None; room = false }
 
 -- a stroke that was painted
-pub painted_goes : (s : Solo) (begun done new : Archive) (stale : Grid) (layer : ℕ) (jobs : Jobs) (stroke : Stroke) → Rests s → IsDocument s.store.base → MarksTiles (writes_of jobs) s.stale stale
+pub painted_goes : (s : Solo) (begun done new : Archive) (stale : Parts) (layer : ℕ) (jobs : Jobs) (stroke : Stroke) → Rests s → IsDocument s.store.base → DamagesRects (writes_of jobs) s.stale stale
     → is_some (content layer s.store.present) ≡ true → begun ≡ record s.store { room = true; way = Some (layer, set.empty) } → PaintsOn (apply_all (jobs_only jobs)) begun done → new ≡ finished done.way done → stroke.layer ≡ layer → stroke.jobs ≡ jobs
     → GoesOn (λ story. laid_stroke story stroke (content stroke.layer story.document)) s (record s { store = new; stale = stale }) outcome.Done
-painted_goes s begun done new stale layer jobs stroke r document marks h b on n sl sj = go (content layer s.store.base) refl (ap (λ d. is_some (content layer d)) (sym r.present) ∙ h)
+painted_goes s begun done new stale layer jobs stroke r document damaged h b on n sl sj = go (content layer s.store.base) refl (ap (λ d. is_some (content layer d)) (sym r.present) ∙ h)
   where
     a : Archive
     a = s.store
@@ -160,7 +163,7 @@ painted_goes s begun done new stale layer jobs stroke r document marks h b on n 
       rests = rests_on s (after s.store layer paints.keys painted) stale r refl refl changes;
       canvas = refl;
       story = λ outcomes. sym (ap (laid_stroke (story_of s outcomes) stroke) ((λ i. content (sl i) s.store.base) ∙ e) ∙ (λ i. laid_stroke (story_of s outcomes) (record stroke { layer = sl i; jobs = sj i }) (Some x)));
-      unmarked = λ n. absurd (n refl);
+      undamaged = λ n. absurd (n refl);
     })
       where
         begins : Paints layer x begun
@@ -178,8 +181,8 @@ painted_goes s begun done new stale layer jobs stroke r document marks h b on n 
         painted : Doc
         painted = with_content layer (apply_all (jobs_only jobs) x) s.store.base
 
-        changes : MarksChanges s.store.present painted s.stale stale
-        changes = subst (λ d. MarksChanges d painted s.stale stale) (sym r.present) (stroke_marks layer jobs x s.store.base s.stale stale document.tree e marks)
+        changes : DamagesChanges s.store.present painted s.stale stale
+        changes = subst (λ d. DamagesChanges d painted s.stale stale) (sym r.present) (stroke_damages layer jobs x s.store.base s.stale stale document.tree e damaged)
 
         doc_is : done.present ≡ painted
         doc_is = paints.now ∙ ap (with_content layer (apply_all (jobs_only jobs) x)) base
@@ -198,52 +201,65 @@ purge_goes s keep new r e = subst (λ a. Ends (doc.Purges keep) s (record s { st
   rests = record { canvas = r.canvas; no_way = r.no_way; present = r.present; sides = r.sides; newest = r.newest };
   canvas = refl;
   story = λ outcomes i. record (story_of s (outcomes ++ outcome.Done ∷ [])) { past = docs_take keep s.store.past i };
-  unmarked = λ _. refl;
+  undamaged = λ _. refl;
 })
 
 -- a change of the tree
-pub change_goes : (s : Solo) (change : Change) (new : Archive) (stale : Grid) → Rests s → archives.Changes change s.store new → stale ≡ replicate 1024 true → Ends (doc.Changes change) s (record s { store = new; stale = stale }) outcome.Done
-change_goes s change new stale r c all = record {
-  rests = rests_on s new stale r (ap (λ (a : Archive). a.way) c.new_is) (ap (λ (a : Archive). a.present) c.new_is) (all_marks s.store.present new.present s.stale stale all);
+pub change_goes : (s : Solo) (change : Change) (new : Archive) (stale : Parts) → Rests s → archives.Changes change s.store new → DamagesChanges s.store.present new.present s.stale stale → Ends (doc.Changes change) s (record s { store = new; stale = stale }) outcome.Done
+change_goes s change new stale r c damaged = record {
+  rests = rests_on s new stale r (ap (λ (a : Archive). a.way) c.new_is) (ap (λ (a : Archive). a.present) c.new_is) damaged;
   canvas = refl;
   story = λ outcomes. (λ i. story_of (record s { store = c.new_is i; stale = stale }) (outcomes ++ outcome.Done ∷ [])) ∙ sym (ap (told_change (story_of s outcomes)) c.gives);
-  unmarked = λ n. absurd (n refl);
+  undamaged = λ n. absurd (n refl);
 }
 
+-- whatever it changed, where all is damaged
+pub all_changed : (s : Solo) (change : Change) (new : Archive) (stale : Parts) → Rests s → archives.Changes change s.store new → IsAll stale → Ends (doc.Changes change) s (record s { store = new; stale = stale }) outcome.Done
+all_changed s change new stale r c all = change_goes s change new stale r c (all_damages s.store.present new.present s.stale stale all)
+
+-- where nobody sees it nothing need be damaged
+pub unseen_changed : (s : Solo) (change : Change) (new : Archive) → Rests s → IsArchive s.store → archives.Changes change s.store new → is_unseen change (shape s.store.present) ≡ true → Ends (doc.Changes change) s (record s { store = new }) outcome.Done
+unseen_changed s change new r k c h = change_goes s change new s.stale r c (record {
+  stays = λ p d. d;
+  same = λ p on d. ap (λ d. seen (picture d p)) r.present
+      ∙ unseen_same change s.store.base new.base k.limits.tree (ap (is_unseen change) (sym r.present) ∙ sym (unseen_shape change s.store.present) ∙ h) c.gives p
+      ∙ ap (λ (a : Archive). seen (picture a.present p)) (sym c.new_is);
+})
+
 -- an undo
-pub undo_goes : (s : Solo) (new : Archive) (stale : Grid) (o : Outcome) → Rests s → new ≡ archives.undone s.store.past s.store → o ≡ done_or outcome.NothingToUndo s.store.past → MarksChanges s.store.present new.present s.stale stale → (s.store.past ≡ [] → stale ≡ s.stale) → Ends doc.Undoes s (record s { store = new; stale = stale }) o
-undo_goes s new stale o r e h m u = let g : GoesOn (λ t. undone t (docs s.store.past)) s (record s { store = new; stale = stale }) o = go s.store.past refl e h in record { rests = g.rests; canvas = g.canvas; story = g.story; unmarked = g.unmarked }
+pub undo_goes : (s : Solo) (new : Archive) (stale : Parts) (o : Outcome) → Rests s → new ≡ archives.undone s.store.past s.store → o ≡ done_or outcome.NothingToUndo s.store.past → DamagesChanges s.store.present new.present s.stale stale → (s.store.past ≡ [] → stale ≡ s.stale) → Ends doc.Undoes s (record s { store = new; stale = stale }) o
+undo_goes s new stale o r e h m u = let g : GoesOn (λ t. undone t (docs s.store.past)) s (record s { store = new; stale = stale }) o = go s.store.past refl e h in record { rests = g.rests; canvas = g.canvas; story = g.story; undamaged = g.undamaged }
   where
     go : (past : List (Doc × Reach)) → s.store.past ≡ past → new ≡ archives.undone past s.store → o ≡ done_or outcome.NothingToUndo past → GoesOn (λ t. undone t (docs past)) s (record s { store = new; stale = stale }) o
     go [] p e h = record {
       rests = rests_on s new stale r (ap (λ (a : Archive). a.way) e ∙ r.no_way) (ap (λ (a : Archive). a.present) e ∙ r.present ∙ ap (λ (a : Archive). a.base) (sym e)) m;
       canvas = refl;
       story = λ outcomes i. story_of (record s { store = e i; stale = stale }) (outcomes ++ h i ∷ []);
-      unmarked = λ _. u p;
+      undamaged = λ _. u p;
     }
     go (x ∷ past) p e h = record {
       rests = rests_on s new stale r (ap (λ (a : Archive). a.way) e ∙ r.no_way) (ap (λ (a : Archive). a.present) e ∙ ap (λ (a : Archive). a.base) (sym e)) m;
       canvas = refl;
       story = λ outcomes i. story_of (record s { store = e i; stale = stale }) (outcomes ++ h i ∷ []);
-      unmarked = λ n. absurd (n h);
+      undamaged = λ n. absurd (n h);
     }
 
 -- a redo
-pub redo_goes : (s : Solo) (new : Archive) (stale : Grid) (o : Outcome) → Rests s → new ≡ archives.redone s.store.future s.store → o ≡ done_or outcome.NothingToRedo s.store.future → MarksChanges s.store.present new.present s.stale stale → (s.store.future ≡ [] → stale ≡ s.stale) → Ends doc.Redoes s (record s { store = new; stale = stale }) o
-redo_goes s new stale o r e h m u = let g : GoesOn (λ t. redone t (docs s.store.future)) s (record s { store = new; stale = stale }) o = go s.store.future refl e h in record { rests = g.rests; canvas = g.canvas; story = g.story; unmarked = g.unmarked }
+pub redo_goes : (s : Solo) (new : Archive) (stale : Parts) (o : Outcome) → Rests s → new ≡ archives.redone s.store.future s.store → o ≡ done_or outcome.NothingToRedo s.store.future → DamagesChanges s.store.present new.present s.stale stale → (s.store.future ≡ [] → stale ≡ s.stale) → Ends doc.Redoes s (record s { store = new; stale = stale }) o
+redo_goes s new stale o r e h m u = let g : GoesOn (λ t. redone t (docs s.store.future)) s (record s { store = new; stale = stale }) o = go s.store.future refl e h in record { rests = g.rests; canvas = g.canvas; story = g.story; undamaged = g.undamaged }
   where
     go : (future : List (Doc × Reach)) → s.store.future ≡ future → new ≡ archives.redone future s.store → o ≡ done_or outcome.NothingToRedo future → GoesOn (λ t. redone t (docs future)) s (record s { store = new; stale = stale }) o
     go [] p e h = record {
       rests = rests_on s new stale r (ap (λ (a : Archive). a.way) e ∙ r.no_way) (ap (λ (a : Archive). a.present) e ∙ r.present ∙ ap (λ (a : Archive). a.base) (sym e)) m;
       canvas = refl;
       story = λ outcomes i. story_of (record s { store = e i; stale = stale }) (outcomes ++ h i ∷ []);
-      unmarked = λ _. u p;
+      undamaged = λ _. u p;
     }
     go (x ∷ future) p e h = record {
       rests = rests_on s new stale r (ap (λ (a : Archive). a.way) e ∙ r.no_way) (ap (λ (a : Archive). a.present) e ∙ ap (λ (a : Archive). a.base) (sym e)) m;
       canvas = refl;
       story = λ outcomes i. story_of (record s { store = e i; stale = stale }) (outcomes ++ h i ∷ []);
-      unmarked = λ n. absurd (n h);
+      undamaged = λ n. absurd (n h);
     }
 
 newest_last : (scenes : List Scene) (f : Scene) → newest (scenes ++ f ∷ []) ≡ Some f
@@ -256,18 +272,18 @@ same_some : (f g : Scene) → Some f ≡ Some g → f ≡ g
 same_some f g e = cc
 
 -- an export
-pub export_goes : (s : Solo) (film : List Scene) (stale : Grid) (f : Scene) → Rests s → ShowsDoc s.store.present s.canvas f → ShowsElsewhere no_marks s.store.present s.canvas f → film ≡ s.film ++ f ∷ [] → stale ≡ no_marks → Ends doc.Exports s (record s { film = film; stale = stale }) outcome.Done
-export_goes s film stale f r shows everywhere e none = subst (λ g. Ends doc.Exports s (record s { film = film; stale = g }) outcome.Done) (sym none) (subst (λ scenes. Ends doc.Exports s (record s { film = scenes; stale = no_marks }) outcome.Done) (sym e) (record {
+pub export_goes : (s : Solo) (film : List Scene) (stale : Parts) (f : Scene) → Rests s → ShowsDoc s.store.present s.canvas f → ShowsElsewhere intact s.store.present s.canvas f → film ≡ s.film ++ f ∷ [] → stale ≡ intact → Ends doc.Exports s (record s { film = film; stale = stale }) outcome.Done
+export_goes s film stale f r shows everywhere e none = subst (λ g. Ends doc.Exports s (record s { film = film; stale = g }) outcome.Done) (sym none) (subst (λ scenes. Ends doc.Exports s (record s { film = scenes; stale = intact }) outcome.Done) (sym e) (record {
   rests = record {
     canvas = r.canvas;
     no_way = r.no_way;
     present = r.present;
     sides = All-append (HasSides s.canvas) s.film (f ∷ []) r.sides (All-cons (HasSides s.canvas) f [] (record { width = shows.width; height = shows.height }) (All-nil (HasSides s.canvas)));
-    newest = λ g h. subst (ShowsElsewhere no_marks s.store.present s.canvas) (same_some f g (sym (newest_last s.film f) ∙ h)) everywhere;
+    newest = λ g h. subst (ShowsElsewhere intact s.store.present s.canvas) (same_some f g (sym (newest_last s.film f) ∙ h)) everywhere;
   };
   canvas = refl;
   story = λ outcomes i. record (story_of s (outcomes ++ outcome.Done ∷ [])) { frames = (map-append colours_of s.film (f ∷ []) ∙ ap (λ c. map colours_of s.film ++ c ∷ []) (shows.colours ∙ ap (λ d. frame d s.canvas) r.present)) i };
-  unmarked = λ n. absurd (n refl);
+  undamaged = λ n. absurd (n refl);
 }))
 
 pub told_all-last : (canvas : Canvas) (s : Story) (es : List doc.Entry) (e : doc.Entry) → told_all canvas s (es ++ e ∷ []) ≡ told canvas (told_all canvas s es) e

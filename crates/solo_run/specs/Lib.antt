@@ -3,3 +3,4 @@ pub mod Painting
 pub mod Left
 pub mod Told
 pub mod Stale
+pub mod Unseen

@@ -37,7 +37,7 @@ story_of s outcomes = record {
   outcomes = outcomes;
 }
 
--- the newest frame, if there is one, shows the present document outside the stale tiles
+-- the newest frame, if there is one, shows the present document outside what is stale
 abbrev pub ShowsNewest : Solo → Type 0
 ShowsNewest s = (f : Scene) → newest s.film ≡ Some f → ShowsElsewhere s.stale s.store.present s.canvas f
 
@@ -49,12 +49,12 @@ pub record Rests (s : Solo) : Type 0 where
   pub sides : All (HasSides s.canvas) s.film
   pub newest : ShowsNewest s
 
--- an entry ended with that outcome, and the story went on as told. One that wasn't done marks no tile
+-- an entry ended with that outcome, and the story went on as told. One that wasn't done damages nothing
 pub record GoesOn (next : Story → Story) (old new : Solo) (o : Outcome) : Type 0 where
   pub rests : Rests new
   pub canvas : new.canvas ≡ old.canvas
   pub story : (outcomes : List Outcome) → story_of new (outcomes ++ o ∷ []) ≡ next (story_of old outcomes)
-  pub unmarked : o ≢ Done → new.stale ≡ old.stale
+  pub undamaged : o ≢ Done → new.stale ≡ old.stale
 
 -- it went on as the entry means
 abbrev pub Ends : doc.Entry → Solo → Solo → Outcome → Type 0

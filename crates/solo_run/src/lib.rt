@@ -7,5 +7,6 @@ mod steps;
 mod strokes;
 #[cfg(test)]
 mod tests;
+mod unseen;
 
 pub use run::{Shown, run_solo};

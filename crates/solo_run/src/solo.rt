@@ -8,34 +8,34 @@ ghost use Rattle.doc_model.specs.Laws.{IsDocument};
 ghost use Rattle.doc_model.specs.Meaning.{start, laid_stroke};
 ghost use Rattle.doc_model.specs.Strokes as doc;
 ghost use Rattle.tile_core.specs.Frames.{Scene};
-ghost use Rattle.tile_core.specs.Films.{Renews, newest};
-ghost use Rattle.tile_core.specs.Marks.{no_marks};
-ghost use Rattle.export_core.specs.Exports.{ShowsDoc, ShowsElsewhere};
+ghost use Rattle.tile_core.specs.Damage.{intact};
+ghost use Rattle.tile_core.specs.Films.{newest};
+ghost use Rattle.export_core.specs.Exports.{ShowsDoc, ShowsElsewhere, RenewsTiles};
 ghost use Rattle.entry_queue.specs.declared.entry.Entry.TheVariants.{Whole, Other};
 ghost use Rattle.entry_queue.specs.Pushed.{queued};
 ghost use Rattle.solo_run.specs.Told.{Ends, GoesOn, IsReady, Rests, story_of};
 
 use crate::steps;
-use crate::strokes::{mark_jobs, paint_jobs};
+use crate::strokes::{damage_jobs, paint_jobs};
+use crate::unseen::is_unseen;
 use desk_steps::{Begun, Store, TreeRefusal};
 use doc_model::{Canvas, Change, Command, Job, Kind, Outcome};
 use entry_queue::Entry;
 use export_core::{frame_after, frame_of};
 use geom_core::NoMemory;
 use std::alloc::Global;
-use std::mem;
 use stroke_core::ClosedStroke;
-use tile_core::{Film, Frame, Marks};
+use tile_core::{Damage, Film, Frame};
 
-/// A document on a canvas, the frames that were exported so far, and the tiles that may look
-/// different from the newest of them.
+/// A document on a canvas, the frames that were exported so far, and the parts of tiles that may
+/// look different from the newest of them.
 #[derive(Drop)]
 pub(crate) struct Solo {
     alloc: Global,
     canvas: Canvas,
     store: Store,
     film: Film,
-    stale: Marks,
+    stale: Damage,
 }
 
 impl Solo {
@@ -51,7 +51,7 @@ impl Solo {
             canvas,
             store: Store::new(alloc)?,
             film: Film::new(alloc),
-            stale: Marks::all(),
+            stale: Damage::all(),
         })
     }
 
@@ -108,7 +108,7 @@ impl Solo {
         }
         paint_jobs(self.alloc, &mut self.store, jobs)?;
         self.store.finish();
-        mark_jobs(jobs, &mut self.stale);
+        damage_jobs(jobs, &mut self.stale);
         Ok(Outcome::Done)
     }
 
@@ -128,14 +128,17 @@ impl Solo {
         }
     }
 
-    /// Makes a change of the tree.
+    /// Makes a change of the tree. Where somebody may see it, all is damaged.
     fn change(&mut self, change: &Change) -> Result<Outcome, NoMemory>
         requires { Rests self.old }
         ensures { IfOk result (Ends (doc.Changes change.now) self.old self.new) }
     {
+        let unseen = is_unseen(change, self.store.tree());
         match self.store.change(self.alloc, change) {
             Ok(_) => {
-                self.stale = Marks::all();
+                if !unseen {
+                    self.stale = Damage::all();
+                }
                 Ok(Outcome::Done)
             }
             Err(TreeRefusal::Tree(fault)) => Ok(Outcome::Tree(fault)),
@@ -174,17 +177,17 @@ impl Solo {
         ensures { IfOk result (Ends doc.Exports self.old self.new) }
     {
         let frame = self.next_frame()?;
-        let fresh = mem::replace(&mut self.stale, Marks::none());
-        self.film.push(frame, fresh)?;
+        self.film.push(frame, self.stale.tiles())?;
+        self.stale = Damage::none();
         Ok(Outcome::Done)
     }
 
-    /// The document's picture. Tiles that look as in the newest frame are shared with it.
+    /// The document's picture. What looks as in the newest frame is taken from it.
     fn next_frame(&self) -> Result<Frame, NoMemory>
         requires { Rests self.now }
         ensures shows { IfOk result (ShowsDoc self.now.store.present self.now.canvas) }
-        ensures everywhere { IfOk result (ShowsElsewhere no_marks self.now.store.present self.now.canvas) }
-        ensures renews { (before : Scene) → newest self.now.film ≡ Some before → IfOk result (λ f. Renews f before self.now.stale) }
+        ensures everywhere { IfOk result (ShowsElsewhere intact self.now.store.present self.now.canvas) }
+        ensures renews { (before : Scene) → newest self.now.film ≡ Some before → IfOk result (λ f. RenewsTiles f before self.now.stale) }
     {
         match self.film.newest() {
             Some(before) => {

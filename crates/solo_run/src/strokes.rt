@@ -10,14 +10,14 @@ ghost use Rattle.job_core.specs.Paints.{layer_of};
 ghost use Rattle.desk_steps.specs.Archives.{layer_under_way};
 ghost use Rattle.solo_run.specs.Left.{IsLeft, IsLeftIn, IsLeftOf, AddsLeft, PutsLeft};
 ghost use Rattle.solo_run.specs.Painting.{PaintsOn, published_in, jobs_only};
-ghost use Rattle.solo_run.specs.Stale.{MarksTiles};
+ghost use Rattle.solo_run.specs.Stale.{DamagesRects};
 
 use desk_steps::Store;
 use doc_model::{Job, Kind};
 use geom_core::{NoMemory, Rect, TileKey};
 use job_core::{Made, paint_tile};
 use std::alloc::Global;
-use tile_core::{Marks, Shot};
+use tile_core::{Damage, Shot};
 
 /// The most tiles of a rectangle that are few.
 const FEW_TILES: u32 = 16;
@@ -206,23 +206,23 @@ fn paint_in(
     store.put(alloc, &painted)
 }
 
-/// Marks the tiles that the jobs may change.
-pub(crate) fn mark_jobs(jobs: &[(Kind, Job)], stale: &mut Marks)
+/// Damages the points that the jobs may change.
+pub(crate) fn damage_jobs(jobs: &[(Kind, Job)], stale: &mut Damage)
     requires { All (λ job. checks job.1 ≡ true) jobs.now }
-    ensures { MarksTiles (writes_of jobs.now) stale.old stale.new }
+    ensures { DamagesRects (writes_of jobs.now) stale.old stale.new }
 {
     for entry in jobs {
-        mark_job(&entry.1, stale);
+        damage_job(&entry.1, stale);
     }
 }
 
-/// Marks the tiles that a job may change.
-fn mark_job(job: &Job, stale: &mut Marks)
+/// Damages the points that a job may change.
+fn damage_job(job: &Job, stale: &mut Damage)
     requires { checks job.now ≡ true }
-    ensures { MarksTiles (writes job.now) stale.old stale.new }
+    ensures { DamagesRects (writes job.now) stale.old stale.new }
 {
     let writes = job.writes();
     for rect in writes.as_slice() {
-        stale.mark_all(rect);
+        stale.add(rect);
     }
 }

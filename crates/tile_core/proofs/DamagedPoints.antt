@@ -31,12 +31,13 @@ bound_first a b p h = lies_held a (bound a b) (both_true _ _ (first_in a.x b.x a
 bound_second : (a b : Area) (p : Point) → holds b p ≡ true → holds (bound a b) p ≡ true
 bound_second a b p h = lies_held b (bound a b) (both_true _ _ (second_in a.x b.x a.w b.w) (second_in a.y b.y a.h b.h)) p h
 
-grown_first : (o c : Option Area) (p : Point) → part_has o p ≡ true → part_has (grown o c) p ≡ true
+-- what grows keeps the points of both
+pub grown_first : (o c : Option Area) (p : Point) → part_has o p ≡ true → part_has (grown o c) p ≡ true
 grown_first None c p h = cc
 grown_first (Some a) None p h = h
 grown_first (Some a) (Some b) p h = bound_first a b p h
 
-grown_second : (o c : Option Area) (p : Point) → part_has c p ≡ true → part_has (grown o c) p ≡ true
+pub grown_second : (o c : Option Area) (p : Point) → part_has c p ≡ true → part_has (grown o c) p ≡ true
 grown_second None c p h = h
 grown_second (Some a) None p h = cc
 grown_second (Some a) (Some b) p h = bound_second a b p h
@@ -62,7 +63,8 @@ some_along a x n h = grind (arith, ints)
 sized : (a : Area) (p : Point) → holds a p ≡ true → Sized a
 sized a p h = record { w = some_along a.x p.x a.w (and_left _ _ h); h = some_along a.y p.y a.h (and_right _ _ h) }
 
-clipped_has : (a b : Area) (p : Point) → holds a p ≡ true → holds b p ≡ true → part_has (clipped a b) p ≡ true
+-- the common part has the common points
+pub clipped_has : (a b : Area) (p : Point) → holds a p ≡ true → holds b p ≡ true → part_has (clipped a b) p ≡ true
 clipped_has a b p h k = let m : meets a b ≡ true = meets_held a b p h k in
     ap (λ o. part_has o p) (taken (meets a b) (Some (common a b)) None m) ∙ common_held a b p m (sized a p h) (sized b p k) ∙ both_true _ _ h k
 

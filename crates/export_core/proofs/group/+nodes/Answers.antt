@@ -5,6 +5,7 @@ use Rattle.doc_model.specs.Changes.{takes}
 use Rattle.machine_model.specs.Groups.{nodes_in}
 use Rattle.export_core.specs.Pieces.{pile_at, ShowsPile, ShowsLayer, LaysOn}
 use Rattle.export_core.proofs.GroupSteps.{takes_read, next_read, none_read, has_look, passed, laid_given, group_done, layer_shows}
+use Rattle.export_core.proofs.PartPoints.{spot_held, part_key}
 use Rattle.export_core.proofs.NextNodes.{IsNext}
 use Rattle.export_core.proofs.group.+nodes.Goals as goal
 
@@ -27,7 +28,7 @@ add_child-overflow_sub-levels t c =
 pub add_child-node_on-requires : goal.add_child-node_on-requires
 add_child-node_on-requires t c =
     let next : IsNext c.args.store.now.present (nodes_in c.args.group c.args.store.now.present) c.args.place c.in-Some.id c.in-Some-look.look = next_read c.args.store.now.present c.tree-tree.result.now c.args.group c.args.place c.in-Some.id c.in-Some-look.look c.requires.limits c.tree-tree.ensures.value c.in-Some.ensures c.in-Some-look.ensures.value in
-    (omega (arith, c.decreases, next.some, c.requires.low), (c.requires.limits, (next.layer, λ g. omega (arith, next.low g, c.requires.low))))
+    (omega (arith, c.decreases, next.some, c.requires.low), (c.requires.spot, (c.requires.limits, (next.layer, λ g. omega (arith, next.low g, c.requires.low)))))
 
 pub add_child-returns-clause-laid : goal.add_child-returns-clause-laid
 add_child-returns-clause-laid t c =
@@ -37,14 +38,14 @@ add_child-returns-clause-laid t c =
     c.add.ensures.laid
 
 pub group_on-returns : goal.group_on-returns
-group_on-returns t c = IfOk-weaker c.composed.result (ShowsPile c.loop-place.pile) _
-    (λ g s p k. s p ∙ group_done c.args.store.now.present c.tree.result.now c.args.group c.child_count-place-end.result c.loop-place.place c.args.key c.loop-place.pile.looks.items c.loop-place.pile.tiles.items p c.tree.ensures.value c.child_count-place-end.ensures.value (omega arith) c.requires.takes c.loop-place.invariant.1 k)
+group_on-returns t c = IfOk-weaker c.composed.result (ShowsPile c.loop-place.pile c.in_tile.result) _
+    (λ g s p k. s p (spot_held c.args.spot.now c.in_tile.result p c.requires.spot c.in_tile.ensures.value k) ∙ group_done c.args.store.now.present c.tree.result.now c.args.group c.child_count-place-end.result c.loop-place.place c.args.spot.now.part c.loop-place.pile.looks.items c.loop-place.pile.tiles.items p c.tree.ensures.value c.child_count-place-end.ensures.value (omega arith) c.requires.takes c.loop-place.invariant.1 k)
     c.composed.ensures
 
 pub node_on-group_on-requires : goal.node_on-group_on-requires
 node_on-group_on-requires t c =
     let is : takes c.args.id c.args.store.now.present ≡ true = takes_read c.args.store.now.present c.tree.result.now c.args.id true c.is_group.result c.tree.ensures.value c.is_group.ensures c.if-is_group.true in
-    (omega (arith, c.decreases), (c.requires.limits, (is, c.requires.low is)))
+    (omega (arith, c.decreases), (c.requires.spot, (c.requires.limits, (is, c.requires.low is))))
 
 pub node_on-layer_on-requires : goal.node_on-layer_on-requires
 node_on-layer_on-requires t c = c.requires.layer (takes_read c.args.store.now.present c.tree.result.now c.args.id false c.is_group.result c.tree.ensures.value c.is_group.ensures c.if-is_group.false)
@@ -52,4 +53,4 @@ node_on-layer_on-requires t c = c.requires.layer (takes_read c.args.store.now.pr
 pub node_on-returns-else-is_group : goal.node_on-returns-else-is_group
 node_on-returns-else-is_group t c =
     let is : takes c.args.id c.args.store.now.present ≡ false = takes_read c.args.store.now.present c.tree.result.now c.args.id false c.is_group.result c.tree.ensures.value c.is_group.ensures c.if-is_group.false in
-    IfOk-weaker c.layer_on.result (ShowsLayer c.args.store.now.present c.args.id c.args.key) _ (λ g s p k. layer_shows c.args.store.now.present c.args.id p _ is (s p k)) c.layer_on.ensures
+    IfOk-weaker c.layer_on.result (ShowsLayer c.args.store.now.present c.args.id c.args.spot.now.key) _ (λ g s p k. layer_shows c.args.store.now.present c.args.id p _ is (s p (part_key c.args.spot.now p c.requires.spot k))) c.layer_on.ensures

@@ -14,4 +14,4 @@ decreases-node_on l = 3 * l.levels + 2
 
 -- the children so far are laid
 abbrev pub invariant-group_on-loop-place : goal.invariant-group_on-loop-place
-invariant-group_on-loop-place l = (length l.pile.looks.items ≡ length l.pile.tiles.items) × LaidSoFar (nodes_in l.group l.store.present) l.place l.key l.pile.looks.items l.pile.tiles.items
+invariant-group_on-loop-place l = (length l.pile.looks.items ≡ length l.pile.tiles.items) × LaidSoFar (nodes_in l.group l.store.present) l.place l.spot.part l.pile.looks.items l.pile.tiles.items

@@ -14,7 +14,7 @@ returns-in-NoLayer c = λ stroke same jobs.
 pub returns : goal.returns
 returns c = λ stroke same jobs.
     let begun = c.in_ok-begin.ensures.ready (ap Ok c.in-Ready.is) in
-    painted_goes c.args.self.now c.begin.new.self c.paint_jobs.new.store c.finish.new.self c.mark_jobs.new.stale c.args.layer c.args.jobs.now stroke c.requires.rests c.requires.document c.mark_jobs.ensures
+    painted_goes c.args.self.now c.begin.new.self c.paint_jobs.new.store c.finish.new.self c.damage_jobs.new.stale c.args.layer c.args.jobs.now stroke c.requires.rests c.requires.document c.damage_jobs.ensures
     (ap (λ (a : Archive). is_some (content c.args.layer a.present)) (sym c.in_ok-prepare.ensures.ok) ∙ begun.0)
     (begun.1 ∙ ap (λ (a : Archive). record a { way = Some (c.args.layer, set.empty) }) c.in_ok-prepare.ensures.ok)
     c.in_ok-paint_jobs.ensures c.finish.ensures same jobs
