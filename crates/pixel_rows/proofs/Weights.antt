@@ -3,10 +3,11 @@ use Rattle.std.proofs.Common.{◌≡◌, ◌≢◌, ℕ, ◌+◌, ◌-◌, ◌*�
 use Rattle.std.proofs.lemmas.Bool.Decides.{nat_tests}
 use Rattle.std.proofs.lemmas.Nat.{div-mul-add}
 use Rattle.std.proofs.Math.Nat.{div-add-mod, mod-lt}
-use Rattle.pixel_core.specs.declared.blending.Op.TheVariants.{Over}
+use Rattle.pixel_core.specs.declared.blending.Op.{Op}
+use Rattle.pixel_core.specs.declared.blending.Op.TheVariants.{Over, Erase}
 use Rattle.pixel_core.specs.Bytes.{nearest, mul}
 use Rattle.pixel_core.specs.Rgba.{Rgba, if_canonical, rgba, clear}
-use Rattle.pixel_core.specs.Compose.{weight, channel, laid, compose}
+use Rattle.pixel_core.specs.Compose.{weight, channel, laid, compose, blend}
 use Rattle.pixel_core.proofs.Rounding.{whole}
 use Rattle.pixel_core.proofs.Sums.{composed_laid, same_rgba, test_false, test_true, heavy}
 
@@ -97,3 +98,43 @@ pub over_opaque_is : (s d : Rgba) (r g b : ℕ) → s.a ≤ 255 → d.a ≡ 255 
 over_opaque_is s d r g b h o er eg eb =
     over_is s d r g b 255 h (omega (arith, o)) (mean_whole s.a d.a s.r d.r r h o er) (mean_whole s.a d.a s.g d.g g h o eg) (mean_whole s.a d.a s.b d.b b h o eb)
     (rw o (let w : 65025 ≡ 255 * s.a + (255 - s.a) * 255 = omega arith in ap (λ m. nearest m 255) w))
+
+-- the three parts of the weight
+pub shares_are : (sa da : ℕ) → sa ≤ 255 → da ≤ 255 → (255 - da) * sa + (255 - sa) * da + sa * da ≡ weight sa da
+shares_are sa da h k =
+    let e : (255 - da) + da ≡ 255 = omega arith in
+    let p : (255 - da) * sa + da * sa ≡ 255 * sa = (let q : ((255 - da) + da) * sa ≡ 255 * sa = ap (λ n. n * sa) e in omega (arith, q)) in
+    omega (arith, p, weight_is sa da h)
+
+pub weight_cover : (sa da : ℕ) → sa ≤ 255 → da ≤ 255 → 65025 - (255 - sa) * (255 - da) ≡ weight sa da
+weight_cover sa da h k = cover_is sa da h k ∙ weight_is sa da h
+
+pub shares_most : (sa da : ℕ) → sa ≤ 255 → da ≤ 255 → (255 - da) * sa + (255 - sa) * da + sa * da ≤ 65025
+shares_most sa da h k = omega (arith, shares_are sa da h k, weight_is sa da h, parts_most sa da h k)
+
+-- a channel of three parts, where anything covers
+abbrev pub IsThirdMean : ℕ → ℕ → ℕ → ℕ → ℕ → ℕ → Type 0
+IsThirdMean sa da s d f c = 0 < (255 - da) * sa + (255 - sa) * da + sa * da → c ≡ nearest ((255 - sa) * da * d + (255 - da) * sa * s + sa * da * f) ((255 - da) * sa + (255 - sa) * da + sa * da)
+
+third_is : (op : Op) (sa da s d f c : ℕ) → sa ≤ 255 → da ≤ 255 → f ≡ blend op s d → 0 < weight sa da → IsThirdMean sa da s d f c → c ≡ channel op sa da s d
+third_is op sa da s d f c h k e some m =
+    m (omega (arith, shares_are sa da h k))
+    ∙ ap (λ x. nearest ((255 - sa) * da * d + (255 - da) * sa * s + sa * da * x) ((255 - da) * sa + (255 - sa) * da + sa * da)) e
+    ∙ ap (nearest ((255 - sa) * da * d + (255 - da) * sa * s + sa * da * blend op s d)) (shares_are sa da h k)
+
+-- the pixel of these channels is the composed one
+pub blended_is : (op : Op) (s d : Rgba) (r g b a x y z : ℕ) → op ≢ Erase → s.a ≤ 255 → d.a ≤ 255
+    → x ≡ blend op s.r d.r → y ≡ blend op s.g d.g → z ≡ blend op s.b d.b
+    → IsThirdMean s.a d.a s.r d.r x r → IsThirdMean s.a d.a s.g d.g y g → IsThirdMean s.a d.a s.b d.b z b
+    → a ≡ nearest (weight s.a d.a) 255 → if_canonical r g b a ≡ compose op s d 255
+blended_is op s d r g b a x y z o h k ex ey ez er eg eb ea = go (weight s.a d.a == 0) refl ∙ sym (ap (laid op s d) (whole s.a)) ∙ sym (composed_laid op s d 255 o)
+  where
+    go : (t : Bool) → (weight s.a d.a == 0) ≡ t → if_canonical r g b a ≡ (if t then clear else rgba (channel op s.a d.a s.r d.r) (channel op s.a d.a s.g d.g) (channel op s.a d.a s.b d.b) (nearest (weight s.a d.a) 255))
+    go true e =
+        let none : weight s.a d.a ≡ 0 = grind (arith, nat_tests) in
+        rw (test_true a (ea ∙ ap (λ n. nearest n 255) none)) refl
+    go false e =
+        let some : weight s.a d.a ≢ 0 = grind (arith, nat_tests) in
+        let least : 255 ≤ weight s.a d.a = heavy s.a d.a h k some in
+        let pos : 0 < weight s.a d.a = omega arith in
+        rw (test_false a (λ q. omega (arith, ea))) (same_rgba (third_is op s.a d.a s.r d.r x r h k ex pos er) (third_is op s.a d.a s.g d.g y g h k ey pos eg) (third_is op s.a d.a s.b d.b z b h k ez pos eb) ea)

@@ -6,7 +6,8 @@ ghost use Rattle.pixel_core.specs.declared.blending.Op.TheVariants.{Over};
 ghost use Rattle.pixel_core.specs.Compose.{compose as composed};
 ghost use Rattle.pixel_rows.specs.Rows.{CoversWithin, Dims, LaysRow};
 
-use crate::mixing::{over, over_opaque};
+use crate::blends::{Adding, Covering, Erasing, Mix, Multiplying, Screening};
+use crate::mixing::over_opaque;
 use pixel_core::{Op, Pixel, compose, mul};
 
 /// How many pixels a block has.
@@ -34,10 +35,12 @@ pub(crate) fn lay_block(op: Op, sources: &[Pixel], row: &mut [Pixel])
         return;
     }
     match op {
-        Op::Erase => lay_each(op, sources, row),
+        Op::Erase => lay_guessed::<Erasing>(op, sources, row),
         _ if below.most == 0 => row.copy_from_slice(sources),
         Op::Over => lay_over(sources, above, row, below),
-        _ => lay_each(op, sources, row),
+        Op::Multiply => lay_guessed::<Multiplying>(op, sources, row),
+        Op::Screen => lay_guessed::<Screening>(op, sources, row),
+        Op::Addition => lay_guessed::<Adding>(op, sources, row),
     }
 }
 
@@ -78,7 +81,7 @@ fn lay_over(sources: &[Pixel], above: Alphas, row: &mut [Pixel], below: Alphas)
     } else if below.least == 255 {
         lay_on_opaque(sources, row);
     } else {
-        lay_on_any(sources, row);
+        lay_guessed::<Covering>(Op::Over, sources, row);
     }
 }
 
@@ -111,29 +114,30 @@ fn opaque_block(sources: &[Pixel], row: &[Pixel]) -> [Pixel; BLOCK]
 
 /// Guesses all results, and does without guesses where one is missed.
 #[inline]
-fn lay_on_any(sources: &[Pixel], row: &mut [Pixel])
+fn lay_guessed<M: Mix>(op: Op, sources: &[Pixel], row: &mut [Pixel])
+    requires operation { op ≡ M.operation }
     requires sources { length sources.now ≡ 16 }
     requires row { length row.old ≡ 16 }
-    ensures { LaysRow Over (λ k. slice_index_or sources.now k clear) (λ _. 255) row.old row.new }
+    ensures { LaysRow op (λ k. slice_index_or sources.now k clear) (λ _. 255) row.old row.new }
 {
     let mut laid = [Pixel::CLEAR; BLOCK];
-    if guess_block(sources, row, &mut laid) == 0 {
+    if guess_block::<M>(sources, row, &mut laid) == 0 {
         row.copy_from_slice(&laid);
     } else {
-        lay_each(Op::Over, sources, row);
+        lay_each(op, sources, row);
     }
 }
 
 /// What may be the results: they are where 0 comes back.
 #[inline]
-fn guess_block(sources: &[Pixel], row: &[Pixel], laid: &mut [Pixel; BLOCK]) -> u32
+fn guess_block<M: Mix>(sources: &[Pixel], row: &[Pixel], laid: &mut [Pixel; BLOCK]) -> u32
     requires sources { length sources.now ≡ 16 }
     requires row { length row.now ≡ 16 }
-    ensures { result ≡ 0 → (k : ℕ) → k < 16 → slice_index_or laid.new k clear ≡ composed Over (slice_index_or sources.now k clear) (slice_index_or row.now k clear) 255 }
+    ensures { result ≡ 0 → (k : ℕ) → k < 16 → slice_index_or laid.new k clear ≡ composed M.operation (slice_index_or sources.now k clear) (slice_index_or row.now k clear) 255 }
 {
     let mut misses = 0;
     for i in 0..BLOCK {
-        let guess = over(sources[i], row[i]);
+        let guess = M::mix(sources[i], row[i]);
         laid[i] = guess.pixel;
         misses = misses.max(guess.misses);
     }

@@ -1,10 +1,12 @@
 //! Rows of pixels laid on others: what composing pixel by pixel gives, many pixels at a time.
 #![tactic(auto)]
 
+mod blends;
 mod block;
 mod mixing;
 mod quotient;
 mod rows;
+mod shares;
 #[cfg(test)]
 mod tests;
 

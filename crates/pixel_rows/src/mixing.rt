@@ -77,9 +77,9 @@ struct Parts {
 
 /// What may be a channel of the result: it is where `miss` is 0.
 #[derive(Clone, Copy)]
-struct Mixed {
-    colour: u8,
-    miss: u32,
+pub(crate) struct Mixed {
+    pub(crate) colour: u8,
+    pub(crate) miss: u32,
 }
 
 impl Parts {
@@ -118,7 +118,7 @@ impl Parts {
 
 /// `n / 255` to the nearest whole number, by shifts in place of a division.
 #[inline]
-fn nearest_255th(n: u32) -> u8
+pub(crate) fn nearest_255th(n: u32) -> u8
     requires { n ≤ 65025 }
     ensures { result ≡ nearest n 255 }
 {

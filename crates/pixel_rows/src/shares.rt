@@ -1,0 +1,86 @@
+//! One pixel laid on another by an operation that blends their colours where both cover.
+
+ghost use Rattle.std.specs.Prelude.{◌≡◌, ◌≢◌, ◌+◌, ◌*◌, ◌<◌, ◌≤◌, ◌-◌};
+ghost use Rattle.pixel_core.specs.declared.blending.Op.{Op};
+ghost use Rattle.pixel_core.specs.declared.blending.Op.TheVariants.{Erase};
+ghost use Rattle.pixel_core.specs.Bytes.{nearest};
+ghost use Rattle.pixel_core.specs.Compose.{blend, compose as composed, weight};
+
+use crate::mixing::{Guess, Mixed, nearest_255th};
+use crate::quotient::{guess, miss, reciprocal};
+use pixel_core::Pixel;
+
+/// `s` laid on `d` at full strength by an operation of which these are the colours where both cover, if nothing is missed.
+#[inline]
+pub(crate) fn blended(s: Pixel, d: Pixel, r: u8, g: u8, b: u8) -> Guess
+    ensures { (op : Op) → op ≢ Erase → r ≡ blend op s.r d.r → g ≡ blend op s.g d.g → b ≡ blend op s.b d.b → result.misses ≡ 0 → result.pixel ≡ composed op s d 255 }
+{
+    let [sr, sg, sb, sa] = s.bytes();
+    let [dr, dg, db, da] = d.bytes();
+    let shares = Shares::new(sa, da);
+    let r = shares.mixed(sr, dr, r);
+    let g = shares.mixed(sg, dg, g);
+    let b = shares.mixed(sb, db, b);
+    let a = nearest_255th(shares.cover);
+    Guess {
+        pixel: Pixel::new(r.colour, g.colour, b.colour, a),
+        misses: r.miss.max(g.miss).max(b.miss),
+    }
+}
+
+/// The parts of the source's colour alone, of the backdrop's alone and of what both make together.
+#[derive(Clone, Copy)]
+struct Shares {
+    source: u32,
+    backdrop: u32,
+    both: u32,
+    /// Their sum.
+    cover: u32,
+    /// The sum, or 255 where that is 0.
+    sum: u32,
+    reciprocal: u32,
+    ghost all: { cover ≡ source + backdrop + both },
+    ghost small: { source + backdrop + both ≤ 65025 },
+    ghost whole: { 0 < source + backdrop + both → sum ≡ source + backdrop + both },
+    ghost some: { 0 < sum },
+    ghost most: { sum ≤ 65025 },
+    ghost above: { 805306368 ≤ reciprocal },
+    ghost below: { reciprocal < 1073741824 },
+}
+
+impl Shares {
+    /// The parts of a source and a backdrop with these alphas.
+    #[inline]
+    fn new(sa: u8, da: u8) -> Shares
+        ensures source { result.source ≡ (255 - da) * sa }
+        ensures backdrop { result.backdrop ≡ (255 - sa) * da }
+        ensures both { result.both ≡ sa * da }
+        ensures cover { result.cover ≡ weight sa da }
+    {
+        let (sa, da) = (sa as u32, da as u32);
+        let both = sa * da;
+        let cover = 65025 - (255 - sa) * (255 - da);
+        let sum = cover.max(255);
+        Shares {
+            source: (255 - da) * sa,
+            backdrop: (255 - sa) * da,
+            both,
+            cover,
+            sum,
+            reciprocal: reciprocal(sum),
+        }
+    }
+
+    /// The mean of three colours by these weights, to the nearest whole number.
+    #[inline]
+    fn mixed(self, s: u8, d: u8, f: u8) -> Mixed
+        ensures { result.miss ≡ 0 → 0 < self.source + self.backdrop + self.both → result.colour ≡ nearest (self.backdrop * d + self.source * s + self.both * f) (self.source + self.backdrop + self.both) }
+    {
+        let n = self.backdrop * d as u32 + self.source * s as u32 + self.both * f as u32 + self.sum / 2;
+        let colour = guess(n, self.reciprocal);
+        Mixed {
+            colour: colour as u8,
+            miss: miss(n, self.sum, colour),
+        }
+    }
+}
