@@ -51,7 +51,8 @@ struct Alphas {
     most: u8,
 }
 
-/// The least and the greatest alpha of a block.
+/// The least and the greatest alpha of a block. It stays a call, since the compiler then compares
+/// all at a time.
 #[inline(never)]
 fn alphas_of(pixels: &[Pixel]) -> Alphas
     requires { length pixels.now ≡ 16 }

@@ -11,7 +11,7 @@ use crate::quotient::{guess, miss, reciprocal};
 use pixel_core::Pixel;
 
 /// `s` laid on `d` at full strength by an operation of which these are the colours where both cover, if nothing is missed.
-#[inline]
+#[inline(always)]
 pub(crate) fn blended(s: Pixel, d: Pixel, r: u8, g: u8, b: u8) -> Guess
     ensures { (op : Op) → op ≢ Erase → r ≡ blend op s.r d.r → g ≡ blend op s.g d.g → b ≡ blend op s.b d.b → result.misses ≡ 0 → result.pixel ≡ composed op s d 255 }
 {
@@ -72,11 +72,14 @@ impl Shares {
     }
 
     /// The mean of three colours by these weights, to the nearest whole number.
-    #[inline]
+    #[inline(always)]
     fn mixed(self, s: u8, d: u8, f: u8) -> Mixed
         ensures { result.miss ≡ 0 → 0 < self.source + self.backdrop + self.both → result.colour ≡ nearest (self.backdrop * d + self.source * s + self.both * f) (self.source + self.backdrop + self.both) }
     {
-        let n = self.backdrop * d as u32 + self.source * s as u32 + self.both * f as u32 + self.sum / 2;
+        let n = self.backdrop * d as u32
+            + self.source * s as u32
+            + self.both * f as u32
+            + self.sum / 2;
         let colour = guess(n, self.reciprocal);
         Mixed {
             colour: colour as u8,
