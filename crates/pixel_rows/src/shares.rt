@@ -5,6 +5,7 @@ ghost use Rattle.pixel_core.specs.declared.blending.Op.{Op};
 ghost use Rattle.pixel_core.specs.declared.blending.Op.TheVariants.{Erase};
 ghost use Rattle.pixel_core.specs.Bytes.{nearest};
 ghost use Rattle.pixel_core.specs.Compose.{blend, compose as composed, weight};
+ghost use Rattle.pixel_rows.specs.declared.quotient.TheConstants.{LOW_BITS, HIGH_BITS};
 
 use crate::mixing::{Guess, Mixed, nearest_255th};
 use crate::quotient::{guess, miss, reciprocal};
@@ -44,8 +45,8 @@ struct Shares {
     ghost whole: { 0 < source + backdrop + both → sum ≡ source + backdrop + both },
     ghost some: { 0 < sum },
     ghost most: { sum ≤ 65025 },
-    ghost above: { 805306368 ≤ reciprocal },
-    ghost below: { reciprocal < 1073741824 },
+    ghost above: { LOW_BITS ≤ reciprocal },
+    ghost below: { reciprocal < HIGH_BITS },
 }
 
 impl Shares {
