@@ -1,12 +1,12 @@
 -- Floats that are numbers.
-use Rattle.std.proofs.Common.{◌≡◌, ℕ, ◌+◌, ◌-◌, ◌*◌, ◌/◌, ◌%◌, ◌^◌, ◌≤◌, ◌<◌, ◌≢◌, Bool, true, false, not, ◌&&◌, cond, T, zero, suc, eqb, ltb, leb, arith, refl, sym, subst, ℤ, Float}
+use Rattle.std.proofs.Common.{◌≡◌, ℕ, ◌+◌, ◌-◌, ◌*◌, ◌/◌, ◌%◌, ◌^◌, ◌≤◌, ◌<◌, ◌≢◌, Bool, true, false, not, ◌&&◌, cond, T, zero, suc, eqb, ltb, leb, arith, refl, Float}
 use Rattle.std.proofs.lemmas.Bool.Decides.{nat_tests}
 use lib.Dec.{eqb-suc-zero}
 use mathlib.Core.Bool.{beq}
 use native.Mathlib.Nat.{mul-pos}
 use lib.Pow.{pow_pos}
-use lib.Ieee.{nan, inf, fin, Format, binary32, odd, units, round, neg, sum, add, sub, mul, div, is_nan, nan_bits, of_fields, of_bits, prec, low, emax, hid}
-use lib.Ieee.Exact.{HasValue, odd_sign}
+use lib.Ieee.{nan, inf, fin, Format, binary32, odd, units, round, neg, sum, add, sub, mul, div, is_nan, nan_bits, of_fields, of_bits, prec, low, emax}
+use lib.Ieee.Exact.{odd_sign}
 use lib.Ieee.Positive.{positive, positive_of_value, positive-finite}
 use lib.Ieee.Scale.{finite}
 

@@ -5,7 +5,7 @@ use Rattle.std.proofs.lemmas.Nat.{div-mul-add}
 use Rattle.std.proofs.Math.Nat.{div-add-mod, mod-lt}
 use Rattle.pixel_core.specs.declared.blending.Op.{Op}
 use Rattle.pixel_core.specs.declared.blending.Op.TheVariants.{Over, Erase}
-use Rattle.pixel_core.specs.Bytes.{nearest, mul}
+use Rattle.pixel_core.specs.Bytes.{nearest}
 use Rattle.pixel_core.specs.Rgba.{Rgba, if_canonical, rgba, clear}
 use Rattle.pixel_core.specs.Compose.{weight, channel, laid, compose, blend}
 use Rattle.pixel_core.proofs.Rounding.{whole}
@@ -35,13 +35,6 @@ cover_least sa da h k some = go sa refl
     go : (x : ℕ) → x ≡ sa → 255 ≤ 65025 - (255 - sa) * (255 - da)
     go zero e = rw (cover_is sa da h k) (rw (sym e) (let t : 0 < 255 * 0 + (255 - 0) * da = rw (cover_is sa da h k, sym e) at some in omega (arith, t)))
     go (suc x) e = omega (arith, e, cover_is sa da h k)
-
--- a mean of bytes is a byte
-pub mean_most : (u v s d : ℕ) → u + v ≤ 65025 → s ≤ 255 → d ≤ 255 → u * s + v * d ≤ 255 * (u + v)
-mean_most u v s d h p q =
-    let a : u * s ≤ u * 255 = grind arith in
-    let b : v * d ≤ v * 255 = grind arith in
-    omega (arith, a, b)
 
 -- halves added before a division round it
 pub rounds : (n w : ℕ) → 0 < w → (n + w / 2) / w ≡ nearest n w

@@ -1,5 +1,5 @@
 -- Rows of pixels laid on others.
-use Rattle.std.specs.Prelude.{◌≡◌, ℕ, ◌<◌, ◌≤◌, ◌-◌, List, length, slice_index_or}
+use Rattle.std.specs.Prelude.{◌≡◌, ℕ, ◌<◌, ◌≤◌, List, length, slice_index_or}
 use Rattle.pixel_core.specs.declared.blending.Op.{Op}
 use Rattle.pixel_core.specs.Rgba.{Rgba, clear, IsCanonical}
 use Rattle.pixel_core.specs.Compose.{compose}

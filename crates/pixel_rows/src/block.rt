@@ -25,8 +25,8 @@ pub(crate) fn dimmed(s: Pixel, strength: u8) -> Pixel
 /// Lays each source at full strength on the pixel at its place, with as little work as the alphas allow.
 #[inline]
 pub(crate) fn lay_block(op: Op, sources: &[Pixel], row: &mut [Pixel])
-    requires sources { length sources.now ≡ 16 }
-    requires row { length row.old ≡ 16 }
+    requires sources { length sources.now ≡ BLOCK }
+    requires row { length row.old ≡ BLOCK }
     ensures { LaysRow op (λ k. slice_index_or sources.now k clear) (λ _. 255) row.old row.new }
 {
     let above = alphas_of(sources);
@@ -51,11 +51,12 @@ struct Alphas {
     most: u8,
 }
 
-/// The least and the greatest alpha of a block.
+/// The least and the greatest alpha of a block. It stays a call, since the compiler then compares
+/// all at a time.
 #[inline(never)]
 fn alphas_of(pixels: &[Pixel]) -> Alphas
-    requires { length pixels.now ≡ 16 }
-    ensures { (k : ℕ) → k < 16 → CoversWithin result.least result.most (slice_index_or pixels.now k clear) }
+    requires { length pixels.now ≡ BLOCK }
+    ensures { (k : ℕ) → k < BLOCK → CoversWithin result.least result.most (slice_index_or pixels.now k clear) }
 {
     let mut least = 255;
     let mut most = 0;
@@ -70,10 +71,10 @@ fn alphas_of(pixels: &[Pixel]) -> Alphas
 /// The same for `Op::Over`, by what is known of the alphas.
 #[inline]
 fn lay_over(sources: &[Pixel], above: Alphas, row: &mut [Pixel], below: Alphas)
-    requires sources { length sources.now ≡ 16 }
-    requires row { length row.old ≡ 16 }
-    requires above { (k : ℕ) → k < 16 → CoversWithin above.least above.most (slice_index_or sources.now k clear) }
-    requires below { (k : ℕ) → k < 16 → CoversWithin below.least below.most (slice_index_or row.old k clear) }
+    requires sources { length sources.now ≡ BLOCK }
+    requires row { length row.old ≡ BLOCK }
+    requires above { (k : ℕ) → k < BLOCK → CoversWithin above.least above.most (slice_index_or sources.now k clear) }
+    requires below { (k : ℕ) → k < BLOCK → CoversWithin below.least below.most (slice_index_or row.old k clear) }
     ensures { LaysRow Over (λ k. slice_index_or sources.now k clear) (λ _. 255) row.old row.new }
 {
     if above.least == 255 {
@@ -88,9 +89,9 @@ fn lay_over(sources: &[Pixel], above: Alphas, row: &mut [Pixel], below: Alphas)
 /// The same over opaque pixels alone.
 #[inline]
 fn lay_on_opaque(sources: &[Pixel], row: &mut [Pixel])
-    requires sources { length sources.now ≡ 16 }
-    requires row { length row.old ≡ 16 }
-    requires opaque { (k : ℕ) → k < 16 → CoversWithin 255 255 (slice_index_or row.old k clear) }
+    requires sources { length sources.now ≡ BLOCK }
+    requires row { length row.old ≡ BLOCK }
+    requires opaque { (k : ℕ) → k < BLOCK → CoversWithin 255 255 (slice_index_or row.old k clear) }
     ensures { LaysRow Over (λ k. slice_index_or sources.now k clear) (λ _. 255) row.old row.new }
 {
     let laid = opaque_block(sources, row);
@@ -100,10 +101,10 @@ fn lay_on_opaque(sources: &[Pixel], row: &mut [Pixel])
 /// The sources laid over opaque pixels.
 #[inline]
 fn opaque_block(sources: &[Pixel], row: &[Pixel]) -> [Pixel; BLOCK]
-    requires sources { length sources.now ≡ 16 }
-    requires row { length row.now ≡ 16 }
-    requires opaque { (k : ℕ) → k < 16 → CoversWithin 255 255 (slice_index_or row.now k clear) }
-    ensures { (k : ℕ) → k < 16 → slice_index_or result k clear ≡ composed Over (slice_index_or sources.now k clear) (slice_index_or row.now k clear) 255 }
+    requires sources { length sources.now ≡ BLOCK }
+    requires row { length row.now ≡ BLOCK }
+    requires opaque { (k : ℕ) → k < BLOCK → CoversWithin 255 255 (slice_index_or row.now k clear) }
+    ensures { (k : ℕ) → k < BLOCK → slice_index_or result k clear ≡ composed Over (slice_index_or sources.now k clear) (slice_index_or row.now k clear) 255 }
 {
     let mut laid = [Pixel::CLEAR; BLOCK];
     for i in 0..BLOCK {
@@ -116,8 +117,8 @@ fn opaque_block(sources: &[Pixel], row: &[Pixel]) -> [Pixel; BLOCK]
 #[inline]
 fn lay_guessed<M: Mix>(op: Op, sources: &[Pixel], row: &mut [Pixel])
     requires operation { op ≡ M.operation }
-    requires sources { length sources.now ≡ 16 }
-    requires row { length row.old ≡ 16 }
+    requires sources { length sources.now ≡ BLOCK }
+    requires row { length row.old ≡ BLOCK }
     ensures { LaysRow op (λ k. slice_index_or sources.now k clear) (λ _. 255) row.old row.new }
 {
     let mut laid = [Pixel::CLEAR; BLOCK];
@@ -131,9 +132,9 @@ fn lay_guessed<M: Mix>(op: Op, sources: &[Pixel], row: &mut [Pixel])
 /// What may be the results: they are where 0 comes back.
 #[inline]
 fn guess_block<M: Mix>(sources: &[Pixel], row: &[Pixel], laid: &mut [Pixel; BLOCK]) -> u32
-    requires sources { length sources.now ≡ 16 }
-    requires row { length row.now ≡ 16 }
-    ensures { result ≡ 0 → (k : ℕ) → k < 16 → slice_index_or laid.new k clear ≡ composed M.operation (slice_index_or sources.now k clear) (slice_index_or row.now k clear) 255 }
+    requires sources { length sources.now ≡ BLOCK }
+    requires row { length row.now ≡ BLOCK }
+    ensures { result ≡ 0 → (k : ℕ) → k < BLOCK → slice_index_or laid.new k clear ≡ composed M.operation (slice_index_or sources.now k clear) (slice_index_or row.now k clear) 255 }
 {
     let mut misses = 0;
     for i in 0..BLOCK {
@@ -146,8 +147,8 @@ fn guess_block<M: Mix>(sources: &[Pixel], row: &[Pixel], laid: &mut [Pixel; BLOC
 
 /// Lays each source by itself.
 fn lay_each(op: Op, sources: &[Pixel], row: &mut [Pixel])
-    requires sources { length sources.now ≡ 16 }
-    requires row { length row.old ≡ 16 }
+    requires sources { length sources.now ≡ BLOCK }
+    requires row { length row.old ≡ BLOCK }
     ensures { LaysRow op (λ k. slice_index_or sources.now k clear) (λ _. 255) row.old row.new }
 {
     for i in 0..BLOCK {

@@ -4,6 +4,7 @@ ghost use Rattle.std.specs.Prelude.{◌≡◌, ◌+◌, ◌*◌, ◌<◌, ◌≤
 ghost use Rattle.pixel_core.specs.declared.blending.Op.TheVariants.{Over};
 ghost use Rattle.pixel_core.specs.Bytes.{nearest};
 ghost use Rattle.pixel_core.specs.Compose.{compose as composed};
+ghost use Rattle.pixel_rows.specs.declared.quotient.TheConstants.{LOW_BITS, HIGH_BITS};
 
 use crate::quotient::{guess, miss, reciprocal};
 use pixel_core::Pixel;
@@ -71,8 +72,8 @@ struct Parts {
     ghost whole: { 0 < source + backdrop → sum ≡ source + backdrop },
     ghost some: { 0 < sum },
     ghost most: { sum ≤ 65025 },
-    ghost above: { 805306368 ≤ reciprocal },
-    ghost below: { reciprocal < 1073741824 },
+    ghost above: { LOW_BITS ≤ reciprocal },
+    ghost below: { reciprocal < HIGH_BITS },
 }
 
 /// What may be a channel of the result: it is where `miss` is 0.

@@ -2,25 +2,31 @@
 
 ghost use Rattle.std.specs.Prelude.{◌≡◌, ◌<◌, ◌≤◌, ◌/◌, ◌^◌};
 
+/// The bits of 2^-31 as an `f32`: each reciprocal is greater.
+pub(crate) const LOW_BITS: u32 = 0x3000_0000;
+
+/// The bits of 2 as an `f32`: each reciprocal is less.
+pub(crate) const HIGH_BITS: u32 = 0x4000_0000;
+
 /// The bits of an `f32` a little above 2 / `w`, so that a quotient that is whole isn't guessed too
 /// small. How near it is decides speed alone: nothing is promised but that it is a plain number
 /// above 0.
 #[inline]
 pub(crate) fn reciprocal(w: u32) -> u32
     requires { w < 2 ^ 23 }
-    ensures least { 805306368 ≤ result }
-    ensures most { result < 1073741824 }
+    ensures least { LOW_BITS ≤ result }
+    ensures most { result < HIGH_BITS }
 {
     let close = 2.000_000_2 / (f32::from_bits(0x4b00_0000 + w) - 8_388_608.0);
-    0x3000_0000 + (close.to_bits() & 0x0fff_ffff)
+    LOW_BITS + (close.to_bits() & 0x0fff_ffff)
 }
 
 /// A number near `n / w`, by the reciprocal of `w`. Nothing is promised but that it is a byte.
 #[inline]
 pub(crate) fn guess(n: u32, reciprocal: u32) -> u32
     requires small { n < 2 ^ 24 }
-    requires least { 805306368 ≤ reciprocal }
-    requires most { reciprocal < 1073741824 }
+    requires least { LOW_BITS ≤ reciprocal }
+    requires most { reciprocal < HIGH_BITS }
     ensures { result < 256 }
 {
     let half = f32::from_bits(0x4b00_0000 + n / 2) - 8_388_608.0;

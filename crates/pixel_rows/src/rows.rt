@@ -24,8 +24,8 @@ pub fn lay_sources(op: Op, sources: &[Pixel], opacity: u8, backdrop: &mut [Pixel
 /// The sources of the `i`th block.
 #[inline]
 fn dimmed_block(sources: &[Pixel], opacity: u8, i: usize) -> [Pixel; BLOCK]
-    requires { 16 * i + 16 ≤ length sources.now }
-    ensures { (k : ℕ) → k < 16 → Dims (slice_index_or result k clear) (slice_index_or sources.now (16 * i + k) clear) opacity }
+    requires { BLOCK * i + BLOCK ≤ length sources.now }
+    ensures { (k : ℕ) → k < BLOCK → Dims (slice_index_or result k clear) (slice_index_or sources.now (BLOCK * i + k) clear) opacity }
 {
     let at = BLOCK * i;
     let mut block = [Pixel::CLEAR; BLOCK];
@@ -39,7 +39,7 @@ fn dimmed_block(sources: &[Pixel], opacity: u8, i: usize) -> [Pixel; BLOCK]
 /// Dims each source.
 #[inline]
 fn dim(block: &mut [Pixel; BLOCK], opacity: u8)
-    ensures { (k : ℕ) → k < 16 → Dims (slice_index_or block.new k clear) (slice_index_or block.old k clear) opacity }
+    ensures { (k : ℕ) → k < BLOCK → Dims (slice_index_or block.new k clear) (slice_index_or block.old k clear) opacity }
 {
     for k in 0..BLOCK {
         block[k] = dimmed(block[k], opacity);
@@ -97,8 +97,8 @@ pub fn lay_masked(op: Op, colour: Pixel, mask: &[u8], backdrop: &mut [Pixel])
 /// The colour with the strengths of the `i`th block.
 #[inline]
 fn masked_block(colour: Pixel, mask: &[u8], i: usize) -> [Pixel; BLOCK]
-    requires { 16 * i + 16 ≤ length mask.now }
-    ensures { (k : ℕ) → k < 16 → Dims (slice_index_or result k clear) colour (slice_index_or mask.now (16 * i + k) 0) }
+    requires { BLOCK * i + BLOCK ≤ length mask.now }
+    ensures { (k : ℕ) → k < BLOCK → Dims (slice_index_or result k clear) colour (slice_index_or mask.now (BLOCK * i + k) 0) }
 {
     let mut block = [Pixel::CLEAR; BLOCK];
     for k in 0..BLOCK {

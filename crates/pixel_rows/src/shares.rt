@@ -5,13 +5,14 @@ ghost use Rattle.pixel_core.specs.declared.blending.Op.{Op};
 ghost use Rattle.pixel_core.specs.declared.blending.Op.TheVariants.{Erase};
 ghost use Rattle.pixel_core.specs.Bytes.{nearest};
 ghost use Rattle.pixel_core.specs.Compose.{blend, compose as composed, weight};
+ghost use Rattle.pixel_rows.specs.declared.quotient.TheConstants.{LOW_BITS, HIGH_BITS};
 
 use crate::mixing::{Guess, Mixed, nearest_255th};
 use crate::quotient::{guess, miss, reciprocal};
 use pixel_core::Pixel;
 
 /// `s` laid on `d` at full strength by an operation of which these are the colours where both cover, if nothing is missed.
-#[inline]
+#[inline(always)]
 pub(crate) fn blended(s: Pixel, d: Pixel, r: u8, g: u8, b: u8) -> Guess
     ensures { (op : Op) → op ≢ Erase → r ≡ blend op s.r d.r → g ≡ blend op s.g d.g → b ≡ blend op s.b d.b → result.misses ≡ 0 → result.pixel ≡ composed op s d 255 }
 {
@@ -44,8 +45,8 @@ struct Shares {
     ghost whole: { 0 < source + backdrop + both → sum ≡ source + backdrop + both },
     ghost some: { 0 < sum },
     ghost most: { sum ≤ 65025 },
-    ghost above: { 805306368 ≤ reciprocal },
-    ghost below: { reciprocal < 1073741824 },
+    ghost above: { LOW_BITS ≤ reciprocal },
+    ghost below: { reciprocal < HIGH_BITS },
 }
 
 impl Shares {
@@ -72,11 +73,14 @@ impl Shares {
     }
 
     /// The mean of three colours by these weights, to the nearest whole number.
-    #[inline]
+    #[inline(always)]
     fn mixed(self, s: u8, d: u8, f: u8) -> Mixed
         ensures { result.miss ≡ 0 → 0 < self.source + self.backdrop + self.both → result.colour ≡ nearest (self.backdrop * d + self.source * s + self.both * f) (self.source + self.backdrop + self.both) }
     {
-        let n = self.backdrop * d as u32 + self.source * s as u32 + self.both * f as u32 + self.sum / 2;
+        let n = self.backdrop * d as u32
+            + self.source * s as u32
+            + self.both * f as u32
+            + self.sum / 2;
         let colour = guess(n, self.reciprocal);
         Mixed {
             colour: colour as u8,

@@ -8,13 +8,7 @@ const LONGEST: usize = 100;
 
 const LENGTHS: [usize; 7] = [0, 1, 15, 16, 17, 64, 100];
 
-const OPS: [Op; 5] = [
-    Op::Over,
-    Op::Erase,
-    Op::Multiply,
-    Op::Screen,
-    Op::Addition,
-];
+const OPS: [Op; 5] = [Op::Over, Op::Erase, Op::Multiply, Op::Screen, Op::Addition];
 
 /// What pixels a row has.
 #[derive(Clone, Copy)]
@@ -74,7 +68,14 @@ fn mask_of(seed: u32) -> [u8; LONGEST] {
 }
 
 /// How many of the first pixels aren't the sources composed with the old ones.
-fn wrong_of(op: Op, sources: &[Pixel; LONGEST], strengths: &[u8; LONGEST], old: &[Pixel; LONGEST], new: &[Pixel; LONGEST], len: usize) -> u32 {
+fn wrong_of(
+    op: Op,
+    sources: &[Pixel; LONGEST],
+    strengths: &[u8; LONGEST],
+    old: &[Pixel; LONGEST],
+    new: &[Pixel; LONGEST],
+    len: usize,
+) -> u32 {
     let mut wrong = 0u32;
     for i in 0..LONGEST {
         let expected = if i < len {
@@ -97,7 +98,14 @@ fn wrongs(op: Op, above: Kind, below: Kind, len: usize, strength: u8) -> u32 {
     let by_sources = wrong_of(op, &sources, &[strength; LONGEST], &old, &laid, len);
     let mut laid = old;
     lay_colour(op, colour, strength, &mut laid[..len]);
-    let by_colour = wrong_of(op, &[colour; LONGEST], &[strength; LONGEST], &old, &laid, len);
+    let by_colour = wrong_of(
+        op,
+        &[colour; LONGEST],
+        &[strength; LONGEST],
+        &old,
+        &laid,
+        len,
+    );
     let mut laid = old;
     lay_masked(op, colour, &mask[..len], &mut laid[..len]);
     let by_mask = wrong_of(op, &[colour; LONGEST], &mask, &old, &laid, len);

@@ -1,4 +1,4 @@
-use Rattle.std.proofs.Common.{◌∙◌, ap, arith}
+use Rattle.std.proofs.Common.{◌∙◌, arith}
 use Rattle.pixel_rows.proofs.Weights.{over_is}
 use Rattle.pixel_rows.proofs.mixing.over.Goals as goal
 

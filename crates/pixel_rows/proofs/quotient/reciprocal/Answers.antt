@@ -1,4 +1,4 @@
-use Rattle.std.proofs.Common.{arith, ◌+◌, ◌/◌}
+use Rattle.std.proofs.Common.{arith, ◌+◌}
 use lib.Ieee.{binary32}
 use Rattle.pixel_rows.proofs.Floats.{bits_number, bits_positive, sub_number, div_number, bits_finite}
 use Rattle.pixel_rows.proofs.quotient.reciprocal.Goals as goal

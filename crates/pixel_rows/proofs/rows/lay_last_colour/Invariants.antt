@@ -1,5 +1,3 @@
-use Rattle.std.proofs.Common.{get_or}
-use Rattle.pixel_core.specs.Rgba.{clear}
 use Rattle.pixel_rows.specs.Rows.{LaysPart}
 use Rattle.pixel_rows.proofs.rows.lay_last_colour.Given as goal
 

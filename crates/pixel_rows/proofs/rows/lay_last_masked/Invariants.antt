@@ -1,5 +1,4 @@
 use Rattle.std.proofs.Common.{get_or}
-use Rattle.pixel_core.specs.Rgba.{clear}
 use Rattle.pixel_rows.specs.Rows.{LaysPart}
 use Rattle.pixel_rows.proofs.rows.lay_last_masked.Given as goal
 
