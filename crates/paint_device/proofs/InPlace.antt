@@ -1,5 +1,5 @@
 -- Blocks that are laid on tiles where these stand.
-use Rattle.std.proofs.Common.{◌≡◌, Bool, true, false, cond, Option, Some, None, IsSome, refl, sym, ap, ◌∙◌, subst}
+use Rattle.std.proofs.Common.{◌≡◌, Bool, true, false, cond, Option, Some, None, refl, sym, ap, ◌∙◌, subst}
 use Rattle.std.specs.Option.{unwrap_or}
 use Rattle.std.specs.FinMap as map
 use Rattle.std.specs.BTreeMap as tree
@@ -12,9 +12,8 @@ use Rattle.tile_core.specs.Pixels.{Pixels}
 use Rattle.tile_core.specs.Maps.{PutsUnder}
 use Rattle.tile_core.specs.Blocks.{Piece, IsPiece, LaysBlock}
 use Rattle.paint_device.proofs.Kept.{tile-view, put-view, put_kept, same_kept}
-use Rattle.paint_device.proofs.Copies.{same_view}
 use Rattle.paint_device.proofs.Writes.{writes_block_as}
-use Rattle.paint_device.specs.InPlace.{LaidAlone, LaidUnder}
+use Rattle.paint_device.specs.InPlace.{LaidUnder}
 use Rattle.paint_device.specs.Sheets.{IsSheet, sheet, tile_or, WritesBlock}
 
 -- what is put is what stood there

@@ -13,7 +13,7 @@ use Rattle.memento_core.specs.Planes.{tile_under}
 use Rattle.tile_core.specs.Pixels.{Pixels}
 use Rattle.tile_core.specs.Maps.{PutsUnder}
 use Rattle.tile_core.proofs.MapViews.{get-view, view-put}
-use Rattle.paint_device.proofs.Copies.{same_view}
+use Rattle.paint_device.proofs.SameMaps.{same_view}
 use Rattle.paint_device.specs.Sheets.{Sheet, IsSheet, sheet, with_under}
 
 pub tile-view : (m : BTreeMap Key (Option Pixels)) (k : Key) → unwrap_or (tree.get key_cmp m k) None ≡ tile_under (map.from_entries {R = key_cmp} m.entries) k

@@ -3,5 +3,5 @@ pub mod Writes
 pub mod Shown
 pub mod Grabbed
 pub mod Extents
-pub mod Copies
 pub mod InPlace
+pub mod SameMaps

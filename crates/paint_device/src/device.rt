@@ -97,12 +97,12 @@ impl Device {
     }
 
     /// A device of the same value. Its tiles are shared, not copied.
-    pub fn share(&self, alloc: Global) -> Result<Device, NoMemory>
+    pub fn share(&self, _alloc: Global) -> Result<Device, NoMemory>
         ensures { IfOk result (λ d. d ≡ self.now) }
     {
         Ok(Device {
             ground: self.ground,
-            tiles: shared(alloc, &self.tiles)?,
+            tiles: shared(&self.tiles)?,
         })
     }
 }

@@ -12,7 +12,6 @@ ghost use Rattle.paint_device.specs.InPlace.{LaidAlone, LaidUnder};
 ghost use Rattle.paint_device.specs.Extents.{IsExtent, lies_if, tile_lies};
 
 use geom_core::{NoMemory, Rect, TileKey};
-use std::alloc::Global;
 use std::collections::BTreeMap;
 use std::mem;
 use tile_core::{Block, Tile};
@@ -81,25 +80,11 @@ pub fn tile_in(tiles: &BTreeMap<TileKey, Option<Tile>>, key: TileKey) -> Option<
 
 /// A map of the same keys, each with the same tile or None. The tiles are shared, not copied.
 pub fn shared(
-    alloc: Global,
     tiles: &BTreeMap<TileKey, Option<Tile>>,
 ) -> Result<BTreeMap<TileKey, Option<Tile>>, NoMemory>
     ensures { IfOk result (λ m. (q : Key) → tree.get key_cmp m q ≡ tree.get key_cmp tiles.now q) }
 {
-    let mut copy = BTreeMap::new(alloc);
-    for (key, tile) in tiles {
-        put_under(&mut copy, *key, share_tile(tile)?)?;
-    }
-    Ok(copy)
-}
-
-fn share_tile(tile: &Option<Tile>) -> Result<Option<Tile>, NoMemory>
-    ensures { IfOk result (λ t. t ≡ tile.now) }
-{
-    match tile {
-        Some(tile) => Ok(Some(tile.share()?)),
-        None => Ok(None),
-    }
+    Ok(tiles.clone()?)
 }
 
 /// The least rectangle round all tiles. None exactly where there are none.

@@ -13,7 +13,7 @@ use crate::Block;
 use crate::rows::{Part, has_laid, lay_part, part_of, same_part, with_part};
 use geom_core::{NoMemory, Rect, TileKey};
 use pixel_core::Pixel;
-use std::alloc::Global;
+use std::alloc::{AllocError, Global};
 use std::marker::Model;
 use std::sync::Arc;
 
@@ -34,6 +34,17 @@ impl Model for Tile {
     ghost view = { λ t. t.pixels.value.items };
 
     ghost invariant = { λ t. length t.pixels.value.items ≡ 4096 };
+}
+
+impl Clone for Tile {
+    ghost is_clone = { λ a b. b ≡ a };
+
+    /// One more reference to the same pixels. It fails only where the count of references is full.
+    fn clone(&self) -> Result<Tile, AllocError> {
+        Ok(Tile {
+            pixels: Arc::try_clone(&self.pixels)?,
+        })
+    }
 }
 
 impl Tile {
@@ -90,9 +101,7 @@ impl Tile {
     pub fn share(&self) -> Result<Tile, NoMemory>
         ensures { IfOk result (λ t. t ≡ self.now) }
     {
-        Ok(Tile {
-            pixels: Arc::try_clone(&self.pixels)?,
-        })
+        Ok(self.clone()?)
     }
 
     /// A new tile with the block's pixels on the block's rectangle and this tile's elsewhere.

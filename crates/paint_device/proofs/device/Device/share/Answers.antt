@@ -1,6 +1,6 @@
 use Rattle.std.proofs.Common.{ap, ◌∙◌}
 use Rattle.paint_device.specs.Sheets.{sheet}
-use Rattle.paint_device.proofs.Copies.{same_view}
+use Rattle.paint_device.proofs.SameMaps.{same_view}
 use Rattle.paint_device.proofs.Kept.{same_kept}
 use Rattle.paint_device.proofs.device.Device.share.Goals as goal
 

@@ -1,7 +1,6 @@
 use Rattle.std.proofs.Common.{ap, ◌∙◌}
-use Rattle.std.specs.FinMap as map
-use Rattle.paint_device.specs.Sheets.{sheet, WritesBlock}
-use Rattle.paint_device.proofs.Copies.{same_view}
+use Rattle.paint_device.specs.Sheets.{sheet}
+use Rattle.paint_device.proofs.SameMaps.{same_view}
 use Rattle.paint_device.proofs.InPlace.{laid_writes, laid_kept}
 use Rattle.paint_device.proofs.device.Device.write_alone.Goals as goal
 
