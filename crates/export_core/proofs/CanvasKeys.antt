@@ -1,12 +1,11 @@
 -- The points of a canvas, and their tiles.
-use Rattle.std.proofs.Common.{◌≡◌, ℕ, ◌+◌, ◌*◌, ◌/◌, ◌<◌, ◌&&◌, Bool, true, false, cond, Some, None, is_some, slice_index_or, replicate, nat_lt, refl, ap, ◌∙◌, arith}
+use Rattle.std.proofs.Common.{◌≡◌, ℕ, ◌+◌, ◌*◌, ◌/◌, ◌<◌, ◌&&◌, Bool, true, false, Some, None, is_some, nat_lt, ap, arith}
 use Rattle.std.specs.Prelude.{ℤ, pos, negsuc, ◌+ℤ◌, int_le, int_lt}
 use Rattle.std.proofs.lemmas.Bool.Decides.{nat_tests}
-use Rattle.std.proofs.lemmas.List.{get_or-replicate}
 use borrow.Author.Differences.{ints}
 use Rattle.geom_core.specs.Points.{Point, point}
 use Rattle.geom_core.specs.Areas.{holds}
-use Rattle.geom_core.specs.Grid.{Key, key_of}
+use Rattle.geom_core.specs.Grid.{key_of}
 use Rattle.geom_core.proofs.Tests.{taken, both_true, and_left, and_right}
 use Rattle.tile_core.specs.Marks.{on_canvas}
 use Rattle.doc_model.specs.declared.canvas.Canvas.{Canvas}

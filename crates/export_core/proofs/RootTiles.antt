@@ -16,7 +16,7 @@ use Rattle.geom_core.proofs.Tests.{taken, kept, true_or_false, none_left, none_r
 use Rattle.geom_core.proofs.Keys.{key_of_held}
 use Rattle.geom_core.proofs.Tiles.{key_same, key_is}
 use Rattle.geom_core.proofs.Axes.{tiles_met}
-use Rattle.tile_core.specs.Pixels.{Pixels, pixel_at, pixel_or}
+use Rattle.tile_core.specs.Pixels.{Pixels, pixel_at}
 use Rattle.tile_core.specs.Frames.{Scene, scene, put_at, colours_at, with_put}
 use Rattle.tile_core.specs.Marks.{Grid, has_mark}
 use Rattle.tile_core.specs.Damage.{Parts, part_at, is_damaged}

@@ -7,8 +7,8 @@ use Rattle.pixel_core.specs.Rgba.{Rgba, clear}
 use Rattle.geom_core.specs.Points.{Point, point}
 use Rattle.geom_core.specs.Grid.{Key, key_cmp, key_of, tile}
 use Rattle.tile_core.specs.Marks.{on_canvas}
-use Rattle.tile_core.specs.Damage.{Parts, part_at, is_damaged}
-use Rattle.tile_core.proofs.DamagedPoints.{all_damaged}
+use Rattle.tile_core.specs.Damage.{Parts, part_at, is_damaged, intact}
+use Rattle.tile_core.proofs.DamagedPoints.{all_damaged, intact_at}
 use Rattle.tile_core.specs.Frames.{Scene}
 use Rattle.doc_model.specs.declared.canvas.Canvas.{Canvas}
 use Rattle.doc_model.specs.Canvases.{IsOfLimits}
@@ -68,4 +68,13 @@ all_stale g doc canvas f limits all w h paper = record {
   height = h;
   paper = paper;
   looks = λ x y i j m. absurd (let t : is_damaged g (point (pos x) (pos y)) ≡ true = all_damaged g all (point (pos x) (pos y)) (canvas_key x y (omega (arith, i, limits.w.1)) (omega (arith, j, limits.h.1))) in cc);
+}
+
+-- a frame that shows the document everywhere does so where not all counts
+pub shows_anyway : (g : Parts) (doc : Doc) (canvas : Canvas) (f : Scene) → ShowsElsewhere intact doc canvas f → ShowsElsewhere g doc canvas f
+shows_anyway g doc canvas f shows = record {
+  width = shows.width;
+  height = shows.height;
+  paper = shows.paper;
+  looks = λ x y h k _. shows.looks x y h k (intact_at (point (pos x) (pos y)));
 }

@@ -124,12 +124,7 @@ fn root_on(alloc: Global, store: &Store, spot: &Spot) -> Result<Given, NoMemory>
 }
 
 /// Puts what is given at the points of a tile into the frame.
-fn put_given(
-    alloc: Global,
-    key: TileKey,
-    given: &Given,
-    frame: &mut Frame,
-) -> Result<(), NoMemory>
+fn put_given(alloc: Global, key: TileKey, given: &Given, frame: &mut Frame) -> Result<(), NoMemory>
     requires { map.get frame.old.tiles key ≡ None }
     ensures { OnOk result (PutsOn key (LooksOn (given_on given.now) key) frame.old frame.new) }
 {

@@ -94,12 +94,7 @@ fn shared(given: &Given) -> Result<Given, NoMemory>
 }
 
 /// A tile of the children on the part, laid from the bottom.
-fn laid(
-    alloc: Global,
-    looks: &[Look],
-    tiles: &[Given],
-    part: &Rect,
-) -> Result<Given, NoMemory>
+fn laid(alloc: Global, looks: &[Look], tiles: &[Given], part: &Rect) -> Result<Given, NoMemory>
     requires paired { length looks.now ≡ length tiles.now }
     requires inside { IsWithin part.now whole_tile }
     ensures { IfOk result (ShowsChildren looks.now tiles.now part.now) }

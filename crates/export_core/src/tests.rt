@@ -6,7 +6,7 @@ ghost use Rattle.doc_model.specs.Canvases.{IsOfLimits};
 use super::*;
 use desk_steps::Store;
 use doc_model::{Canvas, Change};
-use geom_core::NoMemory;
+use geom_core::{NoMemory, Rect};
 use pixel_core::Pixel;
 use std::alloc::Global;
 use std::test::Fail;
@@ -28,15 +28,21 @@ fn add_red(store: &mut Store, alloc: Global) -> bool
     }
 }
 
-/// A frame from nothing, and then one after it.
-fn second_frame(alloc: Global, store: &Store, canvas: &Canvas) -> Result<Frame, NoMemory>
+/// A frame from nothing, and then one after it where only the rectangle is damaged.
+fn second_frame(
+    alloc: Global,
+    store: &Store,
+    canvas: &Canvas,
+    damaged: &Rect,
+) -> Result<Frame, NoMemory>
     requires { IsOfLimits canvas.now }
     ensures width { IfOk result (λ f. f.width ≡ canvas.now.w) }
     ensures height { IfOk result (λ f. f.height ≡ canvas.now.h) }
 {
     let first = frame_of(alloc, store, *canvas)?;
-    let undamaged = Damage::none();
-    frame_after(alloc, store, *canvas, &first, &undamaged)
+    let mut stale = Damage::none();
+    stale.add(damaged);
+    frame_after(alloc, store, *canvas, &first, &stale)
 }
 
 #[test]
@@ -48,10 +54,13 @@ fn frames_one_after_another(rt: HostRuntime) -> Result<(), Fail> {
         paper: Pixel::new(255, 255, 255, 255),
     };
     let mut store = Store::new(alloc)?;
-    let paper = second_frame(alloc, &store, &canvas)?;
+    let part = Rect::new(60, 60, 35, 8).expect(&rt, "a rectangle of the world");
+    let paper = second_frame(alloc, &store, &canvas, &part)?;
+    assert_eq!(rt; paper.at(60, 60), [255, 255, 255]);
     assert_eq!(rt; paper.at(99, 69), [255, 255, 255]);
     assert!(rt; add_red(&mut store, alloc));
-    let red = second_frame(alloc, &store, &canvas)?;
+    let red = second_frame(alloc, &store, &canvas, &part)?;
+    assert_eq!(rt; red.at(60, 60), [255, 0, 0]);
     assert_eq!(rt; red.at(99, 69), [255, 0, 0]);
     Ok(())
 }

@@ -1,5 +1,5 @@
 -- Damaged parts of tiles, before and after a rectangle is added.
-use Rattle.std.proofs.Common.{◌≡◌, ℕ, ◌+◌, ◌*◌, ◌≤◌, ◌<◌, Bool, true, false, ◌&&◌, ◌||◌, cond, List, length, take, Option, Some, None, is_some, IfSome, refl, ap, sym, ◌∙◌, arith, set, get_or, ltb, replicate, ◌≢◌, ◌⊎◌, inl, inr, subst}
+use Rattle.std.proofs.Common.{◌≡◌, ℕ, ◌+◌, ◌≤◌, ◌<◌, Bool, true, false, ◌&&◌, ◌||◌, cond, List, length, take, Option, Some, None, is_some, refl, ap, sym, ◌∙◌, arith, set, get_or, ltb, replicate, ◌⊎◌, inl, inr, subst}
 use Rattle.std.specs.Prelude.{ℤ, pos, negsuc, ◌+ℤ◌, ◌-ℤ◌, ◌*ℤ◌, int_le, int_lt, ◌≤ℤ◌, ◌<ℤ◌, nat_abs, slice_get}
 use Rattle.std.specs.Int.{int_max, int_min}
 use Rattle.std.specs.List.{list_any}
@@ -7,15 +7,15 @@ use Rattle.std.proofs.lemmas.List.Folds.{list_any_more}
 use Rattle.std.proofs.lemmas.List.{take_all, get_or-replicate, get_or_past, length-replicate, get_or-set_same, get_or-set_other, length-set}
 use Rattle.std.proofs.lemmas.Option.{slice_get_within, get_or_from_slice_get}
 use borrow.Author.Differences.{ints}
-use Rattle.geom_core.specs.Points.{Point, point}
-use Rattle.geom_core.specs.Areas.{Area, area, holds, right, bottom, bound, meets, common, clipped, lies_in, IsWithin, length_between}
-use Rattle.geom_core.specs.Grid.{Key, key, key_of, same_key, tile, keys_of, floor_by, how_many}
+use Rattle.geom_core.specs.Points.{point}
+use Rattle.geom_core.specs.Areas.{Area, area, right, bottom, bound, meets, common, clipped, lies_in, IsWithin, length_between}
+use Rattle.geom_core.specs.Grid.{Key, key, same_key, tile, keys_of, floor_by, how_many}
 use Rattle.geom_core.proofs.Tests.{and_left, and_right, both_true, taken}
 use Rattle.geom_core.proofs.Tiles.{own_tile, key_same, key_is}
 use Rattle.geom_core.proofs.Keys.{any_key_in_rows, any_count}
 use Rattle.geom_core.proofs.Lying.{bound_lies, common_lies_right}
 use Rattle.tile_core.specs.Marks.{Grid, place_at, mark_at, has_mark, on_canvas, no_marks}
-use Rattle.tile_core.specs.Damage.{Parts, part_in, part_at, part_has, is_damaged, grown, intact, FitTiles}
+use Rattle.tile_core.specs.Damage.{Parts, part_in, part_at, grown, intact, FitTiles}
 
 -- whatever of the rectangle lies in the tiles of the list is damaged too
 abbrev pub AddsIn : Area → List Key → Parts → Parts → Type 0

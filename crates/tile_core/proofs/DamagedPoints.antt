@@ -1,17 +1,17 @@
 -- Which points are damaged after a rectangle was added.
-use Rattle.std.proofs.Common.{◌≡◌, ℕ, ◌≤◌, Bool, true, false, ◌&&◌, cond, Option, Some, None, is_some, refl, ap, sym, ◌∙◌, arith}
+use Rattle.std.proofs.Common.{◌≡◌, ℕ, ◌≤◌, Bool, true, false, ◌&&◌, cond, Option, Some, None, refl, ap, sym, ◌∙◌, arith}
 use Rattle.std.specs.Prelude.{ℤ, pos, ◌+ℤ◌, ◌-ℤ◌, int_le, int_lt, nat_abs}
 use Rattle.std.specs.Int.{int_max, int_min}
 use borrow.Author.Differences.{ints}
 use Rattle.geom_core.specs.Points.{Point}
 use Rattle.geom_core.specs.Areas.{Area, holds, bound, meets, common, clipped}
 use Rattle.geom_core.specs.Grid.{Key, key_of, tile}
-use Rattle.geom_core.proofs.Tests.{and_left, and_right, both_true, taken, true_or_false}
+use Rattle.geom_core.proofs.Tests.{and_left, and_right, both_true, taken}
 use Rattle.geom_core.proofs.Tiles.{own_tile}
 use Rattle.geom_core.proofs.Common.{Sized, common_held, meets_held}
 use Rattle.geom_core.proofs.Bounds.{lies_held}
 use Rattle.tile_core.specs.Marks.{on_canvas}
-use Rattle.tile_core.specs.Damage.{Parts, part_in, part_at, part_has, is_damaged, grown, intact}
+use Rattle.tile_core.specs.Damage.{Parts, part_at, part_has, is_damaged, grown, intact}
 use Rattle.tile_core.proofs.DamagedParts.{none_intact, no_part}
 
 -- the rectangle's points on the largest canvas are damaged too

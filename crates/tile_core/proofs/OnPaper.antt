@@ -1,6 +1,5 @@
 -- Clear and opaque pixels on an opaque paper.
-use Rattle.std.proofs.Common.{◌≡◌, ℕ, ◌+◌, ◌-◌, ◌*◌, ◌/◌, [], ◌∷◌, ap, sym, ◌∙◌, arith, nat_eq, ◌&&◌, true}
-use Rattle.std.proofs.lemmas.Bool.Decides.{nat_tests}
+use Rattle.std.proofs.Common.{◌≡◌, ℕ, ◌+◌, ◌-◌, ◌*◌, ◌/◌, [], ◌∷◌, ap, sym, ◌∙◌, arith}
 use Rattle.pixel_core.specs.Bytes.{mul}
 use Rattle.pixel_core.specs.Rgba.{Rgba, rgba, clear}
 use Rattle.pixel_core.specs.Compose.{compose, on_paper}

@@ -1,6 +1,6 @@
 //! Worked values, and that each call can succeed.
 
-ghost use Rattle.std.specs.Prelude.{◌≡◌, ◌∷◌, ◌++◌, [], Some, IfOk, OnOk};
+ghost use Rattle.std.specs.Prelude.{◌≡◌, ◌≤◌, ◌∷◌, ◌++◌, [], Some, IfOk, OnOk};
 ghost use Rattle.std.specs.FinMap as map;
 ghost use Rattle.tile_core.specs.Films.{newest};
 ghost use Rattle.tile_core.specs.Frames.{scene, with_put};
@@ -9,6 +9,7 @@ use super::*;
 use geom_core::{NoMemory, Rect, TileKey};
 use pixel_core::Pixel;
 use std::alloc::Global;
+use std::process::Abort;
 use std::test::Fail;
 
 /// The tile whose corner is (0, 0).
@@ -159,4 +160,29 @@ fn a_film_of_two_frames(rt: HostRuntime) -> Result<(), Fail> {
     film.lay(1, &mut picture);
     assert_eq!(rt; &picture[189..], [1, 2, 3, 4, 5, 6, 7].as_slice());
     Ok(())
+}
+
+fn rect(rt: &impl Abort, x: i32, y: i32, w: u32, h: u32) -> Rect
+    requires w { 1 ≤ w × w ≤ 32768 }
+    requires h { 1 ≤ h × h ≤ 32768 }
+{
+    Rect::new(x, y, w, h).expect(rt, "a rectangle of the world")
+}
+
+#[test]
+fn damage_grows_in_its_tiles(rt: HostRuntime) {
+    let mut damage = Damage::none();
+    damage.add(&rect(&rt, 60, 10, 10, 5));
+    assert!(rt; damage.part(ORIGIN) == Some(rect(&rt, 60, 10, 4, 5)));
+    assert!(rt; damage.part(SECOND) == Some(rect(&rt, 64, 10, 6, 5)));
+    damage.add(&rect(&rt, 72, 30, 1, 1));
+    damage.add(&rect(&rt, -10, -10, 5, 5));
+    assert!(rt; damage.part(ORIGIN) == Some(rect(&rt, 60, 10, 4, 5)));
+    assert!(rt; damage.part(SECOND) == Some(rect(&rt, 64, 10, 9, 21)));
+    assert!(rt; damage.part(TileKey { row: -1, col: -1 }).is_none());
+    let marks = damage.tiles();
+    assert!(rt; marks.has(ORIGIN) && marks.has(SECOND));
+    assert!(rt; !marks.has(TileKey { row: 1, col: 0 }));
+    let last = TileKey { row: 31, col: 31 };
+    assert!(rt; Damage::all().part(last) == Some(rect(&rt, 1984, 1984, 64, 64)));
 }

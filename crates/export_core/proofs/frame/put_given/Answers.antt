@@ -1,7 +1,7 @@
 use Rattle.std.proofs.Common.{ap, sym}
 use Rattle.std.proofs.lemmas.Result.{on_ok_weaker}
 use Rattle.export_core.specs.Pieces.{given_on, seen, LooksOn}
-use Rattle.export_core.proofs.RootTiles.{tile_put, fits_too}
+use Rattle.export_core.proofs.RootTiles.{tile_put}
 use Rattle.export_core.proofs.frame.put_given.Goals as goal
 
 pub returns-in-Held : goal.returns-in-Held

@@ -1,9 +1,8 @@
-use Rattle.std.proofs.Common.{rules, arith, sym, ◌∙◌, ap, subst, ◌≡◌, cond, ◌&&◌, None, slice_index_or, ◌<◌, length}
+use Rattle.std.proofs.Common.{rules, ◌∙◌, ap, ◌≡◌, None, slice_index_or, ◌<◌, length}
 use Rattle.std.proofs.lemmas.List.{get_or_default}
 use Rattle.geom_core.specs.Areas.{clipped}
-use Rattle.geom_core.specs.Grid.{Key, same_key, tile}
-use Rattle.tile_core.specs.Damage.{Parts, part_at, grown}
-use Rattle.tile_core.specs.Marks.{on_canvas}
+use Rattle.geom_core.specs.Grid.{tile}
+use Rattle.tile_core.specs.Damage.{grown}
 use Rattle.tile_core.proofs.DamagedParts.{fit_set, part_added_to, grown_as}
 use Rattle.tile_core.proofs.damage.Damage.add_in.Goals as goal
 

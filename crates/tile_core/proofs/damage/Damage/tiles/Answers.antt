@@ -1,5 +1,4 @@
-use Rattle.std.proofs.Common.{rules, arith}
-use Rattle.tile_core.proofs.DamagedParts.{marks_none, marks_part, passes_part, parts_marked}
+use Rattle.tile_core.proofs.DamagedParts.{marks_none}
 use Rattle.tile_core.proofs.damage.Damage.tiles.Goals as goal
 
 pub loop-place-init : goal.loop-place-init
