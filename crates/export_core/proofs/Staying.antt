@@ -20,7 +20,7 @@ use Rattle.doc_model.proofs.Weights.{tree_distinct}
 use Rattle.doc_model.proofs.Paths.{content_put_back}
 use Rattle.machine_model.specs.Reached.{ReachesOneLayer}
 use Rattle.export_core.specs.Exports.{ShowsElsewhere}
-use Rattle.export_core.specs.Pieces.{seen, Alike}
+use Rattle.export_core.specs.Pieces.{Alike}
 use Rattle.export_core.proofs.CanvasKeys.{canvas_key}
 use Rattle.export_core.proofs.SameTree.{same_cond, chosen}
 

@@ -1,7 +1,6 @@
 -- Changes of the tree that leave how a document looks.
-use Rattle.std.proofs.Common.{◌≡◌, ℕ, suc, zero, Bool, true, false, ◌&&◌, ◌||◌, not, cond, eqb, Option, Some, None, is_some, refl, sym, ap, ◌∙◌, arith}
+use Rattle.std.proofs.Common.{◌≡◌, ℕ, suc, zero, Bool, true, false, ◌&&◌, ◌||◌, not, cond, eqb, Option, Some, None, is_some, refl, sym, ap, ◌∙◌}
 use Rattle.std.specs.Prelude.{Ok}
-use Rattle.std.proofs.lemmas.Bool.Decides.{nat_tests}
 use Rattle.geom_core.specs.Points.{Point}
 use Rattle.geom_core.proofs.Tests.{and_left, and_right, both_true, none_left, none_right, not_true, kept}
 use Rattle.pixel_core.specs.Rgba.{Rgba, clear}
@@ -21,6 +20,7 @@ use Rattle.doc_model.proofs.Parents.{Distinct}
 use Rattle.doc_model.proofs.Weights.{tree_distinct}
 use Rattle.tile_core.proofs.SameRows.{same_pixel-Decides}
 use Rattle.export_core.specs.Pieces.{seen, Alike}
+use Rattle.export_core.proofs.LoneNodes.{same_absent}
 use Rattle.export_core.proofs.SameTree.{look_each}
 use Rattle.export_core.proofs.SeenPixels.{laid_alike, look_alike, clear_passed}
 use Rattle.desk_steps.specs.Archives.{shape}
@@ -96,9 +96,6 @@ hides_absent q (paint id look x rest) h = both_true _ _ (ap (λ b. not b || not 
 hides_absent q (group id look nodes rest) h =
     let more : (has q nodes || has q rest) ≡ false = none_right (eqb q id) _ h in
     both_true _ _ (ap (λ b. not b || not look.visible) (none_left (eqb q id) _ h)) (both_true _ _ (hides_absent q nodes (none_left (has q nodes) _ more)) (hides_absent q rest (none_right (has q nodes) _ more)))
-
-same_absent : {A : Type 0} (q id : ℕ) (f : Forest A) → eqb q id ≡ true → has id f ≡ false → has q f ≡ false
-same_absent q id f e h = let is : q ≡ id = grind (arith, nat_tests) in ap (λ n. has n f) is ∙ h
 
 -- each id stands once, so one hidden node of it is all
 hides_all : {A : Type 0} (q : ℕ) (f : Forest A) → Distinct f → is_hidden (look_in q f) ≡ true → hides q f ≡ true
