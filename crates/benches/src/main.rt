@@ -1,6 +1,7 @@
 //! Times parts of the engine against the plain work that they do.
 #![tactic(auto)]
 
+mod rows;
 mod stopwatch;
 mod strokes;
 mod tiles;
@@ -12,6 +13,7 @@ use std::{env, io};
 /// What can be measured.
 #[derive(Clone, Copy)]
 enum Subject {
+    Rows,
     Strokes,
     Tiles,
     Trees,
@@ -20,6 +22,7 @@ enum Subject {
 /// The subject of that name.
 fn subject_of(name: &str) -> Option<Subject> {
     match name {
+        "rows" => Some(Subject::Rows),
         "strokes" => Some(Subject::Strokes),
         "tiles" => Some(Subject::Tiles),
         "trees" => Some(Subject::Trees),
@@ -39,9 +42,10 @@ fn asked(rt: &impl Runtime) -> io::Result<Option<Subject>> {
 
 fn main(rt: HostRuntime) -> io::Result<()> {
     match asked(&rt)? {
+        Some(Subject::Rows) => rows::measure(&rt),
         Some(Subject::Strokes) => strokes::measure(&rt, rt.alloc()),
         Some(Subject::Tiles) => tiles::measure(&rt, rt.alloc()),
         Some(Subject::Trees) => trees::measure(&rt, rt.alloc()),
-        None => println!(rt; "benches: pass a word to measure: strokes, tiles, trees"),
+        None => println!(rt; "benches: pass a word to measure: rows, strokes, tiles, trees"),
     }
 }
