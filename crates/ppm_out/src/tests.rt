@@ -10,7 +10,7 @@ use io_edge::{Failed, MemSink};
 use pixel_core::Pixel;
 use std::alloc::Global;
 use std::test::Fail;
-use tile_core::{Film, Frame, Marks};
+use tile_core::{Damage, Film, Frame};
 
 fn opaque(r: u8, g: u8, b: u8) -> Pixel
     ensures { result.a ≡ 255 }
@@ -37,7 +37,7 @@ fn push_point(alloc: Global, film: &mut Film, paper: Pixel) -> Result<(), NoMemo
     requires opaque { paper.a ≡ 255 }
     ensures { OnOk result (film.new ≡ film.old ++ scene 1 1 paper map.empty ∷ []) }
 {
-    film.push(Frame::new(alloc, 1, 1, paper)?, Marks::all())
+    film.push(Frame::new(alloc, 1, 1, paper)?, Damage::all().tiles())
 }
 
 /// Two frames of one point, of one paper and then of another.

@@ -11,7 +11,6 @@ pub mod FrameRows
 pub mod SameRows
 pub mod TileLaws
 pub mod PictureRows
-pub mod MarkedTiles
 pub mod DamagedParts
 pub mod DamagedPoints
 pub mod Films

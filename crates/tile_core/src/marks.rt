@@ -1,11 +1,10 @@
 //! Marked tiles of a canvas.
 
-ghost use Rattle.std.specs.Prelude.{◌≡◌, ◌<◌, ◌&&◌, ◌||◌, true, false, pos, replicate, slice_set, IfSome};
-ghost use Rattle.geom_core.specs.Grid.{Key, same_key, keys_of};
-ghost use Rattle.std.specs.List.{list_any};
+ghost use Rattle.std.specs.Prelude.{◌≡◌, ◌<◌, ◌&&◌, ◌||◌, true, pos, slice_set, IfSome};
+ghost use Rattle.geom_core.specs.Grid.{Key, same_key};
 ghost use Rattle.tile_core.specs.Marks.{place_at, mark_at, has_mark, on_canvas, no_marks};
 
-use geom_core::{Rect, TileKey};
+use geom_core::TileKey;
 use std::marker::Model;
 
 /// How many columns of tiles the largest canvas has, and how many rows.
@@ -32,15 +31,6 @@ impl Marks {
     {
         Marks {
             tiles: [false; 1024],
-        }
-    }
-
-    /// All tiles of the largest canvas.
-    pub fn all() -> Marks
-        ensures { result ≡ replicate 1024 true }
-    {
-        Marks {
-            tiles: [true; 1024],
         }
     }
 
@@ -78,15 +68,6 @@ impl Marks {
         ensures { self.new ≡ slice_set self.old i true }
     {
         self.tiles[i] = true;
-    }
-
-    /// Marks the tiles of the largest canvas that the rectangle meets.
-    pub fn mark_all(&mut self, rect: &Rect)
-        ensures { (k : Key) → has_mark self.new k ≡ (has_mark self.old k || (list_any (same_key k) (keys_of rect.now) && on_canvas k)) }
-    {
-        for i in 0..rect.tile_count() {
-            self.mark(rect.tile_at(i));
-        }
     }
 }
 

@@ -115,11 +115,6 @@ fn marked_tiles(rt: HostRuntime) {
     let outside = TileKey { row: 0, col: -1 };
     marks.mark(outside);
     assert!(rt; !marks.has(outside));
-    marks.mark_all(&Rect::new(-1, 60, 2, 10).expect(&rt, "a rectangle of the world"));
-    assert!(rt; marks.has(ORIGIN));
-    assert!(rt; marks.has(TileKey { row: 1, col: 0 }));
-    assert!(rt; !marks.has(TileKey { row: 1, col: 1 }));
-    assert!(rt; Marks::all().has(TileKey { row: 31, col: 31 }));
 }
 
 /// Two tiles side by side, 65 by 1 points: the left one is given, and the paper shows on the right.
@@ -151,7 +146,7 @@ fn a_film_of_two_frames(rt: HostRuntime) -> Result<(), Fail> {
     let paper = opaque(0x33, 0x66, 0x99);
     let left = Tile::plain(alloc, opaque(1, 2, 3))?;
     let mut film = Film::new(alloc);
-    film.push(half_covered(alloc, paper, &left)?, Marks::all())?;
+    film.push(half_covered(alloc, paper, &left)?, Damage::all().tiles())?;
     let right = Tile::plain(alloc, opaque(4, 5, 6))?;
     push_covered(&mut film, half_covered(alloc, paper, &left)?, &right)?;
     let mut picture = [7; 196];
