@@ -5,6 +5,7 @@ mod blends;
 mod block;
 mod mixing;
 mod quotient;
+mod rest;
 mod rows;
 mod shares;
 #[cfg(test)]

@@ -5,6 +5,7 @@ ghost use Rattle.pixel_core.specs.Rgba.{clear};
 ghost use Rattle.pixel_rows.specs.Rows.{LaysRow, LaysPart, Dims};
 
 use crate::block::{BLOCK, dimmed, lay_block};
+use crate::rest::{FEW, dimmed_rest, lay_rest, masked_rest};
 use pixel_core::{Op, Pixel, compose};
 
 /// Lays each source on the pixel at its place, all with the same opacity in 255ths.
@@ -46,8 +47,23 @@ fn dim(block: &mut [Pixel; BLOCK], opacity: u8)
     }
 }
 
-/// The same for the pixels from a place on, one by one.
+/// The same for the pixels from a place on, fewer than a block has.
 fn lay_last_sources(op: Op, sources: &[Pixel], opacity: u8, backdrop: &mut [Pixel], start: usize)
+    requires each { length sources.now ≡ length backdrop.old }
+    requires within { start ≤ length backdrop.old }
+    requires last { length backdrop.old ≤ start + BLOCK }
+    ensures { LaysPart op (λ k. slice_index_or sources.now k clear) (λ _. opacity) start (length backdrop.old) backdrop.old backdrop.new }
+{
+    if backdrop.len() - start < FEW {
+        lay_few_sources(op, sources, opacity, backdrop, start);
+    } else {
+        let block = dimmed_rest(&sources[start..], opacity);
+        lay_rest(op, &block, &mut backdrop[start..]);
+    }
+}
+
+/// The same one by one.
+fn lay_few_sources(op: Op, sources: &[Pixel], opacity: u8, backdrop: &mut [Pixel], start: usize)
     requires each { length sources.now ≡ length backdrop.old }
     requires within { start ≤ length backdrop.old }
     ensures { LaysPart op (λ k. slice_index_or sources.now k clear) (λ _. opacity) start (length backdrop.old) backdrop.old backdrop.new }
@@ -62,7 +78,7 @@ pub fn lay_colour(op: Op, colour: Pixel, strength: u8, backdrop: &mut [Pixel])
     ensures { LaysRow op (λ _. colour) (λ _. strength) backdrop.old backdrop.new }
 {
     let whole = backdrop.len() / BLOCK;
-    let block = [dimmed(colour, strength); BLOCK];
+    let block = dimmed_all(colour, strength);
     for i in 0..whole {
         let at = BLOCK * i;
         lay_block(op, &block, &mut backdrop[at..at + BLOCK]);
@@ -70,14 +86,36 @@ pub fn lay_colour(op: Op, colour: Pixel, strength: u8, backdrop: &mut [Pixel])
     lay_last_colour(op, colour, strength, backdrop, BLOCK * whole);
 }
 
-/// The same for the pixels from a place on, one by one.
+/// The same for the pixels from a place on, fewer than a block has.
 fn lay_last_colour(op: Op, colour: Pixel, strength: u8, backdrop: &mut [Pixel], start: usize)
+    requires within { start ≤ length backdrop.old }
+    requires last { length backdrop.old ≤ start + BLOCK }
+    ensures { LaysPart op (λ _. colour) (λ _. strength) start (length backdrop.old) backdrop.old backdrop.new }
+{
+    if backdrop.len() - start < FEW {
+        lay_few_colour(op, colour, strength, backdrop, start);
+    } else {
+        let block = dimmed_all(colour, strength);
+        lay_rest(op, &block, &mut backdrop[start..]);
+    }
+}
+
+/// The same one by one.
+fn lay_few_colour(op: Op, colour: Pixel, strength: u8, backdrop: &mut [Pixel], start: usize)
     requires { start ≤ length backdrop.old }
     ensures { LaysPart op (λ _. colour) (λ _. strength) start (length backdrop.old) backdrop.old backdrop.new }
 {
     for i in start..backdrop.len() {
         backdrop[i] = compose(op, colour, backdrop[i], strength);
     }
+}
+
+/// A block of the colour with that strength.
+#[inline]
+fn dimmed_all(colour: Pixel, strength: u8) -> [Pixel; BLOCK]
+    ensures { (k : ℕ) → k < BLOCK → Dims (slice_index_or result k clear) colour strength }
+{
+    [dimmed(colour, strength); BLOCK]
 }
 
 /// Lays one colour on each pixel, with the mask's strength of its place in 255ths.
@@ -107,8 +145,23 @@ fn masked_block(colour: Pixel, mask: &[u8], i: usize) -> [Pixel; BLOCK]
     block
 }
 
-/// The same for the pixels from a place on, one by one.
+/// The same for the pixels from a place on, fewer than a block has.
 fn lay_last_masked(op: Op, colour: Pixel, mask: &[u8], backdrop: &mut [Pixel], start: usize)
+    requires each { length mask.now ≡ length backdrop.old }
+    requires within { start ≤ length backdrop.old }
+    requires last { length backdrop.old ≤ start + BLOCK }
+    ensures { LaysPart op (λ _. colour) (λ k. slice_index_or mask.now k 0) start (length backdrop.old) backdrop.old backdrop.new }
+{
+    if backdrop.len() - start < FEW {
+        lay_few_masked(op, colour, mask, backdrop, start);
+    } else {
+        let block = masked_rest(colour, &mask[start..]);
+        lay_rest(op, &block, &mut backdrop[start..]);
+    }
+}
+
+/// The same one by one.
+fn lay_few_masked(op: Op, colour: Pixel, mask: &[u8], backdrop: &mut [Pixel], start: usize)
     requires each { length mask.now ≡ length backdrop.old }
     requires within { start ≤ length backdrop.old }
     ensures { LaysPart op (λ _. colour) (λ k. slice_index_or mask.now k 0) start (length backdrop.old) backdrop.old backdrop.new }

@@ -1,7 +1,7 @@
 use Rattle.std.proofs.Common.{get_or}
 use Rattle.pixel_core.specs.Rgba.{clear}
 use Rattle.pixel_rows.specs.Rows.{LaysPart}
-use Rattle.pixel_rows.proofs.rows.lay_last_sources.Given as goal
+use Rattle.pixel_rows.proofs.rows.lay_few_sources.Given as goal
 
 -- the pixels so far are laid on
 abbrev pub invariant-loop-i : goal.invariant-loop-i

@@ -1,6 +1,6 @@
 use Rattle.std.proofs.Common.{get_or}
 use Rattle.pixel_rows.specs.Rows.{LaysPart}
-use Rattle.pixel_rows.proofs.rows.lay_last_masked.Given as goal
+use Rattle.pixel_rows.proofs.rows.lay_few_masked.Given as goal
 
 -- the pixels so far are laid on
 abbrev pub invariant-loop-i : goal.invariant-loop-i

@@ -1,5 +1,5 @@
 use Rattle.pixel_rows.specs.Rows.{LaysPart}
-use Rattle.pixel_rows.proofs.rows.lay_last_colour.Given as goal
+use Rattle.pixel_rows.proofs.rows.lay_few_colour.Given as goal
 
 -- the pixels so far are laid on
 abbrev pub invariant-loop-i : goal.invariant-loop-i
