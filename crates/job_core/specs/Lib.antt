@@ -3,3 +3,4 @@ pub mod Due
 pub mod Laid
 pub mod Made
 pub mod Dabs
+pub mod Points

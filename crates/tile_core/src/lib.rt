@@ -19,7 +19,7 @@ pub use film::Film;
 pub use frame::Frame;
 pub use marks::Marks;
 pub use shot::Shot;
-pub use tile::Tile;
+pub use tile::{Lays, Tile};
 
 #[cfg(test)]
 mod tests;

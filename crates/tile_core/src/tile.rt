@@ -1,7 +1,7 @@
 //! Tiles of 64 by 64 pixels, shared copy on write.
 
 ghost use Rattle.std.specs.Prelude.{vec_len, ◌≡◌, ℕ, ◌+◌, ◌*◌, ◌<◌, ◌↔◌, IsTrue, length, IfOk, replicate, true, false, negsuc, pos, ◌≤ℤ◌, ◌+ℤ◌, ◌%◌, nat_abs};
-ghost use Rattle.tile_core.specs.Pixels.{pixel_of, pixel_at, whole_tile, SameOn, HasPixels};
+ghost use Rattle.tile_core.specs.Pixels.{Pixels, pixel_of, pixel_at, whole_tile, SameOn, HasPixels};
 ghost use Rattle.tile_core.specs.Parts.{IsPartOf};
 ghost use Rattle.geom_core.specs.Grid.{IsWorldKey, tile};
 ghost use Rattle.tile_core.specs.Blocks.{LaysBlock, IsLaidBy};
@@ -45,6 +45,16 @@ impl Clone for Tile {
             pixels: Arc::try_clone(&self.pixels)?,
         })
     }
+}
+
+/// A change that is made to a tile's pixels in place.
+pub trait Lays {
+    ghost laid: { Self → Pixels → Pixels → Type 0 };
+
+    /// Changes the tile's 4,096 pixels, which stand in row order.
+    fn lay(&self, tile: &mut [Pixel])
+        requires { length tile.old ≡ 4096 }
+        ensures { laid self.now tile.old tile.new };
 }
 
 impl Tile {
@@ -113,15 +123,15 @@ impl Tile {
         Tile::from_pixels(alloc, pixels)
     }
 
-    /// Writes the block's pixels on the block's rectangle in place, and tells whether it did. Where
-    /// somebody shares the pixels, nothing changes. No memory.
-    pub fn lay_alone(&mut self, block: &Block) -> bool
-        ensures laid { result ≡ true → LaysBlock self.old self.new block.now }
+    /// Makes a change in place, and tells whether it did. Where somebody shares the pixels, nothing
+    /// changes. No memory.
+    pub fn lay_alone<L: Lays>(&mut self, change: &L) -> bool
+        ensures laid { result ≡ true → L.laid change.now self.old self.new }
         ensures kept { result ≡ false → self.new ≡ self.old }
     {
         match Arc::get_mut(&mut self.pixels) {
             Some(pixels) => {
-                write_block(pixels, block);
+                change.lay(pixels);
                 true
             }
             None => false,
@@ -156,13 +166,16 @@ impl Tile {
     }
 }
 
-/// Writes the block's pixels on the block's rectangle of a tile.
-fn write_block(tile: &mut [Pixel], block: &Block)
-    requires { length tile.old ≡ 4096 }
-    ensures { LaysBlock tile.old tile.new block.now }
-{
-    let rect = block.rect();
-    lay_part(tile, part_in_tile(&rect), block.pixels());
+impl Lays for Block {
+    ghost use Rattle.tile_core.specs.Blocks.{LaysBlock};
+
+    ghost laid = { λ b old new. LaysBlock old new b };
+
+    /// Writes its pixels on its rectangle.
+    fn lay(&self, tile: &mut [Pixel]) {
+        let rect = self.rect();
+        lay_part(tile, part_in_tile(&rect), self.pixels());
+    }
 }
 
 /// Which columns and rows of their tiles the rectangle's first column and row are, and its sides.
