@@ -198,7 +198,7 @@ fn shared(
 {
     let mut devices = BTreeMap::new(alloc);
     for (id, device) in old {
-        keep(&mut devices, tree, *id, device.share(alloc)?)?;
+        keep(&mut devices, tree, *id, device.share()?)?;
     }
     Ok(devices)
 }

@@ -94,7 +94,7 @@ impl Store {
     {
         match self.doc.layer(layer) {
             Some(device) => {
-                let before = device.share(self.alloc)?;
+                let before = device.share()?;
                 self.way = Some(Way {
                     id: layer,
                     keys: KeySet::new(self.alloc),
