@@ -178,7 +178,8 @@ impl Lays for Block {
 }
 
 /// Which columns and rows of their tiles the rectangle's first column and row are, and its sides.
-fn part_in_tile(rect: &Rect) -> Part
+#[inline]
+pub fn part_in_tile(rect: &Rect) -> Part
     ensures { IsPartOf rect.now result }
 {
     Part {
