@@ -1,16 +1,33 @@
 //! Worked histories, and that each call can succeed.
 
-ghost use Rattle.std.specs.Prelude.{◌≡◌, ◌<◌, ◌≤◌, None};
+ghost use Rattle.std.specs.Prelude.{◌≡◌, ◌<◌, ◌≤◌, None, OnOk, is_some, true};
+ghost use Rattle.std.specs.List.{list_any};
+ghost use Rattle.geom_core.specs.Grid.{same_key, all_keys_of};
+ghost use Rattle.doc_model.specs.Jobs.{writes};
+ghost use Rattle.doc_model.specs.Lawful.{checks};
 
 use super::*;
-use doc_model::Change;
-use geom_core::NoMemory;
+use doc_model::{Change, Job};
+use geom_core::{NoMemory, Rect, TileKey};
+use job_core::{PointWork, is_point_op};
 use memento_core::Steps;
-use pixel_core::Pixel;
+use pixel_core::{Op, Pixel};
 use std::alloc::Global;
 use std::marker::Brand;
+use std::process::Abort;
 use std::sync::ledger::{Blank, Ledger};
 use std::test::Fail;
+
+/// The tile whose corner is (0, 0).
+const ORIGIN: TileKey = TileKey { row: 0, col: 0 };
+
+fn red() -> Pixel {
+    Pixel::new(255, 0, 0, 255)
+}
+
+fn blue() -> Pixel {
+    Pixel::new(0, 0, 255, 255)
+}
 
 fn crosses<T: Send>(_x: &T) {}
 
@@ -90,7 +107,7 @@ fn back_and_forth<L: Ledger>(store: &mut Store, blank: Blank) -> [u8; 3]
 #[test]
 fn a_stroke_and_two_layers(rt: HostRuntime) -> Result<(), Fail> {
     let alloc = rt.alloc();
-    let red = Pixel::new(255, 0, 0, 255);
+    let red = red();
     let mut store = Store::new(alloc)?;
     assert_eq!(rt; stroke(&mut store, 9)?, Begun::NoLayer);
     assert_eq!(rt; stroke(&mut store, 0)?, Begun::NotPaint);
@@ -105,9 +122,116 @@ fn a_stroke_and_two_layers(rt: HostRuntime) -> Result<(), Fail> {
     assert!(rt; store.tree().has(2));
     assert!(rt;
         store
-            .tile(1, geom_core::TileKey { row: 0, col: 0 })
+            .tile(1, ORIGIN)
             .is_none()
     );
     crosses(&store);
+    Ok(())
+}
+
+/// The first tile that the job writes in.
+fn first_tile(rt: &impl Abort, job: &Job) -> TileKey
+    requires { checks job.now ≡ true }
+    ensures { list_any (same_key result) (all_keys_of (writes job.now)) ≡ true }
+{
+    let rects = job.writes();
+    assert!(rt; rects.len() > 0);
+    let rect = rects[0];
+    assert!(rt; rect.tile_count() > 0);
+    rect.tile_at(0)
+}
+
+/// The work of a point operation in its first tile.
+fn work<'a>(rt: &impl Abort, job: &'a Job) -> PointWork<'a> {
+    assert!(rt; is_point_op(job));
+    assert!(rt; job.check().is_ok());
+    assert!(rt; job.is_within_limits());
+    let key = first_tile(rt, job);
+    assert_eq!(rt; key, ORIGIN);
+    PointWork::new(job, key)
+}
+
+/// A stroke on layer 1 that paints two jobs, one after the other.
+fn paint_both(
+    rt: &impl Abort,
+    alloc: Global,
+    store: &mut Store,
+    first: &Job,
+    second: &Job,
+) -> Result<(), NoMemory>
+    requires { store.old.way ≡ None }
+    ensures { OnOk result (store.new.way ≡ None) }
+{
+    store.prepare()?;
+    match store.begin(1)? {
+        Begun::Ready => {
+            store.paint(alloc, &work(rt, first))?;
+            store.paint(alloc, &work(rt, second))?;
+            store.finish();
+            Ok(())
+        }
+        _ => Err(NoMemory),
+    }
+}
+
+/// Whether there was something to undo.
+fn undone<L: Ledger>(store: &mut Store, blank: Blank) -> bool
+    requires name { blank.name ≡ L.name }
+    requires parts { blank.parts ≡ L.parts }
+    requires some { 0 < blank.parts }
+    requires rest { store.old.way ≡ None }
+    ensures { store.new.way ≡ None }
+{
+    let mut steps = Steps::<L>::new(blank);
+    store.undo(&mut steps).is_some()
+}
+
+/// The pixel of layer 1 in a column and a row of that tile. None where no tile stands there.
+fn pixel_of(store: &Store, col: u8, row: u8) -> Option<Pixel>
+    requires col { col < 64 }
+    requires row { row < 64 }
+{
+    Some(store.tile(1, ORIGIN)?.pixel(col, row))
+}
+
+#[test]
+fn a_fill_and_a_dab(rt: HostRuntime) -> Result<(), Fail> {
+    let alloc = rt.alloc();
+    let mut store = Store::new(alloc)?;
+    assert!(rt; add_layer(&mut store, alloc, 1, Pixel::CLEAR));
+    let fill = Job::Fill {
+        rect: Rect::new(0, 0, 32, 32).expect(&rt, "a rectangle of the world"),
+        colour: red(),
+        op: Op::Over,
+        strength: 255,
+    };
+    let dab = Job::Dab {
+        x: 16,
+        y: 16,
+        r: 4,
+        soft: false,
+        colour: blue(),
+        op: Op::Over,
+        strength: 255,
+    };
+    paint_both(&rt, alloc, &mut store, &fill, &dab)?;
+    assert!(rt; pixel_of(&store, 0, 0) == Some(red()));
+    assert!(rt; pixel_of(&store, 16, 16) == Some(blue()));
+    assert!(rt; pixel_of(&store, 40, 40) == Some(Pixel::CLEAR));
+    let whole = Job::Fill {
+        rect: ORIGIN.rect(),
+        colour: blue(),
+        op: Op::Over,
+        strength: 255,
+    };
+    paint_both(&rt, alloc, &mut store, &whole, &fill)?;
+    assert!(rt; pixel_of(&store, 0, 0) == Some(red()));
+    assert!(rt; pixel_of(&store, 40, 40) == Some(blue()));
+    assert!(rt; undone::<Brand>(&mut store, Blank::new(1)));
+    assert!(rt; pixel_of(&store, 0, 0) == Some(red()));
+    assert!(rt; pixel_of(&store, 40, 40) == Some(Pixel::CLEAR));
+    assert!(rt; undone::<Brand>(&mut store, Blank::new(1)));
+    assert!(rt; store.tree().has(1));
+    assert!(rt; pixel_of(&store, 0, 0).is_none());
     Ok(())
 }
