@@ -2,7 +2,7 @@ use Rattle.std.proofs.Common.{◌≡◌, ◌∙◌, sym, ap, get_or}
 use Rattle.pixel_core.specs.Rgba.{Rgba, clear}
 use Rattle.pixel_core.specs.Compose.{on_paper}
 use Rattle.tile_core.proofs.OnPaper.{paper_shows, paper_hidden}
-use Rattle.tile_core.proofs.SameRows.{same_pixel-Decides}
+use Rattle.pixel_core.proofs.SamePixels.{same_pixel-Decides}
 use Rattle.tile_core.proofs.frame.colours_of.Goals as goal
 
 pub returns-then-eq : goal.returns-then-eq
