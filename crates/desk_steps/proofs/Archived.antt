@@ -17,7 +17,9 @@ use Rattle.tile_core.specs.Shots.{Sight, sight_at}
 use Rattle.memento_core.specs.Planes.{tile_under}
 use Rattle.doc_model.specs.declared.tree.Change.{Change}
 use Rattle.doc_model.specs.Layers.{Layer, at, plain, layer_ext, at-painted, default-painted, at-plain, default-plain}
+use Rattle.doc_model.specs.declared.job.Job.{Job}
 use Rattle.doc_model.specs.Jobs.{published, in_tile, shot_of, writes}
+use Rattle.doc_model.proofs.Shots.{at-published, default-published}
 use Rattle.doc_model.specs.Changes.{changed}
 use Rattle.doc_model.specs.Forest.{Forest, none, paint, group, height, content, with_content, adjusted}
 use Rattle.doc_model.specs.Ids.{weight}
@@ -30,7 +32,6 @@ use Rattle.doc_model.proofs.Limits.{changes_keep_limits}
 use Rattle.machine_model.specs.Effects.{layer_in}
 use Rattle.machine_model.specs.Reached.{DifferWithin, ReachesOneLayer, Reaches, PastReaches, FutureReaches}
 use Rattle.job_core.specs.Paints as paints
-use Rattle.job_core.specs.Paints.{Paint}
 use Rattle.paint_device.specs.Sheets.{Sheet, sheet_at}
 use Rattle.paint_device.specs.Seen.{layer_of}
 use Rattle.paint_device.proofs.Shown.{at-layer_of, default-layer_of}
@@ -38,10 +39,9 @@ use Rattle.history_core.specs.Stacks.{Stack, IsUndone, IsRedone}
 use Rattle.desk_steps.specs.declared.entry.Entry.{Entry}
 use Rattle.desk_steps.specs.declared.entry.Entry.TheVariants as entry
 use Rattle.desk_steps.specs.declared.entry.Way.{Way}
-use Rattle.desk_steps.specs.Archives.{Archive, IsUnderWay, layer_under_way, undone, redone, with_put}
+use Rattle.desk_steps.specs.Archives.{Archive, IsUnderWay, layer_under_way, undone, redone}
 use Rattle.desk_steps.specs.Entries.{doc_of, reach_in, FitsOn, laid, base_of, way_of, archive_of, IsKept}
 use Rattle.desk_steps.proofs.Devices.{false-true}
-use Rattle.desk_steps.proofs.Lain.{default_published, at_published}
 use Rattle.desk_steps.proofs.Exchanged.{fits_new, fits_old, laid_back, laid_take, past_take}
 
 -- another content keeps a document within the limits
@@ -154,25 +154,34 @@ with_adjusted {A = A} q x f (paint id look y rest) = λ i. paint id look (again 
     again false z = refl
 with_adjusted q x f (group id look nodes rest) = λ i. group id look (with_adjusted q x f nodes i) (with_adjusted q x f rest i)
 
-put_within : (keys : FinSet key_cmp) (w : Paint) (before after : Layer) → DifferWithin keys before after → DifferWithin (set.insert keys w.key) before (published w.job (paints.layer_of w.shot) w.key after)
-put_within keys w before after d = record {
-  default_pixel = d.default_pixel ∙ sym (default_published w after);
-  pixels = λ p out.
-      let e : (same_key (key_of p) w.key || set.contains keys (key_of p)) ≡ false = sym (set.contains-insert key_cmp_total keys w.key (key_of p)) ∙ out in
-      d.pixels p (none_right (same_key (key_of p) w.key) _ e) ∙ sym (at_published w after p ∙ kept (any_holds (writes w.job) p && in_tile w.key p) _ _ (no_tile (any_holds (writes w.job) p) (in_tile w.key p) (none_left (same_key (key_of p) w.key) _ e)));
+-- only pixels of one tile change
+pub record ChangesTile (key : Key) (old new : Layer) : Type 0 where
+  pub default_pixel : new.default_pixel ≡ old.default_pixel
+  pub pixels : (p : Point) → in_tile key p ≡ false → at new p ≡ at old p
+
+-- a job's tile, whichever layer stands for its shot
+pub published_changes : (job : Job) (shot : Layer) (key : Key) (l : Layer) → ChangesTile key l (published job shot key l)
+published_changes job shot key l = record {
+  default_pixel = default-published job shot key l;
+  pixels = λ p out. at-published job shot key l p ∙ kept (any_holds (writes job) p && in_tile key p) _ _ (no_tile (any_holds (writes job) p) (in_tile key p) out);
 }
   where
     no_tile : (a b : Bool) → b ≡ false → (a && b) ≡ false
     no_tile true b e = e
     no_tile false b e = refl
 
--- the document with what was painted
-abbrev pub painted_doc : ℕ → Paint → Doc → Doc
-painted_doc id w doc = adjusted id (published w.job (paints.layer_of w.shot) w.key) doc
+put_within : (keys : FinSet key_cmp) (key : Key) (before after new : Layer) → ChangesTile key after new → DifferWithin keys before after → DifferWithin (set.insert keys key) before new
+put_within keys key before after new c d = record {
+  default_pixel = d.default_pixel ∙ sym c.default_pixel;
+  pixels = λ p out.
+      let e : (same_key (key_of p) key || set.contains keys (key_of p)) ≡ false = sym (set.contains-insert key_cmp_total keys key (key_of p)) ∙ out in
+      d.pixels p (none_right (same_key (key_of p) key) _ e) ∙ sym (c.pixels p (none_left (same_key (key_of p) key) _ e));
+}
 
-module _ (doc new : Doc) (history : Stack Entry) (room : Bool) (w : Way) (keys : FinSet key_cmp) (painted : Paint) where
-  put_done : new ≡ painted_doc w.id painted doc → keys ≡ set.insert w.keys painted.key → IsKept doc history (Some w) room → IsKept new history (Some (record { id = w.id; keys = keys; before = w.before })) room
-  put_done is more k =
+-- a tile of the stroke's layer is changed
+module _ (doc new : Doc) (history : Stack Entry) (room : Bool) (w : Way) (keys : FinSet key_cmp) (key : Key) (f : Layer → Layer) where
+  put_done : ((l : Layer) → ChangesTile key l (f l)) → new ≡ adjusted w.id f doc → keys ≡ set.insert w.keys key → IsKept doc history (Some w) room → IsKept new history (Some (record { id = w.id; keys = keys; before = w.before })) room
+  put_done changes is more k =
       let base : with_content w.id (layer_of w.before) new ≡ with_content w.id (layer_of w.before) doc = ap (with_content w.id (layer_of w.before)) is ∙ with_adjusted w.id (layer_of w.before) _ doc in
       let r = k.archive.under_way in
       record {
@@ -181,30 +190,33 @@ module _ (doc new : Doc) (history : Stack Entry) (room : Bool) (w : Way) (keys :
           future_reaches = subst (λ d. FutureReaches d (laid d history.future)) (sym base) k.archive.future_reaches;
           under_way = subst (λ d. ReachesOneLayer w.id keys d new) (sym base) (record {
             before = r.before;
-            after = published painted.job (paints.layer_of painted.shot) painted.key r.after;
+            after = f r.after;
             was = r.was;
-            changed = is ∙ ap (painted_doc w.id painted) r.changed ∙ adjusted-with_content w.id (published painted.job (paints.layer_of painted.shot) painted.key) r.after _;
-            within = subst (λ ks. DifferWithin ks r.before (published painted.job (paints.layer_of painted.shot) painted.key r.after)) (sym more) (put_within w.keys painted r.before r.after r.within);
+            changed = is ∙ ap (adjusted w.id f) r.changed ∙ adjusted-with_content w.id f r.after _;
+            within = subst (λ ks. DifferWithin ks r.before (f r.after)) (sym more) (put_within w.keys key r.before r.after (f r.after) (changes r.after) r.within);
           });
           limits = subst IsDocument (sym base) k.archive.limits;
         };
         spare = k.spare;
       }
 
-  -- whether it was put or not
-  pub put_kept : (way : Option Way) (r : Result (Unit {0}) NoMemory) → way ≡ Some w → OnOk r (new ≡ painted_doc w.id painted doc) → OnOk r (keys ≡ set.insert w.keys painted.key) → OnErr r (new ≡ doc) → OnErr r (keys ≡ w.keys)
+  -- whether it was changed or not
+  pub put_kept : ((l : Layer) → ChangesTile key l (f l)) → (way : Option Way) (r : Result (Unit {0}) NoMemory) → way ≡ Some w → OnOk r (new ≡ adjusted w.id f doc) → OnOk r (keys ≡ set.insert w.keys key) → OnErr r (new ≡ doc) → OnErr r (keys ≡ w.keys)
       → IsKept doc history way room → IsKept new history (Some (record { id = w.id; keys = keys; before = w.before })) room
-  put_kept way (Ok x) is ok more err same k = put_done ok more (subst (λ v. IsKept doc history v room) is k)
-  put_kept way (Err x) is ok more err same k =
+  put_kept changes way (Ok x) is ok more err same k = put_done changes ok more (subst (λ v. IsKept doc history v room) is k)
+  put_kept changes way (Err x) is ok more err same k =
       subst (λ d. IsKept d history (Some (record { id = w.id; keys = keys; before = w.before })) room) (sym err)
       (subst (λ ks. IsKept doc history (Some (record { id = w.id; keys = ks; before = w.before })) room) (sym same) (subst (λ v. IsKept doc history v room) is k))
 
-  pub put_is : (way : Option Way) (old : Archive) → way ≡ Some w → new ≡ painted_doc w.id painted doc → keys ≡ set.insert w.keys painted.key → archive_of doc history way room ≡ old
-      → archive_of new history (Some (record { id = w.id; keys = keys; before = w.before })) room ≡ with_put old.way painted old
-  put_is way old e is more view =
+  -- and the store is what g says, which puts the tile on the layer under way
+  pub put_is : (g : Archive → Archive) (way : Option Way) (old : Archive)
+      → g (archive_of doc history (Some w) room) ≡ record (archive_of doc history (Some w) room) { present = adjusted w.id f doc; way = Some (w.id, set.insert w.keys key) }
+      → way ≡ Some w → new ≡ adjusted w.id f doc → keys ≡ set.insert w.keys key → archive_of doc history way room ≡ old
+      → archive_of new history (Some (record { id = w.id; keys = keys; before = w.before })) room ≡ g old
+  put_is g way old here e is more view =
       let base : with_content w.id (layer_of w.before) new ≡ with_content w.id (layer_of w.before) doc = ap (with_content w.id (layer_of w.before)) is ∙ with_adjusted w.id (layer_of w.before) _ doc in
       (λ i. record { past = laid (base i) history.past; base = base i; present = is i; future = laid (base i) history.future; way = Some (w.id, more i); room = room })
-      ∙ ap (λ (a : Archive). with_put a.way painted a) (ap (λ v. archive_of doc history v room) (sym e) ∙ view)
+      ∙ sym here ∙ ap g (ap (λ v. archive_of doc history v room) (sym e) ∙ view)
 
 no_way : {A : Type 0} (way : Option Way) → way_of way ≡ None → (way ≡ None → A) → A
 no_way None e f = f refl

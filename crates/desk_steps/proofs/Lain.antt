@@ -1,24 +1,34 @@
 -- What was painted of a tile, laid on the tile.
-use Rattle.std.proofs.Common.{◌≡◌, ℕ, suc, zero, ◌+◌, Bool, true, false, ◌&&◌, ◌||◌, cond, Some, None, List, [], ◌∷◌, length, take, is_some, refl, sym, ap, ◌∙◌, subst, arith, inl, inr, map, replicate}
-use Rattle.std.specs.Prelude.{All, slice_get}
+use Rattle.std.proofs.Common.{◌≡◌, ℕ, suc, zero, ◌+◌, ◌*◌, ◌≤◌, Bool, true, false, ◌&&◌, ◌||◌, cond, Option, Some, None, List, [], ◌∷◌, length, take, is_some, refl, sym, ap, ◌∙◌, subst, arith, inl, inr, map, replicate}
+use Rattle.std.specs.Prelude.{All, IfSome, slice_get}
+use Rattle.std.specs.List.{list_any}
 use Rattle.std.specs.FinMap as fin
 use Rattle.std.proofs.lemmas.Option.{slice_get_cases}
 use Rattle.std.proofs.Math.Seq.{take-length}
 use Rattle.geom_core.specs.Points.{Point}
 use Rattle.geom_core.specs.Areas.{holds, any_holds}
-use Rattle.geom_core.specs.Grid.{Key, key_of, same_key, tile, key_cmp_total}
-use Rattle.geom_core.proofs.Tests.{taken, kept}
+use Rattle.geom_core.specs.Grid.{Key, key_of, same_key, tile, all_keys_of, IsWorldKey, key_cmp_total, key_cmp-IsAntisymmetric}
+use Rattle.geom_core.proofs.Tests.{taken, kept, and_left}
 use Rattle.geom_core.proofs.Tiles.{own_tile, key_same, key_is}
+use Rattle.pixel_core.specs.Rgba.{Rgba}
 use Rattle.tile_core.specs.Pixels.{Pixels, pixel_at, pixel_or}
-use Rattle.tile_core.specs.Blocks.{Piece, piece_at, LaysBlock, IsLaidBy}
+use Rattle.tile_core.specs.Blocks.{Piece, piece_at, LaysBlock}
 use Rattle.memento_core.specs.Planes.{tile_under}
-use Rattle.doc_model.specs.Layers.{Layer, at, at-painted, default-painted, layer_ext}
-use Rattle.doc_model.specs.Jobs.{writes, published, in_tile}
+use Rattle.doc_model.specs.declared.job.Job.{Job}
+use Rattle.doc_model.specs.declared.job.Job.TheVariants.{Fill, Dab, Move, Blur}
+use Rattle.doc_model.specs.Lawful.{checks, within_limits}
+use Rattle.doc_model.specs.Layers.{Layer, at, layer_ext}
+use Rattle.doc_model.specs.Jobs.{square, writes, apply, published, in_tile}
+use Rattle.doc_model.proofs.Shots.{at-published, default-published}
+use Rattle.doc_model.proofs.JobLaws.{laws_of_jobs}
 use Rattle.job_core.specs.Paints as paints
 use Rattle.job_core.specs.Paints.{Paint, Stuff, Makes, HasValue}
+use Rattle.job_core.specs.Points.{Spot, IsPointWork, is_point_op, LaysPoints, LeavesPlain}
+use Rattle.job_core.proofs.Values.{world_key, one_met, some_of_limits}
+use Rattle.paint_device.specs.InPlace.{LaysUnder}
 use Rattle.paint_device.specs.Seen.{layer_of}
-use Rattle.paint_device.specs.Sheets.{Sheet, sheet_at, tile_or, with_under, readied, WritesBlock}
-use Rattle.desk_steps.specs.Tiles.{made, IsLaid, IsLaidFrom}
+use Rattle.paint_device.specs.Sheets.{Sheet, sheet, sheet_at, tile_or, with_under, readied}
+use Rattle.desk_steps.specs.Tiles.{IsLaid, IsLaidFrom, IsPaintedOn, IsPlainUnder}
 use Rattle.paint_device.proofs.Shown.{at-layer_of, default-layer_of}
 use Rattle.paint_device.proofs.Writes.{pixel_or-tile_or, seen_after_exchange, ready_keeps_pixels}
 
@@ -30,11 +40,19 @@ plain_at s k p h none = sym (pixel_or-tile_or None s.default_pixel p) ∙ ap (λ
 pub tile_at : (s : Sheet) (k : Key) (t : Pixels) (p : Point) → in_tile k p ≡ true → Some t ≡ tile_under s.tiles k → pixel_at t p ≡ sheet_at s p
 tile_at s k t p h there = ap (λ o. pixel_or o s.default_pixel p) (there ∙ ap (tile_under s.tiles) (sym (key_same (key_of p) k h)))
 
+-- what stands there, or a plain tile, has them
+pub stands_at : (s : Sheet) (k : Key) (p : Point) → in_tile k p ≡ true → pixel_at (tile_or (tile_under s.tiles k) s.default_pixel) p ≡ sheet_at s p
+stands_at s k p h = sym (pixel_or-tile_or (tile_under s.tiles k) s.default_pixel p) ∙ ap (λ m. pixel_or (tile_under s.tiles m) s.default_pixel p) (sym (key_same (key_of p) k h))
+
 some_same : {A : Type 0} (x y : A) → Some x ≡ Some y → x ≡ y
 some_same x y e = cc
 
 some_none : {A : Type 0} (x : A) → Some x ≡ None → ⊥
 some_none x e = cc
+
+-- what the job makes of the shot
+abbrev pub made : Paint → Point → Rgba
+made w p = at (apply w.job (paints.layer_of w.shot)) p
 
 -- the key of what a painting left
 pub key_made : (w : Paint) (x : Stuff) → Makes w x → x.key ≡ w.key
@@ -104,14 +122,9 @@ all_laid x s t n e so w m p h = so w m p h ∙ ap (λ bs. cond (any_holds (map (
     and_true true = refl
     and_true false = refl
 
--- what the one block makes of any tile is the tile with all of the blocks
-pub one_block_laid : (x : Stuff) (s : Sheet) (t : Pixels) (b : Piece) → length x.blocks ≡ 1 → Some b ≡ slice_get x.blocks 0 → IsLaidBy t b → IsLaidFrom x s t
-one_block_laid x s t b one e by =
-    let old : Pixels = tile_or (tile_under s.tiles x.key) s.default_pixel in
-    all_laid x s t 1 (sym one) (one_laid x s old t 0 b e (by old) (none_laid x s old x.key refl (old_at x.key)))
-  where
-    old_at : (k : Key) (p : Point) → in_tile k p ≡ true → pixel_at (tile_or (tile_under s.tiles k) s.default_pixel) p ≡ sheet_at s p
-    old_at k p h = sym (pixel_or-tile_or (tile_under s.tiles k) s.default_pixel p) ∙ ap (λ m. pixel_or (tile_under s.tiles m) s.default_pixel p) (sym (key_same (key_of p) k h))
+-- with the one block laid the tile that stood there is the tile with all of the blocks
+pub one_block_laid : (x : Stuff) (s : Sheet) (before after : Pixels) (b : Piece) → length x.blocks ≡ 1 → Some b ≡ slice_get x.blocks 0 → tile_under s.tiles x.key ≡ Some before → LaysBlock before after b → IsLaidFrom x s after
+one_block_laid x s before after b one e was lays = all_laid x s after 1 (sym one) (one_laid x s before after 0 b e lays (none_laid x s before x.key refl (λ p h. tile_at s x.key before p h (sym was))))
 
 pub ready_there : (s : Sheet) (k : Key) → fin.contains_key (readied s k).tiles k ≡ true
 ready_there s k = go (fin.contains_key s.tiles k) refl
@@ -131,19 +144,24 @@ ready_default s k = go (fin.contains_key s.tiles k)
 pub ready_layer : (s : Sheet) (k : Key) → layer_of (readied s k) ≡ layer_of s
 ready_layer s k = layer_ext _ _ (default-layer_of (readied s k) ∙ ready_default s k ∙ sym (default-layer_of s)) (λ p. at-layer_of (readied s k) p ∙ ready_keeps_pixels s k p ∙ sym (at-layer_of s p))
 
-pub default_published : (w : Paint) (l : Layer) → (published w.job (paints.layer_of w.shot) w.key l).default_pixel ≡ l.default_pixel
-unfolding published
-default_published w l = default-painted _ _ _ l
+-- another tile under a key that came in
+pub with_readied : (s : Sheet) (k : Key) (t : Option Pixels) → with_under (readied s k) k t ≡ with_under s k t
+with_readied s k t = go (fin.contains_key s.tiles k)
+  where
+    again : (q : Key) (b : Bool) → cond b (Some t) (cond b (Some None) (fin.get s.tiles q)) ≡ cond b (Some t) (fin.get s.tiles q)
+    again q true = refl
+    again q false = refl
 
-pub at_published : (w : Paint) (l : Layer) (p : Point) → at (published w.job (paints.layer_of w.shot) w.key l) p ≡ cond (any_holds (writes w.job) p && in_tile w.key p) (made w p) (at l p)
-unfolding published
-at_published w l p = at-painted _ _ _ l p
+    go : (b : Bool) → with_under (cond b s (with_under s k None)) k t ≡ with_under s k t
+    go true = refl
+    go false = ap (sheet s.default_pixel) (fin.same_map key_cmp_total key_cmp-IsAntisymmetric _ _ (λ q.
+        fin.get-insert key_cmp_total (fin.insert s.tiles k None) k t q ∙ ap (cond (same_key q k) (Some t)) (fin.get-insert key_cmp_total s.tiles k None q) ∙ again q (same_key q k) ∙ sym (fin.get-insert key_cmp_total s.tiles k t q)))
 
 -- with that tile the layer has what was painted
-pub laid_layer : (w : Paint) (s : Sheet) (t : Pixels) → IsLaid w s t → layer_of (with_under (readied s w.key) w.key (Some t)) ≡ published w.job (paints.layer_of w.shot) w.key (layer_of s)
-laid_layer w s t is = layer_ext _ _
-    (default-layer_of (with_under (readied s w.key) w.key (Some t)) ∙ ready_default s w.key ∙ sym (default_published w (layer_of s) ∙ default-layer_of s))
-    (λ p. at-layer_of (with_under (readied s w.key) w.key (Some t)) p ∙ seen_after_exchange (readied s w.key) w.key (Some t) p ∙ go p (in_tile w.key p) refl ∙ sym (at_published w (layer_of s) p ∙ ap (cond _ (made w p)) (at-layer_of s p)))
+pub laid_layer : (job : Job) (shot : Layer) (k : Key) (s : Sheet) (t : Pixels) → IsLaid job shot k s t → layer_of (with_under s k (Some t)) ≡ published job shot k (layer_of s)
+laid_layer job shot k s t is = layer_ext _ _
+    (default-layer_of (with_under s k (Some t)) ∙ sym (default-published job shot k (layer_of s) ∙ default-layer_of s))
+    (λ p. at-layer_of (with_under s k (Some t)) p ∙ seen_after_exchange s k (Some t) p ∙ go p (in_tile k p) refl ∙ sym (at-published job shot k (layer_of s) p ∙ ap (cond _ (at (apply job shot) p)) (at-layer_of s p)))
   where
     and_true : (a : Bool) → a ≡ (a && true)
     and_true true = refl
@@ -153,21 +171,49 @@ laid_layer w s t is = layer_ext _ _
     and_false true = refl
     and_false false = refl
 
-    go : (p : Point) (b : Bool) → in_tile w.key p ≡ b → cond (in_tile w.key p) (pixel_at t p) (sheet_at (readied s w.key) p) ≡ cond (any_holds (writes w.job) p && in_tile w.key p) (made w p) (sheet_at s p)
-    go p true h = taken (in_tile w.key p) _ _ h ∙ is p h ∙ ap (λ c. cond c (made w p) (sheet_at s p)) (and_true (any_holds (writes w.job) p) ∙ ap (λ c. any_holds (writes w.job) p && c) (sym h))
-    go p false h = kept (in_tile w.key p) _ _ h ∙ ready_keeps_pixels s w.key p ∙ ap (λ c. cond c (made w p) (sheet_at s p)) (and_false (any_holds (writes w.job) p) ∙ ap (λ c. any_holds (writes w.job) p && c) (sym h))
+    go : (p : Point) (b : Bool) → in_tile k p ≡ b → cond (in_tile k p) (pixel_at t p) (sheet_at s p) ≡ cond (any_holds (writes job) p && in_tile k p) (at (apply job shot) p) (sheet_at s p)
+    go p true h = taken (in_tile k p) _ _ h ∙ is p h ∙ ap (λ c. cond c (at (apply job shot) p) (sheet_at s p)) (and_true (any_holds (writes job) p) ∙ ap (λ c. any_holds (writes job) p && c) (sym h))
+    go p false h = kept (in_tile k p) _ _ h ∙ ap (λ c. cond c (at (apply job shot) p) (sheet_at s p)) (and_false (any_holds (writes job) p) ∙ ap (λ c. any_holds (writes job) p && c) (sym h))
 
-one_held : (bs : List Piece) (b : Piece) (p : Point) → length bs ≡ 1 → Some b ≡ slice_get bs 0 → holds b.rect p ≡ any_holds (map (λ (b : Piece). b.rect) bs) p
-one_held bs b p one e = sym (more_held bs 0 b p e) ∙ ap (λ cs. any_holds (map (λ (b : Piece). b.rect) cs) p) (ap (λ n. take n bs) (sym one) ∙ take-length bs)
+-- the same where it was laid in place
+pub changed_layer : (job : Job) (shot : Layer) (R : Pixels → Pixels → Type 0) (old new : Sheet) (k : Key) → LaysUnder R old new k → ((before after : Pixels) → tile_under old.tiles k ≡ Some before → R before after → IsLaid job shot k old after) → layer_of new ≡ published job shot k (layer_of old)
+changed_layer job shot R old new k l is = ap layer_of l.new_is ∙ laid_layer job shot k old l.after (is l.before l.after l.was l.lays)
 
--- with the one block written the layer has what was painted
-pub written_layer : (x : Stuff) (old new : Sheet) (b : Piece) → length x.blocks ≡ 1 → Some b ≡ slice_get x.blocks 0 → WritesBlock old new b → (w : Paint) → Makes w x → layer_of new ≡ published w.job (paints.layer_of w.shot) w.key (layer_of old)
-written_layer x old new b one e wrote w m = layer_ext _ _
-    (default-layer_of new ∙ wrote.default_pixel ∙ sym (default_published w (layer_of old) ∙ default-layer_of old))
-    (λ p. at-layer_of new p ∙ wrote.at p ∙ go p (holds b.rect p) refl
-    ∙ ap (λ c. cond c (made w p) (sheet_at old p)) (one_held x.blocks b p one e ∙ covers_made w x m p)
-    ∙ sym (at_published w (layer_of old) p ∙ ap (cond _ (made w p)) (at-layer_of old p)))
+-- outside its writes a job leaves what is there
+by_writes : (job : Job) (s : Sheet) (p : Point) → at (apply job (layer_of s)) p ≡ cond (any_holds (writes job) p) (at (apply job (layer_of s)) p) (sheet_at s p)
+by_writes job s p = go (any_holds (writes job) p) refl
   where
-    go : (p : Point) (c : Bool) → holds b.rect p ≡ c → cond c (piece_at b p) (sheet_at old p) ≡ cond c (made w p) (sheet_at old p)
-    go p true h = (value_made w x 0 b m e).value_is p h
-    go p false h = refl
+    go : (b : Bool) → any_holds (writes job) p ≡ b → at (apply job (layer_of s)) p ≡ cond b (at (apply job (layer_of s)) p) (sheet_at s p)
+    go true h = refl
+    go false h = laws_of_jobs.outside job (layer_of s) p h ∙ at-layer_of s p
+
+-- a point operation painted on the pixels that stand under its key
+pub points_laid : (w : Spot) (s : Sheet) (before after : Pixels) → ((p : Point) → in_tile w.key p ≡ true → pixel_at before p ≡ sheet_at s p) → LaysPoints w before after → IsPaintedOn w s after
+points_laid w s before after same lays p h = sym (lays (layer_of s) (λ p h. at-layer_of s p ∙ sym (same p h)) p h) ∙ by_writes w.job s p
+
+-- the tile of the one pixel that it leaves
+pub plain_laid : (w : Spot) (s : Sheet) (under : Option Rgba) (c : Rgba) → IfSome under (IsPlainUnder s w.key) → LeavesPlain w under c → IsPaintedOn w s (replicate 4096 c)
+plain_laid w s under c is leaves p h = sym (pixel_or-tile_or None c p) ∙ sym (leaves (layer_of s) (λ g e p h. at-layer_of s p ∙ known under g e is p h) p h) ∙ by_writes w.job s p
+  where
+    known : (under : Option Rgba) (g : Rgba) → under ≡ Some g → IfSome under (IsPlainUnder s w.key) → IsPlainUnder s w.key g
+    known None g e is = absurd (some_none g (sym e))
+    known (Some c) g e is = subst (IsPlainUnder s w.key) (some_same c g e) is
+
+-- a point operation writes in tiles of the world
+pub work_key : (w : Spot) → IsPointWork w → IsWorldKey w.key
+work_key w is = go w.job is.point_op is.checked is.limits is.met
+  where
+    no : {A : Type 0} → false ≡ true → A
+    no e = absurd (never e)
+      where
+        never : false ≡ true → ⊥
+        never e = cc
+
+    some : (r : ℕ) → 1 ≤ 2 * r + 1
+    some r = omega arith
+
+    go : (job : Job) → is_point_op job ≡ true → checks job ≡ true → within_limits job ≡ true → list_any (same_key w.key) (all_keys_of (writes job)) ≡ true → IsWorldKey w.key
+    go (Fill rect colour op strength) point checked limits met = world_key rect w.key (and_left _ _ checked) (one_met rect w.key (some_of_limits rect limits) met)
+    go (Dab x y r soft colour op strength) point checked limits met = world_key (square x y r) w.key (and_left _ _ checked) (one_met (square x y r) w.key (some r, some r) met)
+    go (Move rect dx dy) point checked limits met = no point
+    go (Blur rect r) point checked limits met = no point

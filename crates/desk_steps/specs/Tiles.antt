@@ -7,23 +7,30 @@ use Rattle.geom_core.specs.Areas.{any_holds}
 use Rattle.geom_core.specs.Grid.{Key, key}
 use Rattle.tile_core.specs.Pixels.{Pixels, pixel_at}
 use Rattle.memento_core.specs.Planes.{tile_under}
-use Rattle.doc_model.specs.Layers.{at}
+use Rattle.doc_model.specs.declared.job.Job.{Job}
+use Rattle.doc_model.specs.Layers.{Layer, at}
 use Rattle.doc_model.specs.Jobs.{writes, apply, in_tile}
 use Rattle.job_core.specs.Paints as paints
 use Rattle.job_core.specs.Paints.{Paint, Stuff, Makes}
+use Rattle.job_core.specs.Points.{Spot}
+use Rattle.paint_device.specs.Seen.{layer_of}
 use Rattle.paint_device.specs.Sheets.{Sheet, sheet_at}
 
--- what the job makes of the shot
-abbrev pub made : Paint → Point → Rgba
-made w p = at (apply w.job (paints.layer_of w.shot)) p
+-- the tile has what the job makes of a layer where the job writes, and the sheet's pixels elsewhere
+abbrev pub IsLaid : Job → Layer → Key → Sheet → Pixels → Type 0
+IsLaid job shot k s t = (p : Point) → in_tile k p ≡ true → pixel_at t p ≡ cond (any_holds (writes job) p) (at (apply job shot) p) (sheet_at s p)
 
--- the tile has what the job makes of the shot where the job writes, and the sheet's pixels elsewhere
-abbrev pub IsLaid : Paint → Sheet → Pixels → Type 0
-IsLaid w s t = (p : Point) → in_tile w.key p ≡ true → pixel_at t p ≡ cond (any_holds (writes w.job) p) (made w p) (sheet_at s p)
-
--- the same, whichever painting left these blocks
+-- the same of the shot of whichever painting left these blocks
 abbrev pub IsLaidFrom : Stuff → Sheet → Pixels → Type 0
-IsLaidFrom made s t = (w : Paint) → Makes w made → IsLaid w s t
+IsLaidFrom made s t = (w : Paint) → Makes w made → IsLaid w.job (paints.layer_of w.shot) w.key s t
+
+-- the same of the sheet's own layer
+abbrev pub IsPaintedOn : Spot → Sheet → Pixels → Type 0
+IsPaintedOn w s t = IsLaid w.job (layer_of s) w.key s t
+
+-- the pixel is the sheet's at each point of the tile
+abbrev pub IsPlainUnder : Sheet → Key → Rgba → Type 0
+IsPlainUnder s k c = (p : Point) → in_tile k p ≡ true → sheet_at s p ≡ c
 
 -- the tile to the left of the key, or else the one above
 abbrev pub beside : Sheet → Key → Option Pixels

@@ -12,6 +12,7 @@ ghost use Rattle.doc_model.specs.Laws.{IsDocument};
 ghost use Rattle.doc_model.specs.declared.tree.TreeFault.{TreeFault};
 ghost use Rattle.job_core.specs.Paints as paints;
 ghost use Rattle.job_core.specs.Paints.{Paint, Makes};
+ghost use Rattle.job_core.specs.Points.{painted_in};
 ghost use Rattle.paint_device.specs.Seen.{layer_of};
 ghost use Rattle.desk_steps.specs.declared.reach.TreeRefusal.TheVariants as refusal;
 ghost use Rattle.desk_steps.specs.Archives.{shape};
@@ -19,10 +20,11 @@ ghost use Rattle.desk_steps.specs.Documents.{PutsDevice, AdjustsDevice, new_devi
 
 use crate::keys::KeySet;
 use crate::laying::lay;
+use crate::painting::paint;
 use crate::reach::TreeRefusal;
 use doc_model::Change;
 use geom_core::NoMemory;
-use job_core::Made;
+use job_core::{Made, PointWork};
 use paint_device::Device;
 use std::alloc::Global;
 use std::collections::BTreeMap;
@@ -107,6 +109,23 @@ impl Document {
         lay_under(alloc, &mut self.devices, id, keys, made)
     }
 
+    /// Paints a point operation in one tile of a paint layer, and adds the tile to the keys.
+    pub fn paint(
+        &mut self,
+        alloc: Global,
+        id: u16,
+        keys: &mut KeySet,
+        work: &PointWork<'_>,
+    ) -> Result<(), NoMemory>
+        requires { is_some (content id self.old) ≡ true }
+        ensures ok { OnOk result (self.new ≡ adjusted id (painted_in work.now.job work.now.key) self.old) }
+        ensures keys { OnOk result (keys.new ≡ set.insert keys.old work.now.key) }
+        ensures err { OnErr result (self.new ≡ self.old) }
+        ensures no_key { OnErr result (keys.new ≡ keys.old) }
+    {
+        paint_under(alloc, &mut self.devices, id, keys, work)
+    }
+
     /// The document after a change of the tree. The tiles of the layers that stay are shared.
     ///
     /// # Errors
@@ -158,6 +177,26 @@ fn lay_under(
     }
 }
 
+/// Paints a point operation on the device under an id that is there.
+fn paint_under(
+    alloc: Global,
+    devices: &mut BTreeMap<u16, Device>,
+    id: u16,
+    keys: &mut KeySet,
+    work: &PointWork<'_>,
+) -> Result<(), NoMemory>
+    requires { is_some (btree.get nat_cmp devices.old id) ≡ true }
+    ensures ok { OnOk result (AdjustsDevice devices.old devices.new id (painted_in work.now.job work.now.key)) }
+    ensures keys { OnOk result (keys.new ≡ set.insert keys.old work.now.key) }
+    ensures err { OnErr result (AdjustsDevice devices.old devices.new id (λ l. l)) }
+    ensures no_key { OnErr result (keys.new ≡ keys.old) }
+{
+    match devices.get_mut(&id) {
+        Some(device) => paint(alloc, device, keys, work),
+        None => unreachable!(),
+    }
+}
+
 /// The devices of a tree's layers: those of before it was changed, shared, and that of a layer
 /// which the change has set in.
 fn devices_of(
@@ -198,7 +237,7 @@ fn shared(
 {
     let mut devices = BTreeMap::new(alloc);
     for (id, device) in old {
-        keep(&mut devices, tree, *id, device.share(alloc)?)?;
+        keep(&mut devices, tree, *id, device.share()?)?;
     }
     Ok(devices)
 }

@@ -1,7 +1,6 @@
 //! Laying what was painted on a device.
 
-ghost use Rattle.std.specs.Prelude.{◌≡◌, true, false, IfOk, IfSome, OnOk, OnErr};
-ghost use Rattle.std.specs.Option.{option_copied};
+ghost use Rattle.std.specs.Prelude.{◌≡◌, true, false, Some, IfOk, OnOk, OnErr};
 ghost use Rattle.std.specs.FinSet as set;
 ghost use Rattle.geom_core.specs.Grid.{IsWorldKey};
 ghost use Rattle.geom_core.specs.Points.{Point};
@@ -9,16 +8,17 @@ ghost use Rattle.tile_core.specs.Pixels.{pixel_at};
 ghost use Rattle.doc_model.specs.Jobs.{published, in_tile};
 ghost use Rattle.job_core.specs.Paints as paints;
 ghost use Rattle.job_core.specs.Paints.{Paint, Makes};
+ghost use Rattle.paint_device.specs.InPlace.{LaysUnder};
 ghost use Rattle.paint_device.specs.Seen.{layer_of};
-ghost use Rattle.paint_device.specs.Sheets.{sheet_at};
-ghost use Rattle.desk_steps.specs.Tiles.{IsLaidFrom, beside};
+ghost use Rattle.paint_device.specs.Sheets.{sheet_at, with_under};
+ghost use Rattle.desk_steps.specs.Tiles.{IsLaidFrom};
 
 use crate::keys::KeySet;
 use geom_core::{NoMemory, TileKey};
 use job_core::Made;
 use paint_device::Device;
 use std::alloc::Global;
-use tile_core::Tile;
+use tile_core::{Lays, Tile};
 
 /// Lays what was painted on the device, and adds its tile to the keys. Where there is no memory
 /// no pixel has changed, and no key has come.
@@ -47,15 +47,33 @@ fn laid_in_place(device: &mut Device, keys: &KeySet, made: &Made) -> bool
     ensures among { result ≡ true → set.contains keys.now made.now.key ≡ true }
     ensures kept { result ≡ false → device.new ≡ device.old }
 {
-    if made.block_count() == 1 && keys.has(made.key()) {
-        device.write_alone(made.block(0))
+    if made.block_count() == 1 {
+        changed_in_place(device, keys, made.key(), made.block(0))
     } else {
         false
     }
 }
 
-/// Lays what was painted on the device as a tile that it shares or that is new, and adds the tile to
-/// the keys.
+/// Makes a change in place of the tile under the key, where that is among the keys and nobody shares
+/// it. It tells whether it did; else nothing changes. No memory.
+pub fn changed_in_place<L: Lays>(
+    device: &mut Device,
+    keys: &KeySet,
+    key: TileKey,
+    change: &L,
+) -> bool
+    ensures laid { result ≡ true → LaysUnder (L.laid change.now) device.old device.new key }
+    ensures among { result ≡ true → set.contains keys.now key ≡ true }
+    ensures kept { result ≡ false → device.new ≡ device.old }
+{
+    if keys.has(key) {
+        device.lay_alone(key, change)
+    } else {
+        false
+    }
+}
+
+/// Lays what was painted on the device as a new tile, and adds the tile to the keys.
 fn lay_anew(
     alloc: Global,
     device: &mut Device,
@@ -67,56 +85,32 @@ fn lay_anew(
     ensures err { OnErr result (layer_of device.new ≡ layer_of device.old) }
     ensures no_key { OnErr result (keys.new ≡ keys.old) }
 {
-    let key = made.key();
     let tile = laid(alloc, device, made)?;
+    set_under(device, keys, made.key(), tile)
+}
+
+/// The tile stands under a key of the world, and that is among the keys. Where there is no memory
+/// no pixel has changed, and no key has come.
+pub fn set_under(
+    device: &mut Device,
+    keys: &mut KeySet,
+    key: TileKey,
+    tile: Tile,
+) -> Result<(), NoMemory>
+    requires { IsWorldKey key }
+    ensures ok { OnOk result (device.new ≡ with_under device.old key (Some tile)) }
+    ensures keys { OnOk result (keys.new ≡ set.insert keys.old key) }
+    ensures err { OnErr result (layer_of device.new ≡ layer_of device.old) }
+    ensures no_key { OnErr result (keys.new ≡ keys.old) }
+{
     device.ready(key)?;
     keys.insert(key)?;
     device.set_tile(key, tile);
     Ok(())
 }
 
-/// The tile under the painted key, with the painted pixels. Where a neighbour has just these, its
-/// tile is shared.
-fn laid(alloc: Global, device: &Device, made: &Made) -> Result<Tile, NoMemory>
-    ensures { IfOk result (IsLaidFrom made.now device.now) }
-{
-    match shared_neighbour(device, made) {
-        Some(tile) => tile.share(),
-        None => laid_anew(alloc, device, made),
-    }
-}
-
-/// A neighbour's tile, where it is the tile under the painted key with the painted pixels.
-fn shared_neighbour<'a>(device: &'a Device, made: &Made) -> Option<&'a Tile>
-    ensures { IfSome result (λ t. IsLaidFrom made.now device.now t.now) }
-{
-    match neighbour(device, made.key()) {
-        Some(tile) if made.block_count() == 1 && tile.is_laid_by(made.block(0)) => Some(tile),
-        _ => None,
-    }
-}
-
-/// The tile to the left of the key, or else the one above.
-fn neighbour(device: &Device, key: TileKey) -> Option<&Tile>
-    requires { IsWorldKey key }
-    ensures { option_copied result ≡ beside device.now key }
-{
-    let left = device.tile(TileKey {
-        row: key.row,
-        col: key.col - 1,
-    });
-    let above = TileKey {
-        row: key.row - 1,
-        col: key.col,
-    };
-    match left {
-        Some(tile) => Some(tile),
-        None => device.tile(above),
-    }
-}
-
 /// The tile under the painted key, with one painted block laid on it after another.
-fn laid_anew(alloc: Global, device: &Device, made: &Made) -> Result<Tile, NoMemory>
+fn laid(alloc: Global, device: &Device, made: &Made) -> Result<Tile, NoMemory>
     ensures { IfOk result (IsLaidFrom made.now device.now) }
 {
     let key = made.key();

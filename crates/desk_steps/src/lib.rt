@@ -5,6 +5,7 @@ mod document;
 mod entry;
 mod keys;
 mod laying;
+mod painting;
 mod reach;
 mod store;
 

@@ -15,7 +15,7 @@ ghost use Rattle.job_core.specs.Paints.{Paint, Makes, IsMade, layer_of};
 ghost use Rattle.desk_steps.specs.declared.reach.Reach.TheVariants as tells;
 ghost use Rattle.desk_steps.specs.declared.reach.TreeRefusal.TheVariants as refusal;
 ghost use Rattle.desk_steps.specs.declared.reach.Begun.TheVariants.{Ready, NoLayer, NotPaint};
-ghost use Rattle.desk_steps.specs.Archives.{Archive, IsArchive, Changes, HasTouched, TellsFirst, empty_archive, layer_under_way, shape, with_put, finished, reverted, undone, redone, tiles_in_first};
+ghost use Rattle.desk_steps.specs.Archives.{Archive, IsArchive, Changes, HasTouched, TellsFirst, empty_archive, layer_under_way, shape, with_put, with_painted, finished, reverted, undone, redone, tiles_in_first};
 
 use crate::document::Document;
 use crate::entry::{Entry, Way};
@@ -24,7 +24,7 @@ use crate::reach::{Begun, Reach, TreeRefusal};
 use doc_model::Change;
 use geom_core::{NoMemory, Rect, TileKey, Touched};
 use history_core::UndoStack;
-use job_core::{Made, Painted};
+use job_core::{Made, Painted, PointWork};
 use memento_core::Steps;
 use pixel_core::Pixel;
 use std::alloc::Global;
@@ -94,7 +94,7 @@ impl Store {
     {
         match self.doc.layer(layer) {
             Some(device) => {
-                let before = device.share(self.alloc)?;
+                let before = device.share()?;
                 self.way = Some(Way {
                     id: layer,
                     keys: KeySet::new(self.alloc),
@@ -142,6 +142,19 @@ impl Store {
         let _key = made.key();
         match &mut self.way {
             Some(way) => self.doc.put(alloc, way.id, &mut way.keys, made),
+            None => unreachable!(),
+        }
+    }
+
+    /// Paints a point operation in one tile of the stroke's layer, in place where the stroke has put
+    /// the tile before and nobody shares it. On `NoMemory` nothing has changed.
+    pub fn paint(&mut self, alloc: Global, work: &PointWork<'_>) -> Result<(), NoMemory>
+        requires { is_some self.old.way ≡ true }
+        ensures ok { OnOk result (self.new ≡ with_painted self.old.way work.now self.old) }
+        ensures err { OnErr result (self.new ≡ self.old) }
+    {
+        match &mut self.way {
+            Some(way) => self.doc.paint(alloc, way.id, &mut way.keys, work),
             None => unreachable!(),
         }
     }

@@ -11,6 +11,7 @@ ghost use Rattle.tile_core.specs.Blocks.{LaysBlock};
 ghost use Rattle.tile_core.specs.Shots.{sight_at};
 ghost use Rattle.paint_device.specs.Sheets.{IsSheet, sheet, sheet_at, with_under, readied, tile_or, WritesBlock};
 ghost use Rattle.paint_device.specs.Grabs.{Grabs};
+ghost use Rattle.paint_device.specs.InPlace.{LaysUnder};
 ghost use Rattle.paint_device.specs.Extents.{IsExtent};
 
 use crate::keyed::{extent_of, lay_alone_under, put_under, shared, swap_under, tile_in};
@@ -21,7 +22,7 @@ use std::alloc::Global;
 use std::collections::BTreeMap;
 use std::marker::Model;
 use std::sync::ledger::Ledger;
-use tile_core::{Block, Shot, Tile};
+use tile_core::{Block, Lays, Shot, Tile};
 
 /// The pixels of a layer: a set of keys of the world, each with a shared tile or None, and one
 /// pixel, the ground, wherever no tile stands. The ground is the layer's default pixel.
@@ -97,7 +98,7 @@ impl Device {
     }
 
     /// A device of the same value. Its tiles are shared, not copied.
-    pub fn share(&self, _alloc: Global) -> Result<Device, NoMemory>
+    pub fn share(&self) -> Result<Device, NoMemory>
         ensures { IfOk result (λ d. d ≡ self.now) }
     {
         Ok(Device {
@@ -130,14 +131,13 @@ impl Device {
         self.put(block.key(), Some(tile))
     }
 
-    /// The same in place, where a tile stands under the block's key and nobody shares it. It tells
-    /// whether it did; else nothing changes. No memory.
-    pub fn write_alone(&mut self, block: &Block) -> bool
-        ensures written { result ≡ true → WritesBlock self.old self.new block.now }
+    /// Makes a change in place of the tile under the key, where one stands there that nobody shares,
+    /// and tells whether it did; else nothing changes. No memory.
+    pub fn lay_alone<L: Lays>(&mut self, key: TileKey, change: &L) -> bool
+        ensures laid { result ≡ true → LaysUnder (L.laid change.now) self.old self.new key }
         ensures kept { result ≡ false → self.new ≡ self.old }
     {
-        let _key = block.key();
-        lay_alone_under(&mut self.tiles, block)
+        lay_alone_under(&mut self.tiles, key, change)
     }
 
     /// What stands under the block's key, with the block's pixels.

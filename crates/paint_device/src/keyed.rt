@@ -14,7 +14,7 @@ ghost use Rattle.paint_device.specs.Extents.{IsExtent, lies_if, tile_lies};
 use geom_core::{NoMemory, Rect, TileKey};
 use std::collections::BTreeMap;
 use std::mem;
-use tile_core::{Block, Tile};
+use tile_core::{Lays, Tile};
 
 /// That tile or None goes under the key.
 pub fn put_under(
@@ -45,25 +45,29 @@ pub fn swap_under(
     }
 }
 
-/// Lays the block on the tile that stands under its key, in place, where nobody shares that tile,
+/// Makes the change in the tile that stands under the key, in place, where nobody shares that tile,
 /// and tells whether it did.
-pub fn lay_alone_under(tiles: &mut BTreeMap<TileKey, Option<Tile>>, block: &Block) -> bool
-    ensures laid { result ≡ true → LaidUnder tiles.old tiles.new block.now }
+pub fn lay_alone_under<L: Lays>(
+    tiles: &mut BTreeMap<TileKey, Option<Tile>>,
+    key: TileKey,
+    change: &L,
+) -> bool
+    ensures laid { result ≡ true → LaidUnder (L.laid change.now) tiles.old tiles.new key }
     ensures kept { result ≡ false → (q : Key) → tree.get key_cmp tiles.new q ≡ tree.get key_cmp tiles.old q }
 {
-    match tiles.get_mut(&block.key()) {
-        Some(place) => lay_alone(place, block),
+    match tiles.get_mut(&key) {
+        Some(place) => lay_alone(place, change),
         None => false,
     }
 }
 
-/// Lays the block on the tile, if one is there and nobody shares it, and tells whether it did.
-fn lay_alone(place: &mut Option<Tile>, block: &Block) -> bool
-    ensures laid { result ≡ true → LaidAlone place.old place.new block.now }
+/// Makes the change in the tile, if one is there and nobody shares it, and tells whether it did.
+fn lay_alone<L: Lays>(place: &mut Option<Tile>, change: &L) -> bool
+    ensures laid { result ≡ true → LaidAlone (L.laid change.now) place.old place.new }
     ensures kept { result ≡ false → place.new ≡ place.old }
 {
     match place {
-        Some(tile) => tile.lay_alone(block),
+        Some(tile) => tile.lay_alone(change),
         None => false,
     }
 }

@@ -88,7 +88,7 @@ fn a_copy_and_untouched_points(rt: HostRuntime) -> Result<(), Fail> {
     let mut device = Device::new(alloc, ground);
     assert_eq!(rt; device.at(-16384, 16383), ground);
     device.ready(ORIGIN)?;
-    let copy = device.share(alloc)?;
+    let copy = device.share()?;
     assert!(rt; device.has(ORIGIN));
     if device.has(ORIGIN) {
         device.set_tile(ORIGIN, Tile::plain(alloc, red)?);
@@ -98,7 +98,7 @@ fn a_copy_and_untouched_points(rt: HostRuntime) -> Result<(), Fail> {
     assert_eq!(rt; copy.at(63, 63), ground);
     assert!(rt; copy.has(ORIGIN));
     assert!(rt; copy.tile(ORIGIN).is_none());
-    assert_eq!(rt; device.share(alloc)?.at(0, 0), red);
+    assert_eq!(rt; device.share()?.at(0, 0), red);
     crosses(&device);
     Ok(())
 }

@@ -1,20 +1,15 @@
-use Rattle.std.proofs.Common.{◌≡◌, Some, ap, ◌∙◌}
-use Rattle.std.specs.FinMap as map
+use Rattle.std.proofs.Common.{◌≡◌, sym, subst, ap, ◌∙◌}
+use Rattle.doc_model.specs.Jobs.{published}
+use Rattle.job_core.specs.Paints as paints
 use Rattle.paint_device.specs.Seen.{layer_of}
-use Rattle.paint_device.specs.Sheets.{Sheet, with_under, readied}
-use Rattle.desk_steps.proofs.Devices.{on_err}
-use Rattle.desk_steps.proofs.Lain.{key_made, ready_layer, ready_there, laid_layer}
+use Rattle.desk_steps.proofs.Devices.{more_ok}
+use Rattle.desk_steps.proofs.Lain.{key_made, laid_layer}
+use Rattle.desk_steps.specs.Tiles.{IsLaid}
 use Rattle.desk_steps.proofs.laying.lay_anew.Goals as goal
-
-pub returns-in_err-insert-clause-err : goal.returns-in_err-insert-clause-err
-returns-in_err-insert-clause-err c = on_err c.from_residual-in_err-insert.result (ap layer_of c.in_ok-ready.ensures.ok ∙ ready_layer c.args.device.now c.key-key.result)
-
-pub set_tile-requires : goal.set_tile-requires
-set_tile-requires c = ap (λ (s : Sheet). map.contains_key s.tiles c.key-key.result) c.in_ok-ready.ensures.ok ∙ ready_there c.args.device.now c.key-key.result
 
 pub returns-clause-ok : goal.returns-clause-ok
 returns-clause-ok c w m =
-    let key : c.key-key.result ≡ w.key = c.key-key.ensures.value ∙ key_made w c.args.made.now m in
-    let put : c.set_tile.new.self ≡ with_under (readied c.args.device.now w.key) w.key (Some c.in_ok-tile.tile) =
-    c.set_tile.ensures ∙ ap (λ s. with_under s c.key-key.result (Some c.in_ok-tile.tile)) c.in_ok-ready.ensures.ok ∙ ap (λ k. with_under (readied c.args.device.now k) k (Some c.in_ok-tile.tile)) key in
-    ap layer_of put ∙ laid_layer w c.args.device.now c.in_ok-tile.tile (c.in_ok-tile.ensures w m)
+    let key : c.key.result ≡ w.key = c.key.ensures.value ∙ key_made w c.args.made.now m in
+    more_ok c.set_under.result
+    (λ e. ap layer_of e ∙ laid_layer w.job (paints.layer_of w.shot) c.key.result c.args.device.now c.in_ok-tile.tile (subst (λ k. IsLaid w.job (paints.layer_of w.shot) k c.args.device.now c.in_ok-tile.tile) (sym key) (c.in_ok-tile.ensures w m))
+        ∙ ap (λ k. published w.job (paints.layer_of w.shot) k (layer_of c.args.device.now)) key) c.set_under.ensures.ok

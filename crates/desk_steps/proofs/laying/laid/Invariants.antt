@@ -1,6 +1,6 @@
 use Rattle.std.proofs.Common.{take}
 use Rattle.desk_steps.proofs.Lain.{LaidSoFar}
-use Rattle.desk_steps.proofs.laying.laid_anew.Given as goal
+use Rattle.desk_steps.proofs.laying.laid.Given as goal
 
 -- the blocks so far are laid
 abbrev pub invariant-loop-i : goal.invariant-loop-i

@@ -1,6 +1,6 @@
 use Rattle.std.proofs.Common.{◌≡◌, length, arith}
 use Rattle.desk_steps.proofs.Lain.{none_laid, one_laid, all_laid}
-use Rattle.desk_steps.proofs.laying.laid_anew.Goals as goal
+use Rattle.desk_steps.proofs.laying.laid.Goals as goal
 
 pub loop-i-init : goal.loop-i-init
 loop-i-init c = none_laid c.args.made.now c.args.device.now c.in_ok-tile.tile c.key-key.result c.key-key.ensures.value c.in_ok-tile.ensures

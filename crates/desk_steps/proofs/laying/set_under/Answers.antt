@@ -1,0 +1,16 @@
+use Rattle.std.proofs.Common.{Some, ap, ◌∙◌}
+use Rattle.std.specs.FinMap as map
+use Rattle.paint_device.specs.Seen.{layer_of}
+use Rattle.paint_device.specs.Sheets.{Sheet, with_under}
+use Rattle.desk_steps.proofs.Devices.{on_err}
+use Rattle.desk_steps.proofs.Lain.{ready_layer, ready_there, with_readied}
+use Rattle.desk_steps.proofs.laying.set_under.Goals as goal
+
+pub returns-in_err-insert-clause-err : goal.returns-in_err-insert-clause-err
+returns-in_err-insert-clause-err c = on_err c.from_residual-in_err-insert.result (ap layer_of c.in_ok-ready.ensures.ok ∙ ready_layer c.args.device.now c.args.key)
+
+pub set_tile-requires : goal.set_tile-requires
+set_tile-requires c = ap (λ (s : Sheet). map.contains_key s.tiles c.args.key) c.in_ok-ready.ensures.ok ∙ ready_there c.args.device.now c.args.key
+
+pub returns-clause-ok : goal.returns-clause-ok
+returns-clause-ok c = c.set_tile.ensures ∙ ap (λ s. with_under s c.args.key (Some c.args.tile)) c.in_ok-ready.ensures.ok ∙ with_readied c.args.device.now c.args.key (Some c.args.tile)

@@ -1,0 +1,133 @@
+//! Painting point operations on a device.
+
+ghost use Rattle.std.specs.Prelude.{◌≡◌, vec_len, replicate, IfOk, IfSome, OnOk, OnErr};
+ghost use Rattle.std.specs.Option.{option_copied};
+ghost use Rattle.std.specs.FinSet as set;
+ghost use Rattle.geom_core.specs.Grid.{IsWorldKey};
+ghost use Rattle.memento_core.specs.Planes.{tile_under};
+ghost use Rattle.job_core.specs.Points.{painted_in};
+ghost use Rattle.paint_device.specs.Seen.{layer_of};
+ghost use Rattle.paint_device.specs.Sheets.{tile_or};
+ghost use Rattle.desk_steps.specs.Tiles.{IsPaintedOn, IsPlainUnder, beside};
+
+use crate::keys::KeySet;
+use crate::laying::{changed_in_place, set_under};
+use geom_core::{NoMemory, TileKey};
+use job_core::PointWork;
+use paint_device::Device;
+use pixel_core::Pixel;
+use std::alloc::Global;
+use tile_core::{Lays, Tile};
+
+/// Paints a point operation on the device, and adds its tile to the keys. Where there is no memory
+/// no pixel has changed, and no key has come.
+pub fn paint(
+    alloc: Global,
+    device: &mut Device,
+    keys: &mut KeySet,
+    work: &PointWork<'_>,
+) -> Result<(), NoMemory>
+    ensures ok { OnOk result (layer_of device.new ≡ painted_in work.now.job work.now.key (layer_of device.old)) }
+    ensures keys { OnOk result (keys.new ≡ set.insert keys.old work.now.key) }
+    ensures err { OnErr result (layer_of device.new ≡ layer_of device.old) }
+    ensures no_key { OnErr result (keys.new ≡ keys.old) }
+{
+    let key = work.key();
+    if changed_in_place(device, keys, key, work) {
+        Ok(())
+    } else {
+        paint_anew(alloc, device, keys, work)
+    }
+}
+
+/// Paints it as another tile, and adds that to the keys.
+fn paint_anew(
+    alloc: Global,
+    device: &mut Device,
+    keys: &mut KeySet,
+    work: &PointWork<'_>,
+) -> Result<(), NoMemory>
+    ensures ok { OnOk result (layer_of device.new ≡ painted_in work.now.job work.now.key (layer_of device.old)) }
+    ensures keys { OnOk result (keys.new ≡ set.insert keys.old work.now.key) }
+    ensures err { OnErr result (layer_of device.new ≡ layer_of device.old) }
+    ensures no_key { OnErr result (keys.new ≡ keys.old) }
+{
+    let tile = painted(alloc, device, work)?;
+    set_under(device, keys, work.key(), tile)
+}
+
+/// The tile under the key with what the point operation makes of it.
+fn painted(alloc: Global, device: &Device, work: &PointWork<'_>) -> Result<Tile, NoMemory>
+    ensures { IfOk result (IsPaintedOn work.now device.now) }
+{
+    let key = work.key();
+    match work.plain(plain_under(device, key)) {
+        Some(pixel) => plain_tile(alloc, device, key, pixel),
+        None => painted_copy(alloc, device, work),
+    }
+}
+
+/// A tile of one pixel: a neighbour's, shared, where that is such a one, or else a new one.
+fn plain_tile(
+    alloc: Global,
+    device: &Device,
+    key: TileKey,
+    pixel: Pixel,
+) -> Result<Tile, NoMemory>
+    requires { IsWorldKey key }
+    ensures { IfOk result (λ t. t ≡ replicate 4096 pixel) }
+{
+    match neighbour(device, key) {
+        Some(tile) if tile.is_plain(pixel) => tile.share(),
+        _ => Tile::plain(alloc, pixel),
+    }
+}
+
+/// The tile to the left of the key, or else the one above.
+fn neighbour(device: &Device, key: TileKey) -> Option<&Tile>
+    requires { IsWorldKey key }
+    ensures { option_copied result ≡ beside device.now key }
+{
+    let left = device.tile(TileKey {
+        row: key.row,
+        col: key.col - 1,
+    });
+    let above = TileKey {
+        row: key.row - 1,
+        col: key.col,
+    };
+    match left {
+        Some(tile) => Some(tile),
+        None => device.tile(above),
+    }
+}
+
+/// The device's ground, where no tile stands under the key.
+fn plain_under(device: &Device, key: TileKey) -> Option<Pixel>
+    ensures { IfSome result (IsPlainUnder device.now key) }
+{
+    match device.tile(key) {
+        Some(_) => None,
+        None => Some(device.ground()),
+    }
+}
+
+/// A copy of the pixels under the key, with the point operation painted on it.
+fn painted_copy(alloc: Global, device: &Device, work: &PointWork<'_>) -> Result<Tile, NoMemory>
+    ensures { IfOk result (IsPaintedOn work.now device.now) }
+{
+    let mut pixels = pixels_under(alloc, device, work.key())?;
+    work.lay(&mut pixels);
+    Tile::from_pixels(alloc, pixels)
+}
+
+/// A copy of the 4,096 pixels under the key.
+fn pixels_under(alloc: Global, device: &Device, key: TileKey) -> Result<Vec<Pixel>, NoMemory>
+    ensures all { IfOk result (λ v. vec_len v ≡ 4096) }
+    ensures value { IfOk result (λ v. v.items ≡ tile_or (tile_under device.now.tiles key) device.now.default_pixel) }
+{
+    match device.tile(key) {
+        Some(tile) => Ok(Vec::from_slice(alloc, tile.pixels())?),
+        None => Ok(vec![in alloc; device.ground(); 4096]?),
+    }
+}
