@@ -52,64 +52,8 @@ fn paint_anew(
     ensures err { OnErr result (layer_of device.new ≡ layer_of device.old) }
     ensures no_key { OnErr result (keys.new ≡ keys.old) }
 {
-    let tile = painted(alloc, device, work)?;
+    let tile = painted_copy(alloc, device, work)?;
     set_under(device, keys, work.key(), tile)
-}
-
-/// The tile under the key with what the point operation makes of it.
-fn painted(alloc: Global, device: &Device, work: &PointWork<'_>) -> Result<Tile, NoMemory>
-    ensures { IfOk result (IsPaintedOn work.now device.now) }
-{
-    let key = work.key();
-    match work.plain(plain_under(device, key)) {
-        Some(pixel) => plain_tile(alloc, device, key, pixel),
-        None => painted_copy(alloc, device, work),
-    }
-}
-
-/// A tile of one pixel: a neighbour's, shared, where that is such a one, or else a new one.
-fn plain_tile(
-    alloc: Global,
-    device: &Device,
-    key: TileKey,
-    pixel: Pixel,
-) -> Result<Tile, NoMemory>
-    requires { IsWorldKey key }
-    ensures { IfOk result (λ t. t ≡ replicate 4096 pixel) }
-{
-    match neighbour(device, key) {
-        Some(tile) if tile.is_plain(pixel) => tile.share(),
-        _ => Tile::plain(alloc, pixel),
-    }
-}
-
-/// The tile to the left of the key, or else the one above.
-fn neighbour(device: &Device, key: TileKey) -> Option<&Tile>
-    requires { IsWorldKey key }
-    ensures { option_copied result ≡ beside device.now key }
-{
-    let left = device.tile(TileKey {
-        row: key.row,
-        col: key.col - 1,
-    });
-    let above = TileKey {
-        row: key.row - 1,
-        col: key.col,
-    };
-    match left {
-        Some(tile) => Some(tile),
-        None => device.tile(above),
-    }
-}
-
-/// The device's ground, where no tile stands under the key.
-fn plain_under(device: &Device, key: TileKey) -> Option<Pixel>
-    ensures { IfSome result (IsPlainUnder device.now key) }
-{
-    match device.tile(key) {
-        Some(_) => None,
-        None => Some(device.ground()),
-    }
 }
 
 /// A copy of the pixels under the key, with the point operation painted on it.

@@ -1,5 +1,5 @@
 -- Rows of pixels laid over others.
-use Rattle.std.specs.Prelude.{◌≡◌, ℕ, ◌+◌, ◌-◌, ◌*◌, ◌<◌, true, if◌then◌else◌, List, slice_index_or}
+use Rattle.std.specs.Prelude.{◌≡◌, ℕ, ◌+◌, ◌-◌, ◌*◌, ◌<◌, true, if◌then◌else◌, List, slice_index_or, Option, Some}
 use Rattle.pixel_core.specs.Rgba.{Rgba, clear}
 use Rattle.geom_core.specs.Points.{Point}
 use Rattle.geom_core.specs.Areas.{Area, holds, place_in}
@@ -19,6 +19,10 @@ ChangesRows f width left top w h old new = (col row : ℕ) → col < width
 -- the ink laid on a pixel
 abbrev pub inked : Ink → Change
 inked ink col row d = compose ink.op ink.colour d ink.strength
+
+-- the ink leaves this of each pixel, or of the one that is told
+abbrev pub LeavesOf : Ink → Option Rgba → Rgba → Type 0
+LeavesOf ink under c = (d : Rgba) → ((g : Rgba) → under ≡ Some g → d ≡ g) → inked ink 0 0 d ≡ c
 
 -- the new pixels, in rows of some width, have these ones on a part, and the old ones elsewhere
 abbrev pub LaysRows : ℕ → ℕ → ℕ → ℕ → ℕ → List Rgba → List Rgba → List Rgba → Type 0

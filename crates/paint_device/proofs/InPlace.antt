@@ -11,7 +11,7 @@ use Rattle.tile_core.specs.Pixels.{Pixels}
 use Rattle.tile_core.specs.Maps.{PutsUnder}
 use Rattle.paint_device.proofs.Kept.{tile-view, put-view, put_kept, same_kept, world-view}
 use Rattle.paint_device.specs.InPlace.{LaidUnder, LaysUnder}
-use Rattle.paint_device.specs.Sheets.{Sheet, IsSheet, sheet}
+use Rattle.paint_device.specs.Sheets.{IsSheet, sheet}
 
 -- what is put is what stood there
 pub same_written : (m n : BTreeMap Key (Option Pixels)) (k : Key) (was w : Option Pixels) → Some was ≡ tree.get key_cmp m k → w ≡ was → PutsUnder m n k w → (q : Key) → tree.get key_cmp n q ≡ tree.get key_cmp m q

@@ -39,6 +39,29 @@ fn a_block_on_a_device(rt: HostRuntime) -> Result<(), Fail> {
     Ok(())
 }
 
+#[test]
+fn a_block_in_place(rt: HostRuntime) -> Result<(), Fail> {
+    let alloc = rt.alloc();
+    let red = Pixel::new(255, 0, 0, 255);
+    let mut device = Device::new(alloc, Pixel::CLEAR);
+    let one = Rect::new(0, 0, 1, 1).expect(&rt, "a rectangle of the world");
+    let mut block = Block::new(alloc, ORIGIN, one)?;
+    block.set(0, 0, red);
+    assert!(rt; !device.lay_alone(ORIGIN, &block));
+    device.ready(ORIGIN)?;
+    assert!(rt; !device.lay_alone(ORIGIN, &block));
+    if device.has(ORIGIN) {
+        device.set_tile(ORIGIN, Tile::clear(alloc)?);
+    }
+    let copy = device.share()?;
+    assert!(rt; !device.lay_alone(ORIGIN, &block));
+    drop(copy);
+    assert!(rt; device.lay_alone(ORIGIN, &block));
+    assert_eq!(rt; device.at(0, 0), red);
+    assert_eq!(rt; device.at(1, 0), Pixel::CLEAR);
+    Ok(())
+}
+
 /// The tile goes to the tile's key, if it is there, and the pixel at (0, 0) is told.
 fn put_back<L: Ledger>(
     device: &mut Device,

@@ -1,15 +1,13 @@
 -- Rectangles as parts of their tiles.
-use Rattle.std.proofs.Common.{◌≡◌, ℕ, ◌+◌, ◌*◌, ◌%◌, ◌≤◌, ◌<◌, cond, List, length, replicate, refl, sym, ap, ◌∙◌, arith}
-use Rattle.std.proofs.lemmas.List.{get_or-replicate, length-replicate}
+use Rattle.std.proofs.Common.{◌≡◌, ◌+◌, ◌%◌, ◌≤◌, List}
 use Rattle.std.specs.Prelude.{pos, ◌+ℤ◌, nat_abs}
-use Rattle.pixel_core.specs.Rgba.{Rgba, clear}
-use Rattle.geom_core.specs.Areas.{Area, holds, IsWithin}
+use Rattle.pixel_core.specs.Rgba.{Rgba}
+use Rattle.geom_core.specs.Areas.{Area, IsWithin}
 use Rattle.geom_core.specs.Grid.{Key, tile, IsWorldKey}
-use Rattle.geom_core.specs.Place.{across, down}
 use Rattle.tile_core.specs.declared.rows.Part.{Part}
 use Rattle.tile_core.specs.Pixels.{Pixels, pixel_at, HasPixels}
 use Rattle.tile_core.specs.Parts.{IsPartOf, LaysPart, TakesPart}
-use Rattle.tile_core.specs.Blocks.{Piece, IsPiece, piece_at, LaysBlock, IsLaidBy}
+use Rattle.tile_core.specs.Blocks.{Piece, IsPiece, LaysBlock}
 use Rattle.tile_core.proofs.LaidBlocks.{lays_block_as}
 use Rattle.tile_core.proofs.LaidKeys.{tile_fits}
 use Rattle.tile_core.proofs.Taken.{has_pixels_as}
@@ -26,17 +24,6 @@ pub lays_block_part : (old old' new : Pixels) (b : Piece) (rect : Area) (part : 
 lays_block_part old old' new b rect part src is er i es eo laid =
     let laid' : LaysPart old' new (nat_abs (rect.x +ℤ pos 16384) % 64) (nat_abs (rect.y +ℤ pos 16384) % 64) part.w part.h src = rw (← i.left, ← i.top) laid in
     lays_block_as old old' new b rect src (nat_abs (rect.x +ℤ pos 16384)) (nat_abs (rect.y +ℤ pos 16384)) part.w part.h is er i.x i.y i.w i.h i.some_w i.some_h es eo laid'
-
--- where a tile is what the part makes of any tile, it is what the block makes of any
-pub laid_by_part : (t t' : Pixels) (b : Piece) (rect : Area) (part : Part) (src : List Rgba) → IsPiece b → rect ≡ b.rect → IsPartOf rect part → src ≡ b.pixels → t' ≡ t
-    → ((old : Pixels) → length old ≡ 4096 → LaysPart old t' part.left part.top part.w part.h src) → IsLaidBy t b
-laid_by_part t t' b rect part src is er i es et laid old p h =
-    let plain : Pixels = replicate 4096 (pixel_at old p) in
-    let lays : LaysBlock plain t' b = lays_block_part plain plain t' b rect part src is er i es refl (laid plain (length-replicate 4096 (pixel_at old p))) in
-    ap (λ v. pixel_at v p) (sym et) ∙ lays p h ∙ ap (cond (holds b.rect p) (piece_at b p)) (get_or-replicate 4096 (64 * (down p % 64) + across p % 64) (pixel_at old p) clear (in_a_tile (across p) (down p)))
-  where
-    in_a_tile : (x y : ℕ) → 64 * (y % 64) + x % 64 < 4096
-    in_a_tile x y = omega arith
 
 pub has_pixels_part : (t t' : Pixels) (k : Key) (a : Area) (part : Part) (ps : List Rgba) → IsWorldKey k → IsWithin a (tile k) → IsPartOf a part → t' ≡ t
     → TakesPart t' part.left part.top part.w part.h ps → HasPixels a (pixel_at t) ps

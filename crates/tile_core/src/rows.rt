@@ -1,7 +1,6 @@
 //! Rows of pixels in parts of tiles.
 
 ghost use Rattle.std.specs.Prelude.{◌^◌, IfOk, vec_len, ◌≡◌, ℕ, ◌+◌, ◌*◌, ◌<◌, ◌≤◌, ◌↔◌, IsTrue, length, take, drop, ◌++◌, replicate};
-ghost use Rattle.tile_core.specs.Pixels.{Pixels};
 ghost use Rattle.tile_core.specs.Parts.{LaysPart, TakesPart, LaysTile};
 
 use pixel_core::Pixel;
@@ -107,39 +106,6 @@ fn all_are(pixels: &[Pixel], p: Pixel) -> bool
         all = all & (pixels[i] == p);
     }
     all
-}
-
-/// Whether two tiles have the same pixels. It goes through all of them, with no branch.
-fn same_tiles(tile: &[Pixel], other: &[Pixel]) -> bool
-    requires { length other.now ≡ length tile.now }
-    ensures { IsTrue result ↔ (tile.now ≡ other.now) }
-{
-    let mut same = true;
-    for i in 0..tile.len() {
-        same = same & (tile[i] == other[i]);
-    }
-    same
-}
-
-/// Whether the part is the whole tile, and the tile has just these pixels. Where the first or the
-/// last pixels differ it looks no further.
-pub fn has_laid(tile: &[Pixel], part: Part, src: &[Pixel]) -> bool
-    requires whole { length tile.now ≡ 4096 }
-    requires across { part.left + part.w ≤ 64 }
-    requires down { part.top + part.h ≤ 64 }
-    requires pixels { length src.now ≡ part.h * part.w }
-    ensures { IsTrue result → (old : Pixels) → length old ≡ 4096 → LaysPart old tile.now part.left part.top part.w part.h src.now }
-{
-    part.w == 64 && part.h == 64 && same_ends(tile, src) && same_tiles(tile, src)
-}
-
-/// Whether the first pixels are the same, and the last ones.
-#[inline]
-fn same_ends(tile: &[Pixel], other: &[Pixel]) -> bool
-    requires whole { length tile.now ≡ 4096 }
-    requires other_whole { length other.now ≡ 4096 }
-{
-    tile[0] == other[0] && tile[4095] == other[4095]
 }
 
 /// Lays a part of a tile, from its column `tile_left` and its row `tile_top` on, over a part of

@@ -4,13 +4,13 @@ ghost use Rattle.std.specs.Prelude.{vec_len, ◌≡◌, ℕ, ◌+◌, ◌*◌, �
 ghost use Rattle.tile_core.specs.Pixels.{Pixels, pixel_of, pixel_at, HasPixels};
 ghost use Rattle.tile_core.specs.Parts.{IsPartOf};
 ghost use Rattle.geom_core.specs.Grid.{IsWorldKey, tile};
-ghost use Rattle.tile_core.specs.Blocks.{LaysBlock, IsLaidBy};
+ghost use Rattle.tile_core.specs.Blocks.{LaysBlock};
 ghost use Rattle.geom_core.specs.Areas.{IsWithin, holds, world};
 ghost use Rattle.geom_core.specs.Points.{point};
 ghost use Rattle.pixel_core.specs.Rgba.{clear};
 
 use crate::Block;
-use crate::rows::{Part, has_laid, is_plain, lay_part, part_of, with_part};
+use crate::rows::{Part, is_plain, lay_part, part_of, with_part};
 use geom_core::{NoMemory, Rect, TileKey};
 use pixel_core::Pixel;
 use std::alloc::{AllocError, Global};
@@ -143,15 +143,6 @@ impl Tile {
             }
             None => false,
         }
-    }
-
-    /// Whether the block covers its whole tile, and has just this tile's pixels: then this is what
-    /// the block makes of any tile. It may say no where no pixel would change.
-    pub fn is_laid_by(&self, block: &Block) -> bool
-        ensures { IsTrue result → IsLaidBy self.now block.now }
-    {
-        let rect = block.rect();
-        has_laid(self.pixels(), part_in_tile(&rect), block.pixels())
     }
 
     /// The pixels on a rectangle inside the key's tile, in row order.
