@@ -1,6 +1,6 @@
 //! Rectangles of the world.
-ghost use Rattle.std.specs.Prelude.{IfSome, IfNone, false, length, slice_get, Some, ◌/◌, ◌*◌, nat_abs, ◌<ℤ◌, ◌⊎◌, MatchOption, negsuc, ◌≡◌, ℕ, ◌<◌, ◌≤◌, ◌+◌, ◌-◌, true, ◌&&◌, nat_lt, nat_le, ℤ, pos, ◌-ℤ◌, ◌+ℤ◌, ◌≤ℤ◌, int_le, int_lt, IfOk, OnOk, OnErr, MatchResult, SomeIff};
-ghost use Rattle.geom_core.specs.Areas.{IsShared, place_in, Area, area, holds, meets, common, clipped, bound, moved, right, bottom, world, IsRect, IsInWorld};
+ghost use Rattle.std.specs.Prelude.{IfSome, IfNone, false, length, slice_get, Some, ◌/◌, ◌%◌, ◌*◌, nat_abs, ◌<ℤ◌, ◌⊎◌, MatchOption, negsuc, ◌≡◌, ℕ, ◌<◌, ◌≤◌, ◌+◌, ◌-◌, true, ◌&&◌, nat_lt, nat_le, ℤ, pos, ◌-ℤ◌, ◌+ℤ◌, ◌≤ℤ◌, int_le, int_lt, IfOk, OnOk, OnErr, MatchResult, SomeIff};
+ghost use Rattle.geom_core.specs.Areas.{IsShared, place_in, Area, area, holds, meets, lies_in, common, clipped, bound, moved, right, bottom, world, IsRect, IsInWorld};
 ghost use Rattle.geom_core.specs.Points.{Point, point};
 ghost use Rattle.geom_core.specs.Grid.{keys_of, cells_of, cell, key, IsWorldKey};
 ghost use Rattle.geom_core.specs.Place.{IsOffset};
@@ -143,6 +143,14 @@ impl Rect {
             && crosses(self.top, self.h, other.top, other.h)
     }
 
+    /// Whether all points of it are the other's too.
+    pub fn lies_in(&self, other: &Rect) -> bool
+        ensures { result ≡ lies_in self.now other.now }
+    {
+        spanned(self.left, self.w, other.left, other.w)
+            && spanned(self.top, self.h, other.top, other.h)
+    }
+
     /// The common points. None exactly where there are none.
     pub fn clip(&self, other: &Rect) -> Option<Rect>
         ensures value { result ≡ clipped self.now other.now }
@@ -233,7 +241,8 @@ impl Rect {
         ensures world { IsWorldKey result }
     {
         let cols = pieces(self.left, self.w);
-        TileKey::from_corner(self.left / 64 + i % cols, self.top / 64 + i / cols)
+        let (col, row) = spot_of(i, cols);
+        TileKey::from_corner(self.left / 64 + col, self.top / 64 + row)
     }
 
     /// The tile of a column and a row, which count from the world's corner.
@@ -305,6 +314,15 @@ fn crosses(a: u32, n: u32, b: u32, m: u32) -> bool
     a < b + m && b < a + n
 }
 
+/// Whether the n numbers from a on, which counts from the world's edge, are among the m from b on.
+fn spanned(a: u32, n: u32, b: u32, m: u32) -> bool
+    requires first { a + n ≤ 32768 }
+    requires second { b + m ≤ 32768 }
+    ensures { result ≡ (int_le (pos b -ℤ pos 16384) (pos a -ℤ pos 16384) && int_le ((pos a -ℤ pos 16384) +ℤ pos n) ((pos b -ℤ pos 16384) +ℤ pos m)) }
+{
+    b <= a && a + n <= b + m
+}
+
 /// Where the n numbers from a on, which count from the world's edge, begin after they are moved by d.
 /// None where some of them are outside then.
 fn shifted(a: u32, n: u32, d: i32) -> Option<u32>
@@ -338,6 +356,15 @@ fn pieces(a: u32, n: u32) -> u32
     ensures inside { a / 64 + result ≤ 512 }
 {
     (a + n - 1) / 64 + 1 - a / 64
+}
+
+/// The column and the row of place i, from 0, in rows of n places. The first row costs no division.
+fn spot_of(i: u32, n: u32) -> (u32, u32)
+    requires { 1 ≤ n }
+    ensures col { result.0 ≡ i % n }
+    ensures row { result.1 ≡ i / n }
+{
+    if i < n { (i, 0) } else { (i % n, i / n) }
 }
 
 /// How many pieces of 256 the n numbers from a on meet.

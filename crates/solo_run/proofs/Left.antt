@@ -9,10 +9,10 @@ use Rattle.geom_core.specs.Areas.{Area}
 use Rattle.geom_core.specs.Grid.{Key, keys_of, all_keys_of}
 use Rattle.tile_core.specs.Shots.{Sight}
 use Rattle.doc_model.specs.declared.job.Job.{Job}
-use Rattle.doc_model.specs.Jobs.{apply, writes}
+use Rattle.doc_model.specs.Jobs.{apply, writes, published}
 use Rattle.job_core.specs.Paints.{Paint, Stuff, Makes, IsMade, layer_of}
 use Rattle.desk_steps.specs.Archives.{Archive, layer_under_way, with_put}
-use Rattle.solo_run.specs.Painting.{PaintsOn, published_in}
+use Rattle.solo_run.specs.Painting.{PaintsOn, in_tiles}
 use Rattle.solo_run.specs.Left.{IsLeft, IsLeftIn, IsLeftOf, AddsLeft, PutsLeft}
 use Rattle.solo_run.proofs.Fronts.{item_at, take_more, take_all}
 use Rattle.solo_run.proofs.Published.{all_keys-append, paints_none, tile_more, put_on, put_paints, job_done}
@@ -50,7 +50,7 @@ added_all job shot ks ls old new same none adds = subst (λ ls. IsLeftIn job sho
 
 -- the first of them were laid
 pub PutsFirst : List Stuff → ℕ → Archive → Archive → Type 0
-PutsFirst left n old new = (job : Job) (shot : Sight) (ks : List Key) → IsLeftIn job shot ks left → PaintsOn (published_in job (layer_of shot) (take n ks)) old new
+PutsFirst left n old new = (job : Job) (shot : Sight) (ks : List Key) → IsLeftIn job shot ks left → PaintsOn (in_tiles (published job (layer_of shot)) (take n ks)) old new
 
 pub puts_none : (left : List Stuff) (a : Archive) → is_some a.way ≡ true → PutsFirst left 0 a a
 unfolding PutsFirst
@@ -66,13 +66,13 @@ unfolding PutsFirst
 puts_more left i made a b c h at under_way puts so job shot ks is =
     let one : IsLeft job shot made = subst (IsLeft job shot) (sym at) (All-get_or (IsLeft job shot) left i made h is.each) in
     let key : slice_get ks i ≡ Some made.key = ap (λ ls. slice_get ls i) (sym is.keys_are) ∙ slice_get-map (λ (made : Stuff). made.key) left i ∙ ap (option_map (λ (made : Stuff). made.key)) (item_at left i made h at) in
-    tile_more job (layer_of shot) ks i made.key a b c key (so job shot ks is)
+    tile_more (published job (layer_of shot)) ks i made.key a b c key (so job shot ks is)
     (put_on job shot made.key one.work b c under_way one.job_is one.shot_is (ap (λ (made : Stuff). made.key) one.makes.is) (puts one.work one.makes))
 
 -- all of them
 pub puts_all : (left : List Stuff) (n : ℕ) (a b : Archive) → length left ≤ n → PutsFirst left n a b → PutsLeft left a b
 unfolding PutsFirst
-puts_all left n a b h so job shot ks is = subst (λ ls. PaintsOn (published_in job (layer_of shot) ls) a b) (take_all ks n (subst (λ m. m ≤ n) (sym (length-map left (λ (made : Stuff). made.key)) ∙ ap length is.keys_are) h)) (so job shot ks is)
+puts_all left n a b h so job shot ks is = subst (λ ls. PaintsOn (in_tiles (published job (layer_of shot)) ls) a b) (take_all ks n (subst (λ m. m ≤ n) (sym (length-map left (λ (made : Stuff). made.key)) ∙ ap length is.keys_are) h)) (so job shot ks is)
 
 -- with them the whole job is painted
 pub left_done : (job : Job) (left : List Stuff) (a b : Archive) → IsLeftOf job (layer_under_way a.way a.present) left → PutsLeft left a b → PaintsOn (apply job) a b

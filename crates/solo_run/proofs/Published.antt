@@ -26,9 +26,10 @@ use Rattle.doc_model.proofs.Shots.{at-published, default-published, shot_same}
 use Rattle.tile_core.specs.Shots.{Sight}
 use Rattle.machine_model.specs.Effects.{layer_in}
 use Rattle.job_core.specs.Paints.{Paint, layer_of}
-use Rattle.desk_steps.specs.Archives.{Archive, Way, layer_under_way, with_put}
+use Rattle.job_core.specs.Points.{Spot, spot, painted_in}
+use Rattle.desk_steps.specs.Archives.{Archive, Way, layer_under_way, with_put, with_painted}
 use Rattle.solo_run.proofs.Fronts.{take_more}
-use Rattle.solo_run.specs.Painting.{Paints, PaintsOn, published_in, jobs_only}
+use Rattle.solo_run.specs.Painting.{Paints, PaintsOn, in_tiles, jobs_only}
 
 and_none : (b : Bool) → (b && false) ≡ false
 and_none true = refl
@@ -40,19 +41,19 @@ either true true false v x = refl
 either true false u v x = refl
 either false t u v x = refl
 
-at_published_in : (job : Job) (shot : Layer) (ks : List Key) (layer : Layer) (p : Point) → at (published_in job shot ks layer) p ≡ cond (any_holds (writes job) p && list_any (same_key (key_of p)) ks) (at (apply job shot) p) (at layer p)
+at_published_in : (job : Job) (shot : Layer) (ks : List Key) (layer : Layer) (p : Point) → at (in_tiles (published job shot) ks layer) p ≡ cond (any_holds (writes job) p && list_any (same_key (key_of p)) ks) (at (apply job shot) p) (at layer p)
 at_published_in job shot [] layer p = sym (ap (λ b. cond b (at (apply job shot) p) (at layer p)) (and_none (any_holds (writes job) p)))
 at_published_in job shot (k ∷ ks) layer p =
     at_published_in job shot ks (published job shot k layer) p
     ∙ ap (cond (any_holds (writes job) p && list_any (same_key (key_of p)) ks) (at (apply job shot) p)) (at-published job shot k layer p)
     ∙ either (any_holds (writes job) p) (in_tile k p) (list_any (same_key (key_of p)) ks) _ _
 
-default_published_in : (job : Job) (shot : Layer) (ks : List Key) (layer : Layer) → (published_in job shot ks layer).default_pixel ≡ layer.default_pixel
+default_published_in : (job : Job) (shot : Layer) (ks : List Key) (layer : Layer) → (in_tiles (published job shot) ks layer).default_pixel ≡ layer.default_pixel
 default_published_in job shot [] layer = refl
 default_published_in job shot (k ∷ ks) layer = default_published_in job shot ks (published job shot k layer) ∙ default-published job shot k layer
 
 -- in all tiles of its writes, from a shot of its reads
-pub published_all : (job : Job) (layer : Layer) → published_in job (shot_of (reads job) layer) (all_keys_of (writes job)) layer ≡ apply job layer
+pub published_all : (job : Job) (layer : Layer) → in_tiles (published job (shot_of (reads job) layer)) (all_keys_of (writes job)) layer ≡ apply job layer
 published_all job layer = layer_ext _ _
     (default_published_in job (shot_of (reads job) layer) (all_keys_of (writes job)) layer ∙ sym (laws_of_jobs.default_pixel job layer))
     (λ p. at_published_in job (shot_of (reads job) layer) (all_keys_of (writes job)) layer p ∙ go p (any_holds (writes job) p) refl)
@@ -61,9 +62,9 @@ published_all job layer = layer_ext _ _
     go p true h = ap (λ b. cond b (at (apply job (shot_of (reads job) layer)) p) (at layer p)) (key_of_any_held (writes job) p h) ∙ laws_of_jobs.inside job (shot_of (reads job) layer) layer p (shot_same (reads job) layer) h
     go p false h = sym (laws_of_jobs.outside job layer p h)
 
-published_in-append : (job : Job) (shot : Layer) (ks ls : List Key) (layer : Layer) → published_in job shot (ks ++ ls) layer ≡ published_in job shot ls (published_in job shot ks layer)
-published_in-append job shot [] ls layer = refl
-published_in-append job shot (k ∷ ks) ls layer = published_in-append job shot ks ls (published job shot k layer)
+in_tiles-append : (change : Key → Layer → Layer) (ks ls : List Key) (layer : Layer) → in_tiles change (ks ++ ls) layer ≡ in_tiles change ls (in_tiles change ks layer)
+in_tiles-append change [] ls layer = refl
+in_tiles-append change (k ∷ ks) ls layer = in_tiles-append change ks ls (change k layer)
 
 apply_all-last : (jobs : List Job) (job : Job) (layer : Layer) → apply_all (jobs ++ job ∷ []) layer ≡ apply job (apply_all jobs layer)
 apply_all-last [] job layer = refl
@@ -98,38 +99,58 @@ paints_as f g a b same on = record {
   painted = λ id layer p. subst (λ l. Paints id l b) (same id layer p) (on.painted id layer p);
 }
 
--- a tile
-pub put_paints : (w : Paint) (a : Archive) → is_some a.way ≡ true → PaintsOn (published w.job (layer_of w.shot) w.key) a (with_put a.way w a)
-put_paints w a h = record {
+-- a change of a tile on the layer of the stroke under way
+abbrev changed_in : Way → (Key → Layer → Layer) → Key → Archive → Archive
+changed_in None change k a = a
+changed_in (Some way) change k a = record a { present = adjusted way.0 (change k) a.present; way = Some (way.0, set.insert way.1 k) }
+
+tile_changed : (change : Key → Layer → Layer) (k : Key) (a : Archive) → is_some a.way ≡ true → PaintsOn (change k) a (changed_in a.way change k a)
+tile_changed change k a h = record {
   keeps = keeps a.way h;
   under_way = there a.way h;
-  painted = λ id layer p. subst (λ o. Paints id (published w.job (layer_of w.shot) w.key layer) (with_put o w a)) (sym p.on) (record {
-    keys = set.insert p.keys w.key;
+  painted = λ id layer p. subst (λ o. Paints id (change k layer) (changed_in o change k a)) (sym p.on) (record {
+    keys = set.insert p.keys k;
     on = refl;
     there = p.there;
-    now = ap (adjusted id (published w.job (layer_of w.shot) w.key)) p.now ∙ adjusted-with_content id (published w.job (layer_of w.shot) w.key) layer a.base;
+    now = ap (adjusted id (change k)) p.now ∙ adjusted-with_content id (change k) layer a.base;
   });
 }
   where
-    keeps : (o : Way) → is_some o ≡ true → with_put o w a ≡ record a { present = (with_put o w a).present; way = (with_put o w a).way }
+    keeps : (o : Way) → is_some o ≡ true → changed_in o change k a ≡ record a { present = (changed_in o change k a).present; way = (changed_in o change k a).way }
     keeps None e = cc
     keeps (Some way) e = refl
 
-    there : (o : Way) → is_some o ≡ true → is_some (with_put o w a).way ≡ true
+    there : (o : Way) → is_some o ≡ true → is_some (changed_in o change k a).way ≡ true
     there None e = cc
     there (Some way) e = refl
 
+-- a tile that was put
+pub put_paints : (w : Paint) (a : Archive) → is_some a.way ≡ true → PaintsOn (published w.job (layer_of w.shot) w.key) a (with_put a.way w a)
+put_paints w a h = subst (PaintsOn (published w.job (layer_of w.shot) w.key) a) (same a.way) (tile_changed (published w.job (layer_of w.shot)) w.key a h)
+  where
+    same : (o : Way) → changed_in o (published w.job (layer_of w.shot)) w.key a ≡ with_put o w a
+    same None = refl
+    same (Some way) = refl
+
+-- a tile that was painted
+painted_paints : (w : Spot) (a : Archive) → is_some a.way ≡ true → PaintsOn (painted_in w.job w.key) a (with_painted a.way w a)
+painted_paints w a h = subst (PaintsOn (painted_in w.job w.key) a) (same a.way) (tile_changed (painted_in w.job) w.key a h)
+  where
+    same : (o : Way) → changed_in o (painted_in w.job) w.key a ≡ with_painted o w a
+    same None = refl
+    same (Some way) = refl
+
 -- one tile more
-pub tile_more : (job : Job) (shot : Layer) (ks : List Key) (i : ℕ) (k : Key) (a b c : Archive) → slice_get ks i ≡ Some k → PaintsOn (published_in job shot (take i ks)) a b → PaintsOn (published job shot k) b c → PaintsOn (published_in job shot (take (i + 1) ks)) a c
-tile_more job shot ks i k a b c e one two = paints_as (λ layer. published job shot k (published_in job shot (take i ks) layer)) (published_in job shot (take (i + 1) ks)) a c
-    (λ id layer p. sym (ap (λ ls. published_in job shot ls layer) (take_more ks i k e) ∙ published_in-append job shot (take i ks) (k ∷ []) layer))
-    (paints_then (published_in job shot (take i ks)) (published job shot k) a b c one two)
+pub tile_more : (change : Key → Layer → Layer) (ks : List Key) (i : ℕ) (k : Key) (a b c : Archive) → slice_get ks i ≡ Some k → PaintsOn (in_tiles change (take i ks)) a b → PaintsOn (change k) b c → PaintsOn (in_tiles change (take (i + 1) ks)) a c
+tile_more change ks i k a b c e one two = paints_as (λ layer. change k (in_tiles change (take i ks) layer)) (in_tiles change (take (i + 1) ks)) a c
+    (λ id layer p. sym (ap (λ ls. in_tiles change ls layer) (take_more ks i k e) ∙ in_tiles-append change (take i ks) (k ∷ []) layer))
+    (paints_then (in_tiles change (take i ks)) (change k) a b c one two)
 
 -- one rectangle more
-pub rect_more : (job : Job) (shot : Layer) (rects : List Area) (i : ℕ) (r : Area) (a b c : Archive) → slice_get rects i ≡ Some r → PaintsOn (published_in job shot (all_keys_of (take i rects))) a b → PaintsOn (published_in job shot (keys_of r)) b c → PaintsOn (published_in job shot (all_keys_of (take (i + 1) rects))) a c
-rect_more job shot rects i r a b c e one two = paints_as (λ layer. published_in job shot (keys_of r) (published_in job shot (all_keys_of (take i rects)) layer)) (published_in job shot (all_keys_of (take (i + 1) rects))) a c
-    (λ id layer p. sym (ap (λ ks. published_in job shot ks layer) (ap all_keys_of (take_more rects i r e) ∙ all_keys-append (take i rects) (r ∷ []) ∙ ap (λ ks. all_keys_of (take i rects) ++ ks) (append-nil (keys_of r))) ∙ published_in-append job shot (all_keys_of (take i rects)) (keys_of r) layer))
-    (paints_then (published_in job shot (all_keys_of (take i rects))) (published_in job shot (keys_of r)) a b c one two)
+pub rect_more : (change : Key → Layer → Layer) (rects : List Area) (i : ℕ) (r : Area) (a b c : Archive) → slice_get rects i ≡ Some r → PaintsOn (in_tiles change (all_keys_of (take i rects))) a b → PaintsOn (in_tiles change (keys_of r)) b c → PaintsOn (in_tiles change (all_keys_of (take (i + 1) rects))) a c
+rect_more change rects i r a b c e one two = paints_as (λ layer. in_tiles change (keys_of r) (in_tiles change (all_keys_of (take i rects)) layer)) (in_tiles change (all_keys_of (take (i + 1) rects))) a c
+    (λ id layer p. sym (ap (λ ks. in_tiles change ks layer) (ap all_keys_of (take_more rects i r e) ∙ all_keys-append (take i rects) (r ∷ []) ∙ ap (λ ks. all_keys_of (take i rects) ++ ks) (append-nil (keys_of r))) ∙ in_tiles-append change (all_keys_of (take i rects)) (keys_of r) layer))
+    (paints_then (in_tiles change (all_keys_of (take i rects))) (in_tiles change (keys_of r)) a b c one two)
 
 -- one job more
 pub job_more : (jobs : Jobs) (i : ℕ) (j : Kind × Job) (a b c : Archive) → slice_get jobs i ≡ Some j → PaintsOn (apply_all (jobs_only (take i jobs))) a b → PaintsOn (apply j.1) b c → PaintsOn (apply_all (jobs_only (take (i + 1) jobs))) a c
@@ -146,9 +167,9 @@ seen_layer id layer a p = ap (λ o. layer_under_way o a.present) p.on ∙ ap (la
     go (Some old) e h = ap (λ o. Rattle.std.specs.Option.unwrap_or o (Rattle.doc_model.specs.Layers.plain Rattle.pixel_core.specs.Rgba.clear)) (content-with_content id layer old a.base e)
 
 -- a whole job
-pub job_done : (job : Job) (shot : Layer) (a b : Archive) → shot ≡ shot_of (reads job) (layer_under_way a.way a.present) → PaintsOn (published_in job shot (all_keys_of (writes job))) a b → PaintsOn (apply job) a b
-job_done job shot a b e on = paints_as (published_in job shot (all_keys_of (writes job))) (apply job) a b
-    (λ id layer p. ap (λ s. published_in job s (all_keys_of (writes job)) layer) (e ∙ ap (shot_of (reads job)) (seen_layer id layer a p)) ∙ published_all job layer) on
+pub job_done : (job : Job) (shot : Layer) (a b : Archive) → shot ≡ shot_of (reads job) (layer_under_way a.way a.present) → PaintsOn (in_tiles (published job shot) (all_keys_of (writes job))) a b → PaintsOn (apply job) a b
+job_done job shot a b e on = paints_as (in_tiles (published job shot) (all_keys_of (writes job))) (apply job) a b
+    (λ id layer p. ap (λ s. in_tiles (published job s) (all_keys_of (writes job)) layer) (e ∙ ap (shot_of (reads job)) (seen_layer id layer a p)) ∙ published_all job layer) on
 
 -- a tile of a rectangle is one of those of all rectangles
 pub key_met : (rects : List Area) (i j : ℕ) (r : Area) (k : Key) → slice_get rects i ≡ Some r → slice_get (keys_of r) j ≡ Some k → list_any (same_key k) (all_keys_of rects) ≡ true
@@ -182,3 +203,7 @@ all_seen (r ∷ rects) = both_true _ _ (or_left _ _ (lies_itself r)) (seen_more 
 pub put_on : (job : Job) (shot : Sight) (k : Key) (w : Paint) (old new : Archive) → is_some old.way ≡ true → w.job ≡ job → w.shot ≡ shot → w.key ≡ k → new ≡ with_put old.way w old → PaintsOn (published job (layer_of shot) k) old new
 put_on job shot k w old new h j s e is = subst (λ a. PaintsOn (published job (layer_of shot) k) old a) (sym is)
     (paints_as (published w.job (layer_of w.shot) w.key) (published job (layer_of shot) k) old (with_put old.way w old) (λ id layer p i. published (j i) (layer_of (s i)) (e i) layer) (put_paints w old h))
+
+-- a tile that was painted by this work
+pub painted_on : (job : Job) (k : Key) (w : Spot) (old new : Archive) → is_some old.way ≡ true → w ≡ spot job k → new ≡ with_painted old.way w old → PaintsOn (painted_in job k) old new
+painted_on job k w old new h e is = subst (λ a. PaintsOn (painted_in job k) old a) (sym (is ∙ ap (λ v. with_painted old.way v old) e)) (painted_paints (spot job k) old h)

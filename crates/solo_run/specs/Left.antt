@@ -4,10 +4,10 @@ use Rattle.geom_core.specs.Grid.{Key, all_keys_of}
 use Rattle.tile_core.specs.Shots.{Sight}
 use Rattle.doc_model.specs.declared.job.Job.{Job}
 use Rattle.doc_model.specs.Layers.{Layer}
-use Rattle.doc_model.specs.Jobs.{reads, writes, shot_of}
+use Rattle.doc_model.specs.Jobs.{reads, writes, shot_of, published}
 use Rattle.job_core.specs.Paints.{Paint, Stuff, Makes, layer_of}
 use Rattle.desk_steps.specs.Archives.{Archive}
-use Rattle.solo_run.specs.Painting.{PaintsOn, published_in}
+use Rattle.solo_run.specs.Painting.{PaintsOn, in_tiles}
 
 -- painting the job on the shot left this
 pub record IsLeft (job : Job) (shot : Sight) (made : Stuff) : Type 0 where
@@ -35,4 +35,4 @@ pub record AddsLeft (job : Job) (shot : Sight) (ks : List Key) (old new : List S
 
 -- these were laid, whichever job left them on whichever shot
 abbrev pub PutsLeft : List Stuff → Archive → Archive → Type 0
-PutsLeft left old new = (job : Job) (shot : Sight) (ks : List Key) → IsLeftIn job shot ks left → PaintsOn (published_in job (layer_of shot) ks) old new
+PutsLeft left old new = (job : Job) (shot : Sight) (ks : List Key) → IsLeftIn job shot ks left → PaintsOn (in_tiles (published job (layer_of shot)) ks) old new

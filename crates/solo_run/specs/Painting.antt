@@ -5,7 +5,6 @@ use Rattle.geom_core.specs.Grid.{Key, key_cmp}
 use Rattle.doc_model.specs.declared.job.Job.{Job}
 use Rattle.doc_model.specs.declared.job.Kind.{Kind}
 use Rattle.doc_model.specs.Layers.{Layer}
-use Rattle.doc_model.specs.Jobs.{published}
 use Rattle.doc_model.specs.Strokes.{Jobs}
 use Rattle.doc_model.specs.Forest.{content, with_content}
 use Rattle.desk_steps.specs.Archives.{Archive}
@@ -23,10 +22,10 @@ pub record PaintsOn (change : Layer → Layer) (old new : Archive) : Type 0 wher
   pub under_way : is_some new.way ≡ true
   pub painted : (id : ℕ) (layer : Layer) → Paints id layer old → Paints id (change layer) new
 
--- the layer after a job was painted in one tile after another, each from the same shot
-abbrev pub published_in : Job → Layer → List Key → Layer → Layer
-published_in job shot [] layer = layer
-published_in job shot (k ∷ ks) layer = published_in job shot ks (published job shot k layer)
+-- the layer after a change of a tile was made in one tile after another
+abbrev pub in_tiles : (Key → Layer → Layer) → List Key → Layer → Layer
+in_tiles change [] layer = layer
+in_tiles change (k ∷ ks) layer = in_tiles change ks (change k layer)
 
 -- the jobs without their kinds
 abbrev pub jobs_only : Jobs → List Job

@@ -1,21 +1,22 @@
 //! Painting the jobs of a stroke, tile by tile.
 
-ghost use Rattle.std.specs.Prelude.{◌≡◌, ◌≤◌, ◌↔◌, ℕ, true, is_some, Some, take, length, slice_get, IsTrue, IfOk, OnOk, All};
+ghost use Rattle.std.specs.Prelude.{◌≡◌, ◌≤◌, ◌↔◌, ℕ, true, is_some, Some, take, [], ◌∷◌, length, slice_get, IsTrue, IfOk, OnOk, All};
 ghost use Rattle.std.specs.List.{list_any};
 ghost use Rattle.geom_core.specs.Grid.{same_key, keys_of, all_keys_of};
 ghost use Rattle.doc_model.specs.Lawful.{checks, within_limits};
 ghost use Rattle.doc_model.specs.Jobs.{reads, writes, apply, apply_all, published};
 ghost use Rattle.machine_model.specs.Effects.{writes_of};
 ghost use Rattle.job_core.specs.Paints.{layer_of};
+ghost use Rattle.job_core.specs.Points.{is_point_op};
 ghost use Rattle.desk_steps.specs.Archives.{layer_under_way};
 ghost use Rattle.solo_run.specs.Left.{IsLeft, IsLeftIn, IsLeftOf, AddsLeft, PutsLeft};
-ghost use Rattle.solo_run.specs.Painting.{PaintsOn, published_in, jobs_only};
+ghost use Rattle.solo_run.specs.Painting.{PaintsOn, in_tiles, jobs_only};
 ghost use Rattle.solo_run.specs.Stale.{DamagesRects};
 
 use desk_steps::Store;
-use doc_model::{Job, Kind};
+use doc_model::{Job, Kind, square_round};
 use geom_core::{NoMemory, Rect, TileKey};
-use job_core::{Made, paint_tile};
+use job_core::{Made, PointWork, is_point_op, paint_tile};
 use std::alloc::Global;
 use tile_core::{Damage, Shot};
 
@@ -39,20 +40,62 @@ pub(crate) fn paint_jobs(
     Ok(())
 }
 
-/// Paints a job from one shot of its reads. Where its tiles are few, the shot is let go before they
-/// are laid, so that tiles can be written in place.
+/// Paints a job. A point operation takes no shot: each of its tiles is painted from what stands
+/// there.
 fn paint_job(alloc: Global, store: &mut Store, job: &Job) -> Result<(), NoMemory>
     requires checked { checks job.now ≡ true }
     requires limits { within_limits job.now ≡ true }
     requires under_way { is_some store.old.way ≡ true }
     ensures { OnOk result (PaintsOn (apply job.now) store.old store.new) }
 {
-    if writes_few(job) {
-        let left = left_of(alloc, store, job)?;
-        put_all(alloc, store, left.as_slice())
+    if is_point_op(job) {
+        paint_points(alloc, store, job, &point_rect(job))
+    } else if writes_few(job) {
+        paint_few(alloc, store, job)
     } else {
         paint_many(alloc, store, job)
     }
+}
+
+/// The rectangle that a point operation writes.
+fn point_rect(job: &Job) -> Rect
+    requires point_op { is_point_op job.now ≡ true }
+    requires checked { checks job.now ≡ true }
+    ensures { writes job.now ≡ result ∷ [] }
+{
+    match *job {
+        Job::Fill { rect, .. } => rect,
+        Job::Dab { x, y, r, .. } => square_round(x, y, r).unwrap(),
+        Job::Move { .. } | Job::Blur { .. } => unreachable!(),
+    }
+}
+
+/// Paints a point operation in one tile of the rectangle that it writes after another, each from
+/// what stands there.
+fn paint_points(alloc: Global, store: &mut Store, job: &Job, rect: &Rect) -> Result<(), NoMemory>
+    requires point_op { is_point_op job.now ≡ true }
+    requires checked { checks job.now ≡ true }
+    requires limits { within_limits job.now ≡ true }
+    requires written { writes job.now ≡ rect.now ∷ [] }
+    requires under_way { is_some store.old.way ≡ true }
+    ensures { OnOk result (PaintsOn (apply job.now) store.old store.new) }
+{
+    for i in 0..rect.tile_count() {
+        store.paint(alloc, &PointWork::new(job, rect.tile_at(i)))?;
+    }
+    Ok(())
+}
+
+/// Paints a job with few tiles from one shot of its reads. The shot is let go before they are laid,
+/// so that tiles can be written in place.
+fn paint_few(alloc: Global, store: &mut Store, job: &Job) -> Result<(), NoMemory>
+    requires checked { checks job.now ≡ true }
+    requires limits { within_limits job.now ≡ true }
+    requires under_way { is_some store.old.way ≡ true }
+    ensures { OnOk result (PaintsOn (apply job.now) store.old store.new) }
+{
+    let left = left_of(alloc, store, job)?;
+    put_all(alloc, store, left.as_slice())
 }
 
 /// Whether each of the rectangles that the job writes has few tiles.
@@ -157,7 +200,7 @@ fn paint_rects(alloc: Global, store: &mut Store, job: &Job, shot: &Shot) -> Resu
     requires limits { within_limits job.now ≡ true }
     requires seen { shot.now.rects ≡ reads job.now }
     requires under_way { is_some store.old.way ≡ true }
-    ensures { OnOk result (PaintsOn (published_in job.now (layer_of shot.now) (all_keys_of (writes job.now))) store.old store.new) }
+    ensures { OnOk result (PaintsOn (in_tiles (published job.now (layer_of shot.now)) (all_keys_of (writes job.now))) store.old store.new) }
 {
     let writes = job.writes();
     for rect in writes.as_slice() {
@@ -179,7 +222,7 @@ fn paint_rect(
     requires seen { shot.now.rects ≡ reads job.now }
     requires written { (i : ℕ) × (slice_get (writes job.now) i ≡ Some rect.now) }
     requires under_way { is_some store.old.way ≡ true }
-    ensures { OnOk result (PaintsOn (published_in job.now (layer_of shot.now) (keys_of rect.now)) store.old store.new) }
+    ensures { OnOk result (PaintsOn (in_tiles (published job.now (layer_of shot.now)) (keys_of rect.now)) store.old store.new) }
 {
     for i in 0..rect.tile_count() {
         paint_in(alloc, store, job, shot, rect.tile_at(i))?;
@@ -221,8 +264,19 @@ fn damage_job(job: &Job, stale: &mut Damage)
     requires { checks job.now ≡ true }
     ensures { DamagesRects (writes job.now) stale.old stale.new }
 {
-    let writes = job.writes();
-    for rect in writes.as_slice() {
+    if is_point_op(job) {
+        stale.add(&point_rect(job));
+    } else {
+        let writes = job.writes();
+        damage_rects(writes.as_slice(), stale);
+    }
+}
+
+/// Damages the points of the rectangles.
+fn damage_rects(rects: &[Rect], stale: &mut Damage)
+    ensures { DamagesRects rects.now stale.old stale.new }
+{
+    for rect in rects {
         stale.add(rect);
     }
 }

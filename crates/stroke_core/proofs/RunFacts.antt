@@ -11,7 +11,7 @@ use Rattle.doc_model.specs.Lawful.{checks}
 use Rattle.doc_model.specs.Strokes.{Jobs, conflicting, first_conflicting, one_run, pair_of, passes, runs, runs_at, disturb, is_uni}
 use Rattle.doc_model.proofs.Conflicts.{all_from_all, all_from_at}
 use Rattle.stroke_core.specs.Fed.{IsKept, pair_or, plus}
-use Rattle.stroke_core.specs.Marks.{Marks, marks_of, marks_clash}
+use Rattle.stroke_core.specs.Marks.{Marks, marks_of, marks_in_run, marks_clash}
 use Rattle.stroke_core.proofs.Apart.{and_comm}
 use Rattle.stroke_core.proofs.FirstPlace.{plus_plus, position_here, position_later}
 use Rattle.stroke_core.proofs.MoreJobs.{conflict_more, conflict_nil, length_last}
@@ -181,6 +181,21 @@ kept_more jobs marks start x h l c none = record {
 pub first_told : (jobs : Jobs) (marks : List Marks) (start : ℕ) (kind : Kind) (job : Job) (mark : Marks) (o : Option ℕ) → IsKept jobs marks start → runs kind ≡ true → mark ≡ marks_of (kind, job) → o ≡ position (λ f. marks_clash f mark) marks → plus 1 (plus start o) ≡ plus 1 (first_conflicting (jobs ++ (kind, job) ∷ []) (length jobs))
 first_told jobs marks start kind job mark o h r m e =
     ap (λ o. plus 1 (plus start o)) (e ∙ (λ i. position (λ f. marks_clash f (m i)) marks)) ∙ sym (ap (plus 1) (first_in_run jobs marks start (kind, job) h r))
+
+-- what marks tell of a job's kind
+pub in_run : (m : Marks) (x : Kind × Job) → Some m ≡ marks_in_run x → (runs x.0 ≡ true) × (m ≡ marks_of x)
+in_run m x e = go (runs x.0) refl e
+  where
+    go : (b : Bool) → runs x.0 ≡ b → Some m ≡ cond b (Some (marks_of x)) None → (runs x.0 ≡ true) × (m ≡ marks_of x)
+    go true r h = (r, cc)
+    go false r h = cc
+
+pub not_in_run : (x : Kind × Job) → None ≡ marks_in_run x → runs x.0 ≡ false
+not_in_run x e = go (runs x.0) refl e
+  where
+    go : (b : Bool) → runs x.0 ≡ b → None ≡ cond b (Some (marks_of x)) None → runs x.0 ≡ false
+    go true r h = cc
+    go false r h = r
 
 pub kept_none : IsKept [] [] 0
 kept_none = record {

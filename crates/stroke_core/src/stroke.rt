@@ -4,7 +4,7 @@ ghost use Rattle.std.specs.Prelude.{◌≡◌, ◌≢◌, ℕ, ◌-◌, ◌<◌,
 ghost use Rattle.doc_model.specs.Lawful.{checks};
 ghost use Rattle.doc_model.specs.Strokes.{Jobs, first_conflicting, runs};
 ghost use Rattle.stroke_core.specs.Fed.{found, plus, StandsFor};
-ghost use Rattle.stroke_core.specs.Marks.{marks_of};
+ghost use Rattle.stroke_core.specs.Marks.{marks_in_run};
 
 use crate::footprint::{Footprint, Footprints, push_reserved};
 use doc_model::{Job, Kind};
@@ -115,8 +115,8 @@ impl OpenStroke {
         if let Some((first, second)) = self.overlap {
             return Err(AddFault::Overlap { first, second });
         }
-        let footprint = Footprint::new(kind, &job);
-        if let Some(first) = self.first_conflict(kind, &footprint) {
+        let footprint = footprint_in_run(kind, &job);
+        if let Some(first) = self.first_conflict(&footprint) {
             let second = self.jobs.len() as u32 + 1;
             self.overlap = Some((first, second));
             return Err(AddFault::Overlap { first, second });
@@ -125,31 +125,31 @@ impl OpenStroke {
         Ok(())
     }
 
-    /// The number of the first kept job that conflicts with a new one.
-    fn first_conflict(&self, kind: Kind, footprint: &Footprint) -> Option<u32>
-        ensures { (job : Job) → footprint.now ≡ marks_of (kind, job) → result ≡ plus 1 (first_conflicting (self.now.jobs ++ (kind, job) ∷ []) (length self.now.jobs)) }
+    /// The number of the first kept job that conflicts with a new one, whose footprint this is if it
+    /// may stand in a run.
+    fn first_conflict(&self, footprint: &Option<Footprint>) -> Option<u32>
+        ensures { (kind : Kind) (job : Job) → footprint.now ≡ marks_in_run (kind, job) → result ≡ plus 1 (first_conflicting (self.now.jobs ++ (kind, job) ∷ []) (length self.now.jobs)) }
     {
-        if !runs(kind) {
+        let Some(footprint) = footprint else {
             return None;
-        }
+        };
         let place = self.footprints.first_clash(footprint)?;
         Some((self.start + place) as u32 + 1)
     }
 
     /// Keeps a job that conflicts with none.
-    fn keep(&mut self, kind: Kind, job: Job, footprint: Footprint) -> Result<(), AllocError>
+    fn keep(&mut self, kind: Kind, job: Job, footprint: Option<Footprint>) -> Result<(), AllocError>
         requires checked { checks job ≡ true }
         requires room { length self.old.jobs < 4096 }
-        requires marks { footprint ≡ marks_of (kind, job) }
+        requires marks { footprint ≡ marks_in_run (kind, job) }
         requires clear { first_conflicting (self.old.jobs ++ (kind, job) ∷ []) (length self.old.jobs) ≡ None }
         ensures ok { OnOk result (self.new ≡ record self.old { jobs = self.old.jobs ++ (kind, job) ∷ [] }) }
         ensures err { OnErr result (self.new ≡ self.old) }
     {
         self.jobs.reserve(1)?;
-        if runs(kind) {
-            self.footprints.push(footprint)?;
-        } else {
-            self.footprints.clear();
+        match footprint {
+            Some(footprint) => self.footprints.push(footprint)?,
+            None => self.footprints.clear(),
         }
         push_reserved(&mut self.jobs, (kind, job));
         self.start = run_start(kind, self.start, self.jobs.len());
@@ -239,6 +239,18 @@ fn runs(kind: Kind) -> bool
     match kind {
         Kind::Con | Kind::Uni => true,
         Kind::Seq | Kind::Bar => false,
+    }
+}
+
+/// Where a job of that kind reads and writes, if it may stand in a run.
+fn footprint_in_run(kind: Kind, job: &Job) -> Option<Footprint>
+    requires { checks job.now ≡ true }
+    ensures { result ≡ marks_in_run (kind, job.now) }
+{
+    if runs(kind) {
+        Some(Footprint::new(kind, job))
+    } else {
+        None
     }
 }
 

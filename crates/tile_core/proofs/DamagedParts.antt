@@ -13,9 +13,9 @@ use Rattle.geom_core.specs.Grid.{Key, key, same_key, tile, keys_of, floor_by, ho
 use Rattle.geom_core.proofs.Tests.{and_left, and_right, both_true, taken}
 use Rattle.geom_core.proofs.Tiles.{own_tile, key_same, key_is}
 use Rattle.geom_core.proofs.Keys.{any_key_in_rows, any_count}
-use Rattle.geom_core.proofs.Lying.{bound_lies, common_lies_right}
+use Rattle.geom_core.proofs.Lying.{bound_lies, common_lies_left, common_lies_right, lies_trans}
 use Rattle.tile_core.specs.Marks.{Grid, place_at, mark_at, has_mark, on_canvas, no_marks}
-use Rattle.tile_core.specs.Damage.{Parts, part_in, part_at, grown, intact, FitTiles}
+use Rattle.tile_core.specs.Damage.{Parts, part_in, part_at, grown, has_all, intact, FitTiles}
 
 -- whatever of the rectangle lies in the tiles of the list is damaged too
 abbrev pub AddsIn : Area → List Key → Parts → Parts → Type 0
@@ -135,6 +135,24 @@ pub all_added : (a : Area) (i : ℕ) (old new : Parts) → length (keys_of a) �
 all_added a i old new h so k = so k
     ∙ ap (λ l. cond (list_any (same_key k) l && on_canvas k) (grown (part_at old k) (clipped a (tile k))) (part_at old k)) (take_all i (keys_of a) h)
     ∙ whole_step (list_any (same_key k) (keys_of a)) (meets a (tile k)) (on_canvas k) (part_at old k) (common a (tile k)) (met_listed a k) (no_part old k)
+
+-- a part that has all of a rectangle does not grow round what a tile has of it
+min_of : (a b : ℤ) (n m : ℕ) → (int_le a b && int_le (b +ℤ pos m) (a +ℤ pos n)) ≡ true → int_min a b ≡ a
+min_of a b n m h = grind (arith, ints)
+
+span_of : (a b : ℤ) (n m : ℕ) → (int_le a b && int_le (b +ℤ pos m) (a +ℤ pos n)) ≡ true → nat_abs (int_max (a +ℤ pos n) (b +ℤ pos m) -ℤ int_min a b) ≡ n
+span_of a b n m h = grind (arith, ints)
+
+bound_of_in : (a b : Area) → lies_in b a ≡ true → bound a b ≡ a
+bound_of_in a b h = same_area (min_of a.x b.x a.w b.w (and_left _ _ h)) (min_of a.y b.y a.h b.h (and_right _ _ h)) (span_of a.x b.x a.w b.w (and_left _ _ h)) (span_of a.y b.y a.h b.h (and_right _ _ h))
+
+stays_whole : (o : Option Area) (a t : Area) → has_all o a ≡ true → o ≡ grown o (clipped a t)
+stays_whole None a t h = cc
+stays_whole (Some part) a t h = go (meets a t) refl
+  where
+    go : (b : Bool) → meets a t ≡ b → Some part ≡ grown (Some part) (cond b (Some (common a t)) None)
+    go true m = ap Some (sym (bound_of_in part (common a t) (lies_trans (common a t) a part (common_lies_left a t m) h)))
+    go false m = refl
 
 -- the whole canvas
 past_end : (n i : ℕ) → ltb i n ≡ false → n ≤ i
@@ -277,6 +295,18 @@ part_added parts m place a x e l is k = part_set parts m place x e l k ∙ go (s
 pub part_added_to : (old parts : Parts) (m : Key) (place : ℕ) (a : Area) (x : Option Area) → parts ≡ old → Some place ≡ place_at m.col m.row → place < length parts → x ≡ grown (get_or parts place None) (clipped a (tile m))
     → (k : Key) → part_at (set parts place x) k ≡ cond (same_key k m && on_canvas k) (grown (part_at old k) (clipped a (tile k))) (part_at old k)
 part_added_to old parts m place a x v e l is k = part_added parts m place a x e l is k ∙ ap (λ g. cond (same_key k m && on_canvas k) (grown (part_at g k) (clipped a (tile k))) (part_at g k)) v
+
+nothing_added : (old : Parts) (m : Key) (a : Area) → has_all (part_at old m) a ≡ true → (k : Key) → part_at old k ≡ cond (same_key k m && on_canvas k) (grown (part_at old k) (clipped a (tile k))) (part_at old k)
+nothing_added old m a h k = go (same_key k m) refl (on_canvas k)
+  where
+    go : (s : Bool) → same_key k m ≡ s → (n : Bool) → part_at old k ≡ cond (s && n) (grown (part_at old k) (clipped a (tile k))) (part_at old k)
+    go true s true = stays_whole (part_at old k) a (tile k) (ap (λ (q : Key). has_all (part_at old q) a) (key_same k m s) ∙ h)
+    go true s false = refl
+    go false s n = refl
+
+pub nothing_added_to : (old parts : Parts) (m : Key) (place : ℕ) (a : Area) → parts ≡ old → Some place ≡ place_at m.col m.row → has_all (get_or parts place None) a ≡ true
+    → (k : Key) → part_at old k ≡ cond (same_key k m && on_canvas k) (grown (part_at old k) (clipped a (tile k))) (part_at old k)
+nothing_added_to old parts m place a v e h = nothing_added old m a (ap (λ g. has_all (part_at g m) a) (sym v) ∙ ap (λ o. has_all o a) (part_there parts m place e) ∙ h)
 
 -- the tiles that have a part, place by place
 pub record MarksParts (parts : Parts) (n : ℕ) (g : Grid) : Type 0 where

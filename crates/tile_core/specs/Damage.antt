@@ -1,7 +1,7 @@
 -- Damaged parts of the tiles of a canvas.
 use Rattle.std.specs.Prelude.{◌≡◌, ℕ, Bool, false, Option, Some, None, List, slice_index_or, replicate}
 use Rattle.geom_core.specs.Points.{Point}
-use Rattle.geom_core.specs.Areas.{Area, holds, bound, IsWithin}
+use Rattle.geom_core.specs.Areas.{Area, holds, bound, lies_in, IsWithin}
 use Rattle.geom_core.specs.Grid.{Key, key_of, tile}
 use Rattle.tile_core.specs.Marks.{place_at}
 
@@ -32,6 +32,11 @@ abbrev pub grown : Option Area → Option Area → Option Area
 grown None o = o
 grown (Some a) None = Some a
 grown (Some a) (Some b) = Some (bound a b)
+
+-- whether a part, if there is one, has all points of the rectangle
+abbrev pub has_all : Option Area → Area → Bool
+has_all None a = false
+has_all (Some part) a = lies_in a part
 
 -- no tile is damaged
 abbrev pub intact : Parts

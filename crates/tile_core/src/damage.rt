@@ -4,7 +4,7 @@ ghost use Rattle.std.specs.Prelude.{◌≡◌, ◌&&◌, pos, if◌then◌else�
 ghost use Rattle.geom_core.specs.Areas.{area, clipped, IsWithin};
 ghost use Rattle.geom_core.specs.Grid.{Key, same_key, tile, IsWorldKey};
 ghost use Rattle.tile_core.specs.Marks.{has_mark, on_canvas};
-ghost use Rattle.tile_core.specs.Damage.{part_at, grown, intact};
+ghost use Rattle.tile_core.specs.Damage.{part_at, grown, has_all, intact};
 
 use crate::Marks;
 use crate::marks::place_of;
@@ -75,7 +75,10 @@ impl Damage {
         ensures { (k : Key) → part_at self.new k ≡ (if same_key k key && on_canvas k then grown (part_at self.old k) (clipped rect.now (tile k)) else part_at self.old k) }
     {
         if let Some(place) = place_of(key) {
-            self.parts[place] = grown(self.parts[place], rect.clip(&key.rect()));
+            let part = self.parts[place];
+            if !has_all(&part, rect) {
+                self.parts[place] = grown(part, rect.clip(&key.rect()));
+            }
         }
     }
 
@@ -98,6 +101,17 @@ fn largest() -> Rect
     ensures { result ≡ area (pos 0) (pos 0) 2048 2048 }
 {
     Rect::new(0, 0, 2048, 2048).unwrap()
+}
+
+/// Whether all points of the rectangle are the part's.
+#[inline]
+fn has_all(part: &Option<Rect>, rect: &Rect) -> bool
+    ensures { result ≡ has_all part.now rect.now }
+{
+    match part {
+        Some(part) => rect.lies_in(part),
+        None => false,
+    }
 }
 
 /// The least rectangle round both, or the one that is there.

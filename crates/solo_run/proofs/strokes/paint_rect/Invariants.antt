@@ -1,8 +1,9 @@
 use Rattle.std.proofs.Common.{take}
 use Rattle.geom_core.specs.Grid.{keys_of}
+use Rattle.doc_model.specs.Jobs.{published}
 use Rattle.job_core.specs.Paints.{layer_of}
-use Rattle.solo_run.specs.Painting.{PaintsOn, published_in}
+use Rattle.solo_run.specs.Painting.{PaintsOn, in_tiles}
 use Rattle.solo_run.proofs.strokes.paint_rect.Given as goal
 
 abbrev pub invariant-loop-i : goal.invariant-loop-i
-invariant-loop-i l = PaintsOn (published_in l.job (layer_of l.shot) (take l.i (keys_of l.rect))) l.initial.store l.store
+invariant-loop-i l = PaintsOn (in_tiles (published l.job (layer_of l.shot)) (take l.i (keys_of l.rect))) l.initial.store l.store

@@ -17,7 +17,7 @@ returns-in-Some-first_conflict-clause-pair c = λ first second same.
     let len : c.len.result ≡ length c.args.self.now.jobs = grind (arith, common_steps) in
     let one : c.in-Some-first_conflict.first ≡ first = cc in
     let two : c.len.result + 1 ≡ second = cc in
-    found_some c.args.self.now (c.args.kind, c.args.job) c.in-Some-first_conflict.first none clear (sym c.in-Some-first_conflict.is ∙ c.first_conflict.ensures c.args.job c.new-footprint.ensures)
+    found_some c.args.self.now (c.args.kind, c.args.job) c.in-Some-first_conflict.first none clear (sym c.in-Some-first_conflict.is ∙ c.first_conflict.ensures c.args.kind c.args.job c.footprint_in_run-footprint.ensures)
     ∙ (λ i. Some (one i, sym len i + 1)) ∙ ap (λ n. Some (first, n)) two
 
 pub returns-in-Some-first_conflict-clause-stands : goal.returns-in-Some-first_conflict-clause-stands
@@ -25,7 +25,7 @@ returns-in-Some-first_conflict-clause-stands c = λ fed h _.
     let none : c.args.self.now.overlap ≡ None = search rules in
     let clear : conflict c.args.self.now.jobs ≡ None = subst (λ (s : Fed). conflict s.jobs ≡ None) c.self.view_is c.self.invariant.clear in
     let len : length c.args.self.now.jobs ≡ c.len.result = grind (arith, common_steps) in
-    let told : found c.args.self.now (c.args.kind, c.args.job) ≡ Some (c.in-Some-first_conflict.first, c.len.result + 1) = found_some c.args.self.now (c.args.kind, c.args.job) c.in-Some-first_conflict.first none clear (sym c.in-Some-first_conflict.is ∙ c.first_conflict.ensures c.args.job c.new-footprint.ensures) ∙ ap (λ n. Some (c.in-Some-first_conflict.first, n + 1)) len in
+    let told : found c.args.self.now (c.args.kind, c.args.job) ≡ Some (c.in-Some-first_conflict.first, c.len.result + 1) = found_some c.args.self.now (c.args.kind, c.args.job) c.in-Some-first_conflict.first none clear (sym c.in-Some-first_conflict.is ∙ c.first_conflict.ensures c.args.kind c.args.job c.footprint_in_run-footprint.ensures) ∙ ap (λ n. Some (c.in-Some-first_conflict.first, n + 1)) len in
     subst (λ (s : Fed). StandsFor (fed ++ (c.args.kind, c.args.job) ∷ []) (record s { overlap = Some (c.in-Some-first_conflict.first, c.len.result + 1) })) (sym c.self.view_is) (stands_refused fed (c.args.kind, c.args.job) c.args.self.now (c.in-Some-first_conflict.first, c.len.result + 1) h told)
 
 pub returns-clause-clear : goal.returns-clause-clear
@@ -33,13 +33,13 @@ returns-clause-clear c =
     let none : c.args.self.now.overlap ≡ None = search rules in
     let clear : conflict c.args.self.now.jobs ≡ None = subst (λ (s : Fed). conflict s.jobs ≡ None) c.self.view_is c.self.invariant.clear in
     let last : None ≡ c.first_conflict.result = search rules in
-    found_none c.args.self.now (c.args.kind, c.args.job) none clear (plus_none 1 _ (last ∙ c.first_conflict.ensures c.args.job c.new-footprint.ensures))
+    found_none c.args.self.now (c.args.kind, c.args.job) none clear (plus_none 1 _ (last ∙ c.first_conflict.ensures c.args.kind c.args.job c.footprint_in_run-footprint.ensures))
 
 pub returns-clause-stands : goal.returns-clause-stands
 returns-clause-stands c = λ fed h _.
     let none : c.args.self.now.overlap ≡ None = search rules in
     let clear : conflict c.args.self.now.jobs ≡ None = subst (λ (s : Fed). conflict s.jobs ≡ None) c.self.view_is c.self.invariant.clear in
     let last : None ≡ c.first_conflict.result = search rules in
-    let told : found c.args.self.now (c.args.kind, c.args.job) ≡ None = found_none c.args.self.now (c.args.kind, c.args.job) none clear (plus_none 1 _ (last ∙ c.first_conflict.ensures c.args.job c.new-footprint.ensures)) in
+    let told : found c.args.self.now (c.args.kind, c.args.job) ≡ None = found_none c.args.self.now (c.args.kind, c.args.job) none clear (plus_none 1 _ (last ∙ c.first_conflict.ensures c.args.kind c.args.job c.footprint_in_run-footprint.ensures)) in
     let ok : c.keep.new.self ≡ record c.args.self.now { jobs = c.args.self.now.jobs ++ (c.args.kind, c.args.job) ∷ [] } = search rules in
     rw ok (stands_added fed (c.args.kind, c.args.job) c.args.self.now h told)
