@@ -3,8 +3,7 @@ use Rattle.std.proofs.Common.{◌≡◌, ℕ, ◌+◌, ◌<◌, ◌≤◌, suc, 
 use Rattle.std.specs.List.{filter_map, slice_split, count_by}
 use Rattle.std.specs.Prelude.{◌==◌}
 use Rattle.std.specs.Option.{option_to_list}
-use Rattle.std.specs.Borrow.{Bor}
-use Rattle.std.proofs.lemmas.List.{take_more, length-take-le, append-nil, get_or-map, take_all}
+use Rattle.std.proofs.lemmas.List.{take_more, length-drop, length-take-le, append-nil, get_or-map, take_all}
 use Rattle.std.proofs.lemmas.List.Elements.{filter-append, filter_map-append}
 use Rattle.std.proofs.lemmas.List.Splits.{length-slice_split}
 use Rattle.std.proofs.lemmas.List.Sums.{count_by-le-length}
@@ -14,7 +13,7 @@ use Rattle.doc_model.specs.declared.canvas.Canvas.{Canvas}
 use Rattle.doc_model.specs.declared.command.Command.{Command}
 use Rattle.doc_model.specs.declared.command.Command.TheVariants as command
 use Rattle.script_lines.specs.declared.cause.Cause.{Cause}
-use Rattle.script_lines.specs.Lines.{pointed, fields, lines, is_command}
+use Rattle.script_lines.specs.Lines.{fields, split_lines, lines, is_command}
 use Rattle.script_text.specs.declared.script.ScriptFault.{ScriptFault}
 use Rattle.script_text.specs.declared.script.ReadRefusal.{ReadRefusal}
 use Rattle.script_text.specs.declared.script.ReadRefusal.TheVariants.{Fault, NoMemory}
@@ -155,20 +154,31 @@ count_all f [] = refl
 count_all f (x ∷ xs) = ap suc (count_all f xs)
 
 -- there are as many lists of fields as lines
-pub length_all : (refs : List (Bor (List ℕ))) → length (map fields (pointed refs)) ≡ length refs
-length_all refs = count_all fields (pointed refs) ∙ count_all (λ (r : Bor (List ℕ)). r.now) refs
+count_lines : (bytes : List ℕ) → length (lines bytes) ≡ length (split_lines bytes)
+count_lines bytes = count_all fields (split_lines bytes)
 
--- there are not many more lines than bytes
-pub few_lines : (refs : List (Bor (List ℕ))) (bytes : List ℕ) → pointed refs ≡ slice_split (λ b. b == 10) bytes → length refs ≤ length bytes + 1
-few_lines refs bytes h =
-    let same : length refs ≡ count_by (λ b. b == 10) bytes + 1 = sym (count_all (λ (r : Bor (List ℕ)). r.now) refs) ∙ (ap length h ∙ length-slice_split (λ b. b == 10) bytes) in
-    omega (arith, count_by-le-length (λ b. b == 10) bytes)
+-- a line, and those behind it
+pub record IsLine (bytes : List ℕ) (i : ℕ) (l : List ℕ) (others : List (List ℕ)) : Type 0 where
+  pub inside : i < length (lines bytes)
+  pub is : fields l ≡ get_or (lines bytes) i (fields l)
+  pub behind : drop (i + 1) (split_lines bytes) ≡ others
+  pub few : i ≤ length bytes
 
--- the fields of the line at an index
-pub line_at : (refs : List (Bor (List ℕ))) (i : ℕ) (r : Bor (List ℕ)) (f : Fields) → i < length refs → r ≡ get_or refs i r → f ≡ fields r.now → f ≡ get_or (map fields (pointed refs)) i f
-line_at refs i r f h e is =
-    let k : i < length (pointed refs) = subst (λ n. i < n) (sym (count_all (λ (r : Bor (List ℕ)). r.now) refs)) h in
-    is ∙ (ap (λ (r : Bor (List ℕ)). fields r.now) e ∙ (ap fields (sym (get_or-map (λ (r : Bor (List ℕ)). r.now) refs i r r.now h)) ∙ sym (get_or-map fields (pointed refs) i r.now f k)))
+pub is_line : (bytes : List ℕ) (i : ℕ) (l : List ℕ) (others : List (List ℕ)) → drop i (split_lines bytes) ≡ l ∷ others → IsLine bytes i l others
+is_line bytes i l others e =
+    let all = split_lines bytes in
+    let h : i < length all = omega (arith, length-drop i all, ap length e) in
+    let cut : l ∷ others ≡ get_or all i l ∷ drop (suc i) all = sym e ∙ drop-cons all i l h in
+    record {
+      inside = subst (λ n. i < n) (sym (count_lines bytes)) h;
+      is = ap (λ ls. fields (get_or ls 0 l)) cut ∙ sym (get_or-map fields all i l (fields l) h);
+      behind = rw (add-one) (sym (ap (drop 1) cut));
+      few = omega (arith, h, length-slice_split (λ b. b == 10) bytes, count_by-le-length (λ b. b == 10) bytes);
+    }
+
+-- where no lines are left
+pub none_left : (bytes : List ℕ) (i : ℕ) → drop i (split_lines bytes) ≡ [] → length (lines bytes) ≤ i
+none_left bytes i e = omega (arith, count_lines bytes, length-drop i (split_lines bytes), ap length e)
 
 -- what a loop over the lines knows at the line with index i
 pub record Going (all : List Fields) (i : ℕ) (r : Reading) (total : Option ScriptFault) : Type 0 where
