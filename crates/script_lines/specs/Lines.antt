@@ -29,15 +29,11 @@ abbrev pub is_command : List (List ℕ) → Bool
 is_command [] = false
 is_command (first ∷ others) = begins_command first
 
--- the lines between line feeds
-abbrev pub split_lines : List ℕ → List (List ℕ)
-split_lines bytes = slice_split (λ b. b == 10) bytes
-
--- the lines behind another's line feed, where it has one
-abbrev pub lines_behind : Option (Bor (List ℕ)) → List (List ℕ)
-lines_behind None = []
-lines_behind (Some behind) = split_lines behind.now
-
 -- the lines between line feeds, each as its fields
 abbrev pub lines : List ℕ → List (List (List ℕ))
-lines bytes = map fields (split_lines bytes)
+lines bytes = map fields (slice_split (λ b. b == 10) bytes)
+
+-- the lines behind another's line feed, where it has one
+abbrev pub lines_behind : Option (Bor (List ℕ)) → List (List (List ℕ))
+lines_behind None = []
+lines_behind (Some behind) = lines behind.now

@@ -1,31 +1,17 @@
 //! Lines of a script and their fields.
 
-ghost use Rattle.std.specs.Prelude.{◌≡◌, ◌∷◌, [], ◌++◌, OnOk};
+ghost use Rattle.std.specs.Prelude.{◌≡◌, ◌==◌, ◌||◌, ◌∷◌, [], ◌++◌, IfOk, OnOk};
 ghost use Rattle.std.specs.List.{filter};
-ghost use Rattle.script_lines.specs.Lines.{pointed, split_lines, lines_behind, is_some_field, fields as fields_in, is_command as starts, is_blank as blank};
+ghost use Rattle.script_lines.specs.Lines.{pointed, lines, lines_behind, is_some_field, is_command as starts, is_blank as blank};
 
-use memchr::memchr;
 use std::alloc::AllocError;
 
+/// Whether it is a blank or a line feed.
 #[inline]
-fn is_blank(b: u8) -> bool
-    ensures { result ≡ blank b }
+fn ends_piece(b: u8) -> bool
+    ensures { result ≡ (blank b || b == 10) }
 {
-    b == b' ' || b == b'\t' || b == b'\r'
-}
-
-/// The first line, and what stands behind its line feed. None where it has no line feed.
-pub fn next_line(bytes: &[u8]) -> (&[u8], Option<&[u8]>)
-    ensures { split_lines bytes.now ≡ result.0.now ∷ lines_behind result.1 }
-{
-    match memchr(b'\n', bytes) {
-        Some(i) => {
-            let (line, _) = bytes.split_at(i);
-            let (_, behind) = bytes.split_at(i + 1);
-            (line, Some(behind))
-        }
-        None => (bytes, None),
-    }
+    b == b' ' || b == b'\t' || b == b'\r' || b == b'\n'
 }
 
 /// Adds a piece between blanks, if it is a field.
@@ -38,19 +24,29 @@ fn add_piece<'a>(piece: &'a [u8], fields: &mut Vec<&'a [u8]>) -> Result<(), Allo
     Ok(())
 }
 
-/// Replaces what the list holds by the fields of a line, so that one list serves all lines.
-pub fn fields_into<'a>(line: &'a [u8], fields: &mut Vec<&'a [u8]>) -> Result<(), AllocError>
-    ensures { OnOk result (pointed fields.new.items ≡ fields_in line.now) }
+/// Replaces what the list holds by the fields of the first line, so that one list serves all lines,
+/// and gives what stands behind its line feed. None where it has no line feed.
+pub fn next_fields<'a>(
+    bytes: &'a [u8],
+    fields: &mut Vec<&'a [u8]>,
+) -> Result<Option<&'a [u8]>, AllocError>
+    ensures { IfOk result (λ behind. lines bytes.now ≡ pointed fields.new.items ∷ lines_behind behind) }
 {
     fields.clear();
     let mut start = 0;
-    for i in 0..line.len() {
-        if is_blank(line[i]) {
-            add_piece(&line[start..i], fields)?;
+    for i in 0..bytes.len() {
+        let byte = bytes[i];
+        if ends_piece(byte) {
+            add_piece(&bytes[start..i], fields)?;
             start = i + 1;
+            if byte == b'\n' {
+                let (_, behind) = bytes.split_at(start);
+                return Ok(Some(behind));
+            }
         }
     }
-    add_piece(&line[start..], fields)
+    add_piece(&bytes[start..], fields)?;
+    Ok(None)
 }
 
 /// Whether the fields of a line are those of a command.

@@ -13,7 +13,7 @@ use Rattle.doc_model.specs.declared.canvas.Canvas.{Canvas}
 use Rattle.doc_model.specs.declared.command.Command.{Command}
 use Rattle.doc_model.specs.declared.command.Command.TheVariants as command
 use Rattle.script_lines.specs.declared.cause.Cause.{Cause}
-use Rattle.script_lines.specs.Lines.{fields, split_lines, lines, is_command}
+use Rattle.script_lines.specs.Lines.{fields, lines, is_command}
 use Rattle.script_text.specs.declared.script.ScriptFault.{ScriptFault}
 use Rattle.script_text.specs.declared.script.ReadRefusal.{ReadRefusal}
 use Rattle.script_text.specs.declared.script.ReadRefusal.TheVariants.{Fault, NoMemory}
@@ -153,32 +153,32 @@ count_all : {A B : Type 0} (f : A → B) (xs : List A) → length (map f xs) ≡
 count_all f [] = refl
 count_all f (x ∷ xs) = ap suc (count_all f xs)
 
--- there are as many lists of fields as lines
-count_lines : (bytes : List ℕ) → length (lines bytes) ≡ length (split_lines bytes)
-count_lines bytes = count_all fields (split_lines bytes)
+-- there are not many more lines than bytes
+few_lines : (bytes : List ℕ) → length (lines bytes) ≤ length bytes + 1
+few_lines bytes = omega (arith, count_all fields (slice_split (λ b. b == 10) bytes), length-slice_split (λ b. b == 10) bytes, count_by-le-length (λ b. b == 10) bytes)
 
--- a line, and those behind it
-pub record IsLine (bytes : List ℕ) (i : ℕ) (l : List ℕ) (others : List (List ℕ)) : Type 0 where
+-- a line by its fields, and those behind it
+pub record IsLine (bytes : List ℕ) (i : ℕ) (f : Fields) (others : List Fields) : Type 0 where
   pub inside : i < length (lines bytes)
-  pub is : fields l ≡ get_or (lines bytes) i (fields l)
-  pub behind : drop (i + 1) (split_lines bytes) ≡ others
+  pub is : f ≡ get_or (lines bytes) i f
+  pub behind : drop (i + 1) (lines bytes) ≡ others
   pub few : i ≤ length bytes
 
-pub is_line : (bytes : List ℕ) (i : ℕ) (l : List ℕ) (others : List (List ℕ)) → drop i (split_lines bytes) ≡ l ∷ others → IsLine bytes i l others
-is_line bytes i l others e =
-    let all = split_lines bytes in
+pub is_line : (bytes : List ℕ) (i : ℕ) (f : Fields) (others : List Fields) → drop i (lines bytes) ≡ f ∷ others → IsLine bytes i f others
+is_line bytes i f others e =
+    let all = lines bytes in
     let h : i < length all = omega (arith, length-drop i all, ap length e) in
-    let cut : l ∷ others ≡ get_or all i l ∷ drop (suc i) all = sym e ∙ drop-cons all i l h in
+    let cut : f ∷ others ≡ get_or all i f ∷ drop (suc i) all = sym e ∙ drop-cons all i f h in
     record {
-      inside = subst (λ n. i < n) (sym (count_lines bytes)) h;
-      is = ap (λ ls. fields (get_or ls 0 l)) cut ∙ sym (get_or-map fields all i l (fields l) h);
+      inside = h;
+      is = ap (λ ls. get_or ls 0 f) cut;
       behind = rw (add-one) (sym (ap (drop 1) cut));
-      few = omega (arith, h, length-slice_split (λ b. b == 10) bytes, count_by-le-length (λ b. b == 10) bytes);
+      few = omega (arith, h, few_lines bytes);
     }
 
 -- where no lines are left
-pub none_left : (bytes : List ℕ) (i : ℕ) → drop i (split_lines bytes) ≡ [] → length (lines bytes) ≤ i
-none_left bytes i e = omega (arith, count_lines bytes, length-drop i (split_lines bytes), ap length e)
+pub none_left : (bytes : List ℕ) (i : ℕ) → drop i (lines bytes) ≡ [] → length (lines bytes) ≤ i
+none_left bytes i e = omega (arith, length-drop i (lines bytes), ap length e)
 
 -- what a loop over the lines knows at the line with index i
 pub record Going (all : List Fields) (i : ℕ) (r : Reading) (total : Option ScriptFault) : Type 0 where

@@ -14,7 +14,7 @@ use crate::draft::{Draft, add_last};
 use crate::script::{ReadRefusal, Script, at};
 use doc_model::{Canvas, Command};
 use script_forms::{Word, canvas, command_of, is, word_of};
-use script_lines::{Cause, fields_into, is_command, next_line};
+use script_lines::{Cause, is_command, next_fields};
 use std::alloc::Global;
 
 /// Where a stroke starts.
@@ -185,8 +185,7 @@ pub fn read(alloc: Global, bytes: &[u8]) -> Result<Script, ReadRefusal>
     let mut number = 0;
     let mut left = Some(bytes);
     while let Some(rest) = left {
-        let (line, behind) = next_line(rest);
-        fields_into(line, &mut fields)?;
+        let behind = next_fields(rest, &mut fields)?;
         number += 1;
         if is_command(&fields) {
             reading.take(number, &fields)?;

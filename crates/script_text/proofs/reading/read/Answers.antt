@@ -1,8 +1,8 @@
-use Rattle.std.proofs.Common.{rules, ◌≡◌, ◌≤◌, ◌+◌, length, [], ◌∷◌, sym, ap, subst, ◌∙◌, drop, None, Some, true, false, Err, arith, refl, get_or}
-use Rattle.script_lines.specs.Lines.{pointed, fields, lines, split_lines, lines_behind, is_command}
-use Rattle.script_text.specs.Reading.{fault, fault_after, cause_by, script}
+use Rattle.std.proofs.Common.{rules, ◌≡◌, ◌+◌, [], ◌∷◌, sym, subst, drop, None, true, false, Err, refl}
+use Rattle.script_lines.specs.Lines.{pointed, lines, lines_behind, is_command}
+use Rattle.script_text.specs.Reading.{fault, cause_by, script}
 use Rattle.script_text.specs.Read.{Answers, IsRefused, Takes, Fits}
-use Rattle.script_text.proofs.Scanning.{cmds, Going, IsLine, is_line, taken, passed, refused_at, all_read, starts_match, none_left}
+use Rattle.script_text.proofs.Scanning.{is_line, taken, passed, refused_at, all_read, starts_match, none_left}
 use Rattle.script_text.proofs.reading.read.Goals as goal
 
 pub loop-left-init : goal.loop-left-init
@@ -17,57 +17,51 @@ loop-left-init c = record {
 
 pub overflow_add-number : goal.overflow_add-number
 overflow_add-number c =
-    let here : drop c.loop-left.number (split_lines c.args.bytes.now) ≡ c.next_line.result.0.now ∷ lines_behind c.next_line.result.1 = search rules in
+    let here : drop c.loop-left.number (lines c.args.bytes.now) ≡ pointed c.next_fields.new.fields.items ∷ lines_behind c.in_ok-behind.behind = search rules in
     let few = (is_line c.args.bytes.now c.loop-left.number _ _ here).few in
     search (rules, few)
 
 pub returns-in_err-take : goal.returns-in_err-take
 returns-in_err-take c =
     let bytes = c.args.bytes.now in
-    let f = pointed c.fields_into.new.fields.items in
+    let f = pointed c.next_fields.new.fields.items in
     let n = c.loop-left.number in
     let r = c.loop-left.reading in
-    let here : drop n (split_lines bytes) ≡ c.next_line.result.0.now ∷ lines_behind c.next_line.result.1 = search rules in
+    let here : drop n (lines bytes) ≡ f ∷ lines_behind c.in_ok-behind.behind = search rules in
     let line = is_line bytes n _ _ here in
-    let e : f ≡ fields c.next_line.result.0.now = search rules in
     let is : is_command f ≡ true = search rules in
     let told : c.from_residual-in_err-take.result ≡ Err c.in_err-take.field-0.0 = search rules in
     let bad : IsRefused {A = Unit {0}} (Err c.in_err-take.field-0.0) (n + 1) (cause_by r.canvas r.draft f) = search rules in
-    let at : f ≡ get_or (lines bytes) n f = subst (λ g. g ≡ get_or (lines bytes) n g) (sym e) line.is in
-    subst (λ x. Answers x (fault bytes) (script bytes)) (sym told) (refused_at (lines bytes) n f r (fault bytes) (script bytes) c.in_err-take.field-0.0 line.inside at is c.loop-left.invariant.going bad)
+    subst (λ x. Answers x (fault bytes) (script bytes)) (sym told) (refused_at (lines bytes) n f r (fault bytes) (script bytes) c.in_err-take.field-0.0 line.inside line.is is c.loop-left.invariant.going bad)
 
 pub loop-left-preserved-in_ok-take : goal.loop-left-preserved-in_ok-take
 loop-left-preserved-in_ok-take c =
     let bytes = c.args.bytes.now in
-    let f = pointed c.fields_into.new.fields.items in
+    let f = pointed c.next_fields.new.fields.items in
     let n = c.loop-left.number in
     let r = c.loop-left.reading in
     let new = c.take.new.self in
-    let here : drop n (split_lines bytes) ≡ c.next_line.result.0.now ∷ lines_behind c.next_line.result.1 = search rules in
+    let here : drop n (lines bytes) ≡ f ∷ lines_behind c.in_ok-behind.behind = search rules in
     let line = is_line bytes n _ _ here in
-    let e : f ≡ fields c.next_line.result.0.now = search rules in
     let is : is_command f ≡ true = search rules in
     let t : Takes r new (n + 1) f = search rules in
     let fits : Fits new.canvas = search rules in
     let none : cause_by r.canvas r.draft f ≡ None = search rules in
-    let at : f ≡ get_or (lines bytes) n f = subst (λ g. g ≡ get_or (lines bytes) n g) (sym e) line.is in
     record {
-      going = taken (lines bytes) n f r new (fault bytes) line.inside at is c.loop-left.invariant.going t fits none;
+      going = taken (lines bytes) n f r new (fault bytes) line.inside line.is is c.loop-left.invariant.going t fits none;
       left = line.behind;
     }
 
 pub loop-left-preserved : goal.loop-left-preserved
 loop-left-preserved c =
     let bytes = c.args.bytes.now in
-    let f = pointed c.fields_into.new.fields.items in
+    let f = pointed c.next_fields.new.fields.items in
     let n = c.loop-left.number in
-    let here : drop n (split_lines bytes) ≡ c.next_line.result.0.now ∷ lines_behind c.next_line.result.1 = search rules in
+    let here : drop n (lines bytes) ≡ f ∷ lines_behind c.in_ok-behind.behind = search rules in
     let line = is_line bytes n _ _ here in
-    let e : f ≡ fields c.next_line.result.0.now = search rules in
     let is : is_command f ≡ false = search rules in
-    let at : f ≡ get_or (lines bytes) n f = subst (λ g. g ≡ get_or (lines bytes) n g) (sym e) line.is in
     record {
-      going = passed (lines bytes) n f c.loop-left.reading (fault bytes) line.inside at is c.loop-left.invariant.going;
+      going = passed (lines bytes) n f c.loop-left.reading (fault bytes) line.inside line.is is c.loop-left.invariant.going;
       left = line.behind;
     }
 
@@ -77,5 +71,5 @@ finish-requires-clause-starts c = starts_match c.loop-left.reading _ c.loop-left
 pub returns : goal.returns
 returns c =
     let bytes = c.args.bytes.now in
-    let over : drop c.loop-left.number (split_lines bytes) ≡ [] = search rules in
+    let over : drop c.loop-left.number (lines bytes) ≡ [] = search rules in
     all_read bytes (lines bytes) c.loop-left.number c.loop-left.reading c.finish.result refl (none_left bytes c.loop-left.number over) c.loop-left.invariant.going c.finish.ensures
