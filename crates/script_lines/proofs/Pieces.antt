@@ -1,5 +1,5 @@
 -- The pieces of a list between the items that pass a test, and the fields of a line.
-use Rattle.std.proofs.Common.{◌≡◌, ◌∙◌, ℕ, ◌+◌, ◌-◌, ◌<◌, ◌≤◌, Bool, true, false, List, [], ◌∷◌, ◌++◌, length, get_or, take, drop, ap, sym, refl, ◌||◌, append_assoc, eq-or-lt_of_le, ◌⊎◌, inl, inr, arith}
+use Rattle.std.proofs.Common.{◌≡◌, ◌∙◌, ℕ, ◌+◌, ◌-◌, ◌<◌, ◌≤◌, Bool, true, false, List, [], ◌∷◌, ◌++◌, length, get_or, take, drop, ap, sym, refl, ◌||◌, append_assoc, eq-or-lt_of_le, inl, inr, arith}
 use Rattle.std.specs.List.{All, slice_split, position_or_len, filter}
 use Rattle.script_lines.specs.Lines.{is_blank, is_some_field, fields}
 use Rattle.std.proofs.lemmas.List.{get_or-drop, length-drop, length-take-le, get_or-take, take_more}
