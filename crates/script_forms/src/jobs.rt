@@ -43,6 +43,7 @@ pub struct Tip {
 }
 
 #[tactic(auto, unfolding(crate::specs::Jobs::outline))]
+#[inline(always)]
 fn read_outline(left: &[u8], top: &[u8], width: &[u8], height: &[u8]) -> Result<Outline, Cause>
     ensures value { result ≡ told_outline left.now top.now width.now height.now }
     ensures ranges { IfOk result IsOutline }
@@ -55,6 +56,7 @@ fn read_outline(left: &[u8], top: &[u8], width: &[u8], height: &[u8]) -> Result<
 }
 
 #[tactic(auto, unfolding(crate::specs::Jobs::ink))]
+#[inline(always)]
 fn read_ink(colour: &[u8], operation: &[u8], strength: &[u8]) -> Result<Ink, Cause>
     ensures value { result ≡ told_ink colour.now operation.now strength.now }
     ensures colour { IfOk result (λ i. is_pixel i.colour ≡ true) }
@@ -71,6 +73,7 @@ fn read_ink(colour: &[u8], operation: &[u8], strength: &[u8]) -> Result<Ink, Cau
 }
 
 #[tactic(auto, unfolding(crate::specs::Jobs::tip))]
+#[inline(always)]
 fn read_tip(left: &[u8], top: &[u8], radius: &[u8], edge: &[u8]) -> Result<Tip, Cause>
     ensures value { result ≡ told_tip left.now top.now radius.now edge.now }
     ensures ranges { IfOk result IsTip }
@@ -83,6 +86,7 @@ fn read_tip(left: &[u8], top: &[u8], radius: &[u8], edge: &[u8]) -> Result<Tip, 
 }
 
 /// The rectangle with these sides, where the world holds it.
+#[inline]
 fn rect(x: i32, y: i32, w: u32, h: u32) -> Result<Rect, Cause>
     requires w { 1 ≤ w × w ≤ 32768 }
     requires h { 1 ≤ h × h ≤ 32768 }

@@ -2,7 +2,7 @@
 
 ghost use Rattle.std.specs.Prelude.{◌≡◌};
 ghost use Rattle.std.specs.Str.{bytes_eq};
-ghost use Rattle.script_forms.specs.Words.{word_of as said_word, work_of as said_work, kind_of as said_kind, op_of as said_op, edge_of as said_edge, seen_of as said_seen, exclusive_of as said_exclusive};
+ghost use Rattle.script_forms.specs.Words.{word_of as said_word, kind_of as said_kind, op_of as said_op, edge_of as said_edge, seen_of as said_seen, exclusive_of as said_exclusive};
 
 use doc_model::Kind;
 use pixel_core::Op;
@@ -42,53 +42,28 @@ pub fn is(field: &[u8], word: &[u8]) -> bool
     field == word
 }
 
-#[tactic(auto, unfolding(crate::specs::Words::word_of))]
+#[tactic(auto, unfolding(crate::specs::Words::word_of, crate::specs::Words::work_of))]
 pub fn word_of(field: &[u8]) -> Option<Word>
     ensures { result ≡ said_word field.now }
 {
-    if is(field, b"layer") {
-        Some(Word::Layer)
-    } else if is(field, b"group") {
-        Some(Word::Group)
-    } else if is(field, b"remove") {
-        Some(Word::Remove)
-    } else if is(field, b"place") {
-        Some(Word::Place)
-    } else if is(field, b"look") {
-        Some(Word::Look)
-    } else if is(field, b"stroke") {
-        Some(Word::Stroke)
-    } else if is(field, b"end") {
-        Some(Word::End)
-    } else if is(field, b"cancel") {
-        Some(Word::Cancel)
-    } else if is(field, b"undo") {
-        Some(Word::Undo)
-    } else if is(field, b"redo") {
-        Some(Word::Redo)
-    } else if is(field, b"purge") {
-        Some(Word::Purge)
-    } else if is(field, b"export") {
-        Some(Word::Export)
-    } else {
-        Some(Word::Paint(work_of(field)?))
-    }
-}
-
-#[tactic(auto, unfolding(crate::specs::Words::work_of))]
-fn work_of(field: &[u8]) -> Option<Work>
-    ensures { result ≡ said_work field.now }
-{
-    if is(field, b"fill") {
-        Some(Work::Fill)
-    } else if is(field, b"dab") {
-        Some(Work::Dab)
-    } else if is(field, b"move") {
-        Some(Work::Move)
-    } else if is(field, b"blur") {
-        Some(Work::Blur)
-    } else {
-        None
+    match field {
+        b"fill" => Some(Word::Paint(Work::Fill)),
+        b"dab" => Some(Word::Paint(Work::Dab)),
+        b"move" => Some(Word::Paint(Work::Move)),
+        b"blur" => Some(Word::Paint(Work::Blur)),
+        b"layer" => Some(Word::Layer),
+        b"group" => Some(Word::Group),
+        b"remove" => Some(Word::Remove),
+        b"place" => Some(Word::Place),
+        b"look" => Some(Word::Look),
+        b"stroke" => Some(Word::Stroke),
+        b"end" => Some(Word::End),
+        b"cancel" => Some(Word::Cancel),
+        b"undo" => Some(Word::Undo),
+        b"redo" => Some(Word::Redo),
+        b"purge" => Some(Word::Purge),
+        b"export" => Some(Word::Export),
+        _ => None,
     }
 }
 
@@ -96,16 +71,12 @@ fn work_of(field: &[u8]) -> Option<Work>
 pub fn kind_of(field: &[u8]) -> Result<Kind, Cause>
     ensures { result ≡ said_kind field.now }
 {
-    if is(field, b"con") {
-        Ok(Kind::Con)
-    } else if is(field, b"seq") {
-        Ok(Kind::Seq)
-    } else if is(field, b"bar") {
-        Ok(Kind::Bar)
-    } else if is(field, b"uni") {
-        Ok(Kind::Uni)
-    } else {
-        Err(Cause::UnknownWord)
+    match field {
+        b"con" => Ok(Kind::Con),
+        b"seq" => Ok(Kind::Seq),
+        b"bar" => Ok(Kind::Bar),
+        b"uni" => Ok(Kind::Uni),
+        _ => Err(Cause::UnknownWord),
     }
 }
 
@@ -113,18 +84,13 @@ pub fn kind_of(field: &[u8]) -> Result<Kind, Cause>
 pub fn op_of(field: &[u8]) -> Result<Op, Cause>
     ensures { result ≡ said_op field.now }
 {
-    if is(field, b"over") {
-        Ok(Op::Over)
-    } else if is(field, b"erase") {
-        Ok(Op::Erase)
-    } else if is(field, b"multiply") {
-        Ok(Op::Multiply)
-    } else if is(field, b"screen") {
-        Ok(Op::Screen)
-    } else if is(field, b"addition") {
-        Ok(Op::Addition)
-    } else {
-        Err(Cause::UnknownWord)
+    match field {
+        b"over" => Ok(Op::Over),
+        b"erase" => Ok(Op::Erase),
+        b"multiply" => Ok(Op::Multiply),
+        b"screen" => Ok(Op::Screen),
+        b"addition" => Ok(Op::Addition),
+        _ => Err(Cause::UnknownWord),
     }
 }
 
@@ -133,12 +99,10 @@ pub fn op_of(field: &[u8]) -> Result<Op, Cause>
 pub fn edge_of(field: &[u8]) -> Result<bool, Cause>
     ensures { result ≡ said_edge field.now }
 {
-    if is(field, b"hard") {
-        Ok(false)
-    } else if is(field, b"soft") {
-        Ok(true)
-    } else {
-        Err(Cause::UnknownWord)
+    match field {
+        b"hard" => Ok(false),
+        b"soft" => Ok(true),
+        _ => Err(Cause::UnknownWord),
     }
 }
 
@@ -147,12 +111,10 @@ pub fn edge_of(field: &[u8]) -> Result<bool, Cause>
 pub fn seen_of(field: &[u8]) -> Result<bool, Cause>
     ensures { result ≡ said_seen field.now }
 {
-    if is(field, b"on") {
-        Ok(true)
-    } else if is(field, b"off") {
-        Ok(false)
-    } else {
-        Err(Cause::UnknownWord)
+    match field {
+        b"on" => Ok(true),
+        b"off" => Ok(false),
+        _ => Err(Cause::UnknownWord),
     }
 }
 
@@ -161,9 +123,8 @@ pub fn seen_of(field: &[u8]) -> Result<bool, Cause>
 pub fn exclusive_of(field: &[u8]) -> Result<bool, Cause>
     ensures { result ≡ said_exclusive field.now }
 {
-    if is(field, b"exclusive") {
-        Ok(true)
-    } else {
-        Err(Cause::UnknownWord)
+    match field {
+        b"exclusive" => Ok(true),
+        _ => Err(Cause::UnknownWord),
     }
 }

@@ -1,1 +1,3 @@
 pub mod DigitLemmas
+pub mod Pieces
+pub mod SpelledPixels

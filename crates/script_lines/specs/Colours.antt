@@ -24,6 +24,23 @@ hex_byte high low = do
   y ← hex_digit low
   Ok (16 * x + y)
 
+-- the value of a hexadecimal digit, or 256 where it is none
+abbrev pub digit_or_more : ℕ → ℕ
+digit_or_more b = if nat_lt (digit_value b) 16 then digit_value b else 256
+
+-- a number that stands for one below a limit, or else for none
+abbrev pub below : ℕ → ℕ → Result ℕ Cause
+below limit n = if nat_lt n limit then Ok n else Err Number
+
+-- the pixel of four bytes, where each was read
+abbrev pub pixel_by : Result ℕ Cause → Result ℕ Cause → Result ℕ Cause → Result ℕ Cause → Result Rgba Cause
+pixel_by told_red told_green told_blue told_alpha = do
+  red ← told_red
+  green ← told_green
+  blue ← told_blue
+  alpha ← told_alpha
+  Ok (if_canonical red green blue alpha)
+
 -- six hexadecimal digits: an opaque pixel
 unfoldable pub rgb : List ℕ → Result Rgba Cause
 rgb (a ∷ b ∷ c ∷ d ∷ e ∷ f ∷ []) = do

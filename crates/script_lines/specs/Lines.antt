@@ -1,5 +1,5 @@
 -- The lines of a script and their fields.
-use Rattle.std.specs.Prelude.{ℕ, Bool, false, not, ◌==◌, ◌||◌, List, [], ◌∷◌, length, map, filter}
+use Rattle.std.specs.Prelude.{ℕ, Bool, false, not, ◌==◌, ◌||◌, List, [], ◌∷◌, length, map, filter, Option, None, Some}
 use Rattle.std.specs.List.{slice_split}
 use Rattle.std.specs.Borrow.{Bor}
 
@@ -32,3 +32,8 @@ is_command (first ∷ others) = begins_command first
 -- the lines between line feeds, each as its fields
 abbrev pub lines : List ℕ → List (List (List ℕ))
 lines bytes = map fields (slice_split (λ b. b == 10) bytes)
+
+-- the lines behind another's line feed, where it has one
+abbrev pub lines_behind : Option (Bor (List ℕ)) → List (List (List ℕ))
+lines_behind None = []
+lines_behind (Some behind) = lines behind.now

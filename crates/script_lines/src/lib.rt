@@ -8,5 +8,5 @@ mod numbers;
 
 pub use cause::Cause;
 pub use colours::{rgb, rgba};
-pub use lines::{fields_into, is_command, lines_of};
+pub use lines::{is_command, next_fields};
 pub use numbers::{natural, number_in};

@@ -3,8 +3,7 @@ use Rattle.std.proofs.Common.{◌≡◌, ℕ, ◌+◌, ◌<◌, ◌≤◌, suc, 
 use Rattle.std.specs.List.{filter_map, slice_split, count_by}
 use Rattle.std.specs.Prelude.{◌==◌}
 use Rattle.std.specs.Option.{option_to_list}
-use Rattle.std.specs.Borrow.{Bor}
-use Rattle.std.proofs.lemmas.List.{take_more, length-take-le, append-nil, get_or-map, take_all}
+use Rattle.std.proofs.lemmas.List.{take_more, length-drop, length-take-le, append-nil, take_all}
 use Rattle.std.proofs.lemmas.List.Elements.{filter-append, filter_map-append}
 use Rattle.std.proofs.lemmas.List.Splits.{length-slice_split}
 use Rattle.std.proofs.lemmas.List.Sums.{count_by-le-length}
@@ -14,7 +13,7 @@ use Rattle.doc_model.specs.declared.canvas.Canvas.{Canvas}
 use Rattle.doc_model.specs.declared.command.Command.{Command}
 use Rattle.doc_model.specs.declared.command.Command.TheVariants as command
 use Rattle.script_lines.specs.declared.cause.Cause.{Cause}
-use Rattle.script_lines.specs.Lines.{pointed, fields, lines, is_command}
+use Rattle.script_lines.specs.Lines.{fields, lines, is_command}
 use Rattle.script_text.specs.declared.script.ScriptFault.{ScriptFault}
 use Rattle.script_text.specs.declared.script.ReadRefusal.{ReadRefusal}
 use Rattle.script_text.specs.declared.script.ReadRefusal.TheVariants.{Fault, NoMemory}
@@ -154,21 +153,32 @@ count_all : {A B : Type 0} (f : A → B) (xs : List A) → length (map f xs) ≡
 count_all f [] = refl
 count_all f (x ∷ xs) = ap suc (count_all f xs)
 
--- there are as many lists of fields as lines
-pub length_all : (refs : List (Bor (List ℕ))) → length (map fields (pointed refs)) ≡ length refs
-length_all refs = count_all fields (pointed refs) ∙ count_all (λ (r : Bor (List ℕ)). r.now) refs
-
 -- there are not many more lines than bytes
-pub few_lines : (refs : List (Bor (List ℕ))) (bytes : List ℕ) → pointed refs ≡ slice_split (λ b. b == 10) bytes → length refs ≤ length bytes + 1
-few_lines refs bytes h =
-    let same : length refs ≡ count_by (λ b. b == 10) bytes + 1 = sym (count_all (λ (r : Bor (List ℕ)). r.now) refs) ∙ (ap length h ∙ length-slice_split (λ b. b == 10) bytes) in
-    omega (arith, count_by-le-length (λ b. b == 10) bytes)
+few_lines : (bytes : List ℕ) → length (lines bytes) ≤ length bytes + 1
+few_lines bytes = omega (arith, count_all fields (slice_split (λ b. b == 10) bytes), length-slice_split (λ b. b == 10) bytes, count_by-le-length (λ b. b == 10) bytes)
 
--- the fields of the line at an index
-pub line_at : (refs : List (Bor (List ℕ))) (i : ℕ) (r : Bor (List ℕ)) (f : Fields) → i < length refs → r ≡ get_or refs i r → f ≡ fields r.now → f ≡ get_or (map fields (pointed refs)) i f
-line_at refs i r f h e is =
-    let k : i < length (pointed refs) = subst (λ n. i < n) (sym (count_all (λ (r : Bor (List ℕ)). r.now) refs)) h in
-    is ∙ (ap (λ (r : Bor (List ℕ)). fields r.now) e ∙ (ap fields (sym (get_or-map (λ (r : Bor (List ℕ)). r.now) refs i r r.now h)) ∙ sym (get_or-map fields (pointed refs) i r.now f k)))
+-- a line by its fields, and those behind it
+pub record IsLine (bytes : List ℕ) (i : ℕ) (f : Fields) (others : List Fields) : Type 0 where
+  pub inside : i < length (lines bytes)
+  pub is : f ≡ get_or (lines bytes) i f
+  pub behind : drop (i + 1) (lines bytes) ≡ others
+  pub few : i ≤ length bytes
+
+pub is_line : (bytes : List ℕ) (i : ℕ) (f : Fields) (others : List Fields) → drop i (lines bytes) ≡ f ∷ others → IsLine bytes i f others
+is_line bytes i f others e =
+    let all = lines bytes in
+    let h : i < length all = omega (arith, length-drop i all, ap length e) in
+    let cut : f ∷ others ≡ get_or all i f ∷ drop (suc i) all = sym e ∙ drop-cons all i f h in
+    record {
+      inside = h;
+      is = ap (λ ls. get_or ls 0 f) cut;
+      behind = rw (add-one) (sym (ap (drop 1) cut));
+      few = omega (arith, h, few_lines bytes);
+    }
+
+-- where no lines are left
+pub none_left : (bytes : List ℕ) (i : ℕ) → drop i (lines bytes) ≡ [] → length (lines bytes) ≤ i
+none_left bytes i e = omega (arith, length-drop i (lines bytes), ap length e)
 
 -- what a loop over the lines knows at the line with index i
 pub record Going (all : List Fields) (i : ℕ) (r : Reading) (total : Option ScriptFault) : Type 0 where

@@ -14,7 +14,7 @@ use crate::draft::{Draft, add_last};
 use crate::script::{ReadRefusal, Script, at};
 use doc_model::{Canvas, Command};
 use script_forms::{Word, canvas, command_of, is, word_of};
-use script_lines::{Cause, fields_into, is_command, lines_of};
+use script_lines::{Cause, is_command, next_fields};
 use std::alloc::Global;
 
 /// Where a stroke starts.
@@ -180,14 +180,17 @@ pub fn read(alloc: Global, bytes: &[u8]) -> Result<Script, ReadRefusal>
     requires { length bytes.now < 4294967295 }
     ensures { Answers result (fault bytes.now) (script bytes.now) }
 {
-    let lines = lines_of(alloc, bytes)?;
     let mut fields = Vec::new(alloc);
     let mut reading = Reading::new(alloc);
-    for i in 0..lines.len() {
-        fields_into(lines[i], &mut fields)?;
+    let mut number = 0;
+    let mut left = Some(bytes);
+    while let Some(rest) = left {
+        let behind = next_fields(rest, &mut fields)?;
+        number += 1;
         if is_command(&fields) {
-            reading.take(i as u32 + 1, &fields)?;
+            reading.take(number, &fields)?;
         }
+        left = behind;
     }
     reading.finish()
 }
