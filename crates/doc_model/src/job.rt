@@ -161,7 +161,10 @@ fn is_of_limits(rect: &Rect) -> bool
 }
 
 /// The square of side 2r + 1 round (x, y).
-fn square_round(x: i32, y: i32, r: u8) -> Result<Rect, OutOfWorld>
+///
+/// # Errors
+/// `OutOfWorld` exactly where the square leaves the world.
+pub fn square_round(x: i32, y: i32, r: u8) -> Result<Rect, OutOfWorld>
     ensures value { IfOk result (λ rect. rect ≡ square x y r) }
     ensures inside { OnOk result (lies_in (square x y r) world ≡ true) }
     ensures outside { OnErr result (lies_in (square x y r) world ≡ false) }

@@ -11,7 +11,7 @@ mod tree;
 
 pub use canvas::{Canvas, Patch, Walk};
 pub use command::{Command, Outcome};
-pub use job::{Job, Kind};
+pub use job::{Job, Kind, square_round};
 pub use laws::{
     changes_keep_limits, conflicts_both_ways, job_laws, jobs_commute, meaning_keeps_limits,
     queued_covers, queued_keeps_places, redo_then_undo, refused_leaves_nothing, tiles_commute,

@@ -1,5 +1,5 @@
 -- What a dab leaves.
-use Rattle.std.proofs.Common.{◌≡◌, ℕ, ◌+◌, ◌*◌, ◌<◌, ◌≤◌, Bool, true, ◌&&◌, List, [], ◌∷◌, get_or, refl, sym, ap, ◌∙◌, subst, arith}
+use Rattle.std.proofs.Common.{◌≡◌, ℕ, ◌+◌, ◌-◌, ◌*◌, ◌<◌, ◌≤◌, Bool, true, ◌&&◌, List, [], ◌∷◌, get_or, refl, sym, ap, ◌∙◌, subst, arith}
 use Rattle.std.specs.Prelude.{ℤ, pos, ◌+ℤ◌, ◌-ℤ◌, ◌≤ℤ◌, int_le, int_lt, nat_abs}
 use borrow.Author.Differences.{ints}
 use Rattle.pixel_core.specs.declared.blending.Op.{Op}
@@ -9,7 +9,7 @@ use Rattle.pixel_core.specs.Compose.{compose}
 use Rattle.brush_mask.specs.Mask.{mask}
 use Rattle.geom_core.specs.Areas.{Area, right, lies_in, meets, place_in, world, IsWithin, IsShared}
 use Rattle.geom_core.specs.Grid.{Key, tile, IsWorldKey}
-use Rattle.geom_core.proofs.Tests.{and_left, and_right}
+use Rattle.geom_core.proofs.Tests.{and_left, and_right, taken}
 use Rattle.tile_core.specs.Blocks.{Piece}
 use Rattle.tile_core.specs.Shots.{Sight, sight_at}
 use Rattle.tile_core.specs.Pixels.{HasPixels}
@@ -19,16 +19,19 @@ use Rattle.job_core.specs.declared.ink.Ink.{Ink}
 use Rattle.job_core.specs.declared.dabs.Brush.{Brush}
 use Rattle.job_core.specs.Paints.{paint, IsPainted}
 use Rattle.job_core.specs.Due.{IsDue}
-use Rattle.job_core.specs.Dabs.{brushed, DabsRows}
+use Rattle.job_core.specs.Dabs.{brushed, brushed_from}
+use Rattle.job_core.specs.Laid.{ChangesRows}
+use Rattle.tile_core.specs.Parts.{in_part}
+use Rattle.std.proofs.lemmas.Bool.Decides.{nat_tests}
 use Rattle.job_core.specs.Made.{IsBlock, dabbed}
 use Rattle.job_core.proofs.Values.{one_met, world_key, seen_at, painted_once}
 
 -- a point of a rectangle by its column or row
-record Steps (a x b d : ℤ) (n : ℕ) : Type 0 where
-  small : nat_abs (x -ℤ a) < n
-  at : (d +ℤ pos (nat_abs (x -ℤ a))) ≡ (x -ℤ b)
+pub record Steps (a x b d : ℤ) (n : ℕ) : Type 0 where
+  pub small : nat_abs (x -ℤ a) < n
+  pub at : (d +ℤ pos (nat_abs (x -ℤ a))) ≡ (x -ℤ b)
 
-steps : (a x b d : ℤ) (n : ℕ) → d ≡ (a -ℤ b) → (int_le a x && int_lt x (a +ℤ pos n)) ≡ true → Steps a x b d n
+pub steps : (a x b d : ℤ) (n : ℕ) → d ≡ (a -ℤ b) → (int_le a x && int_lt x (a +ℤ pos n)) ≡ true → Steps a x b d n
 steps a x b d n e h = record { small = small a x n h; at = at a x b d n e h }
   where
     small : (a x : ℤ) (n : ℕ) → (int_le a x && int_lt x (a +ℤ pos n)) ≡ true → nat_abs (x -ℤ a) < n
@@ -43,17 +46,27 @@ steps a x b d n e h = record { small = small a x n h; at = at a x b d n e h }
     at : (a x b d : ℤ) (n : ℕ) → d ≡ (a -ℤ b) → (int_le a x && int_lt x (a +ℤ pos n)) ≡ true → (d +ℤ pos (nat_abs (x -ℤ a))) ≡ (x -ℤ b)
     at a x b d n e h = sum a x b d (pos (nat_abs (x -ℤ a))) e (back a x n h)
 
--- rows of a dab are its pixels on a rectangle
-pub dabbed_pixels : (brush : Brush) (ink : Ink) (a : Area) (s : Sight) (dx dy : ℤ) (w h : ℕ) (old old' new : List Rgba) → old ≡ old' → w ≡ a.w → h ≡ a.h → dx ≡ (a.x -ℤ brush.x) → dy ≡ (a.y -ℤ brush.y)
-    → HasPixels a (sight_at s) old' → DabsRows brush ink dx dy w h old new → HasPixels a (dabbed s brush ink) new
-dabbed_pixels brush ink a s dx dy w h old old' new eo ew eh ex ey has laid p held =
-    let i : Steps a.x p.x brush.x dx a.w = steps a.x p.x brush.x dx a.w ex (and_left _ _ held) in
-    let j : Steps a.y p.y brush.y dy a.h = steps a.y p.y brush.y dy a.h ey (and_right _ _ held) in
-    let rows : DabsRows brush ink dx dy a.w a.h old new = rw (← ew, ← eh) laid in
-    rows (nat_abs (p.x -ℤ a.x)) (nat_abs (p.y -ℤ a.y)) i.small j.small
-    ∙ (λ k. brushed brush ink (i.at k) (j.at k) ((ap (λ ps. get_or ps (place_in a p) clear) eo ∙ has p held) k))
+in_whole : (w h col row : ℕ) → col < w → row < h → in_part 0 0 w h col row ≡ true
+in_whole w h col row p q = grind (arith, nat_tests)
 
-square_some : (x y : ℤ) (r : ℕ) → (1 ≤ (square x y r).w) × (1 ≤ (square x y r).h)
+from_first : (n : ℕ) → n - 0 ≡ n
+from_first n = omega arith
+
+-- a dab on all rows is its pixels on a rectangle
+pub dabbed_pixels : (brush : Brush) (ink : Ink) (a : Area) (s : Sight) (w h : ℕ) (old old' new : List Rgba) → old ≡ old' → w ≡ a.w → h ≡ a.h
+    → HasPixels a (sight_at s) old' → ChangesRows (brushed_from brush ink (a.x -ℤ brush.x) (a.y -ℤ brush.y)) w 0 0 w h old new → HasPixels a (dabbed s brush ink) new
+dabbed_pixels brush ink a s w h old old' new eo ew eh has laid p held =
+    let col : ℕ = nat_abs (p.x -ℤ a.x) in
+    let row : ℕ = nat_abs (p.y -ℤ a.y) in
+    let i : Steps a.x p.x brush.x (a.x -ℤ brush.x) a.w = steps a.x p.x brush.x (a.x -ℤ brush.x) a.w refl (and_left _ _ held) in
+    let j : Steps a.y p.y brush.y (a.y -ℤ brush.y) a.h = steps a.y p.y brush.y (a.y -ℤ brush.y) a.h refl (and_right _ _ held) in
+    let rows : ChangesRows (brushed_from brush ink (a.x -ℤ brush.x) (a.y -ℤ brush.y)) a.w 0 0 a.w a.h old new = rw (← ew, ← eh) laid in
+    rows col row i.small
+    ∙ taken (in_part 0 0 a.w a.h col row) _ _ (in_whole a.w a.h col row i.small j.small)
+    ∙ (λ k. brushed_from brush ink (a.x -ℤ brush.x) (a.y -ℤ brush.y) (from_first col k) (from_first row k) ((ap (λ ps. get_or ps (place_in a p) clear) eo ∙ has p held) k))
+    ∙ (λ k. brushed brush ink (i.at k) (j.at k) (sight_at s p))
+
+pub square_some : (x y : ℤ) (r : ℕ) → (1 ≤ (square x y r).w) × (1 ≤ (square x y r).h)
 square_some x y r = (some r, some r)
   where
     some : (r : ℕ) → 1 ≤ 2 * r + 1

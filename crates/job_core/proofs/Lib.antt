@@ -1,8 +1,10 @@
 pub mod Values
 pub mod FillValues
 pub mod RowLaws
+pub mod RowChanges
 pub mod DabRows
 pub mod DabValues
 pub mod MoveValues
 pub mod BlurValues
 pub mod FirstTiles
+pub mod InPlace

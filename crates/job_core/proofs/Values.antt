@@ -105,7 +105,7 @@ tile_held k p = go (holds (tile k) p) refl
     go true h = sym (key_is (key_of p) k (key_of_holder k p h))
     go false h = away (in_tile k p) h refl
 
-or-false : (b : Bool) → (b || false) ≡ b
+pub or-false : (b : Bool) → (b || false) ≡ b
 or-false true = refl
 or-false false = refl
 

@@ -1,10 +1,11 @@
 -- Rows of a dab.
-use Rattle.std.specs.Prelude.{◌≡◌, ℕ, ◌+◌, ◌*◌, ◌<◌, ℤ, pos, ◌+ℤ◌, List, length, slice_index_or}
+use Rattle.std.specs.Prelude.{◌≡◌, ℕ, ◌<◌, ℤ, pos, ◌+ℤ◌, List, length, slice_index_or}
 use Rattle.pixel_core.specs.Rgba.{Rgba, clear}
 use Rattle.pixel_core.specs.Bytes.{mul}
 use Rattle.pixel_core.specs.Compose.{compose}
 use Rattle.job_core.specs.declared.ink.Ink.{Ink}
 use Rattle.job_core.specs.declared.dabs.Brush.{Brush}
+use Rattle.job_core.specs.Laid.{Change}
 use Rattle.job_core.specs.Made.{strength_at}
 
 -- the ink on a pixel, with the dab's strength at a distance from the centre
@@ -23,6 +24,6 @@ WeakensRow strength old new = (k : ℕ) → k < length old → slice_index_or ne
 abbrev pub DabsRow : Brush → Ink → ℤ → ℤ → List Rgba → List Rgba → Type 0
 DabsRow brush ink dx dy old new = (k : ℕ) → k < length old → slice_index_or new k clear ≡ brushed brush ink (dx +ℤ pos k) dy (slice_index_or old k clear)
 
--- the dab lies on each pixel of the first rows, which have w columns
-abbrev pub DabsRows : Brush → Ink → ℤ → ℤ → ℕ → ℕ → List Rgba → List Rgba → Type 0
-DabsRows brush ink dx dy w h old new = (col row : ℕ) → col < w → row < h → slice_index_or new (row * w + col) clear ≡ brushed brush ink (dx +ℤ pos col) (dy +ℤ pos row) (slice_index_or old (row * w + col) clear)
+-- the dab on the pixels of a part, of which the first is (dx, dy) from the centre
+abbrev pub brushed_from : Brush → Ink → ℤ → ℤ → Change
+brushed_from brush ink dx dy col row d = brushed brush ink (dx +ℤ pos col) (dy +ℤ pos row) d

@@ -1,9 +1,24 @@
 -- Rows of pixels laid over others.
-use Rattle.std.specs.Prelude.{◌≡◌, ℕ, ◌+◌, ◌*◌, ◌<◌, true, if◌then◌else◌, List, slice_index_or}
+use Rattle.std.specs.Prelude.{◌≡◌, ℕ, ◌+◌, ◌-◌, ◌*◌, ◌<◌, true, if◌then◌else◌, List, slice_index_or}
 use Rattle.pixel_core.specs.Rgba.{Rgba, clear}
 use Rattle.geom_core.specs.Points.{Point}
 use Rattle.geom_core.specs.Areas.{Area, holds, place_in}
 use Rattle.tile_core.specs.Parts.{in_part, pixel_in}
+use Rattle.pixel_core.specs.Compose.{compose}
+use Rattle.job_core.specs.declared.ink.Ink.{Ink}
+
+-- a change of pixels by the column and the row where they stand in a part
+abbrev pub Change : Type 0
+Change = ℕ → ℕ → Rgba → Rgba
+
+-- in rows of some width the pixels of a part are changed, and the others are as they were
+abbrev pub ChangesRows : Change → ℕ → ℕ → ℕ → ℕ → ℕ → List Rgba → List Rgba → Type 0
+ChangesRows f width left top w h old new = (col row : ℕ) → col < width
+    → slice_index_or new (row * width + col) clear ≡ (if in_part left top w h col row then f (col - left) (row - top) (slice_index_or old (row * width + col) clear) else slice_index_or old (row * width + col) clear)
+
+-- the ink laid on a pixel
+abbrev pub inked : Ink → Change
+inked ink col row d = compose ink.op ink.colour d ink.strength
 
 -- the new pixels, in rows of some width, have these ones on a part, and the old ones elsewhere
 abbrev pub LaysRows : ℕ → ℕ → ℕ → ℕ → ℕ → List Rgba → List Rgba → List Rgba → Type 0

@@ -1,7 +1,7 @@
 //! Dabs.
 
-ghost use Rattle.std.specs.Prelude.{◌≡◌, [], ◌∷◌, ◌+◌, ◌*◌, ◌≤◌, ◌<◌, ◌≤ℤ◌, ◌+ℤ◌, ℕ, negsuc, pos, true, IfOk, vec_len, length};
-ghost use Rattle.geom_core.specs.Areas.{IsWithin, world};
+ghost use Rattle.std.specs.Prelude.{◌≡◌, [], ◌∷◌, ◌+◌, ◌*◌, ◌≤◌, ◌<◌, ◌≤ℤ◌, ◌+ℤ◌, ◌-ℤ◌, ℕ, negsuc, pos, true, IfOk, vec_len, length};
+ghost use Rattle.geom_core.specs.Areas.{IsWithin, lies_in, world};
 ghost use Rattle.geom_core.specs.Grid.{IsWorldKey, tile};
 ghost use Rattle.tile_core.specs.Pixels.{HasPixels};
 ghost use Rattle.doc_model.specs.declared.job.Job.TheVariants.{Dab};
@@ -9,16 +9,18 @@ ghost use Rattle.doc_model.specs.Jobs.{square as square_of};
 ghost use Rattle.job_core.specs.Paints.{paint, IsPainted};
 ghost use Rattle.job_core.specs.Due.{IsDue};
 ghost use Rattle.job_core.specs.Made.{dabbed as dabbed_at};
-ghost use Rattle.job_core.specs.Dabs.{DabsRow, DabsRows, HasStrengths, WeakensRow};
+ghost use Rattle.job_core.specs.Laid.{ChangesRows};
+ghost use Rattle.job_core.specs.Dabs.{brushed_from, DabsRow, HasStrengths, WeakensRow};
 
 use crate::ink::Ink;
 use crate::part::part_in;
 use brush_mask::mask_row;
+use doc_model::square_round;
 use geom_core::{NoMemory, Rect, TileKey};
 use pixel_core::{Pixel, mul};
 use pixel_rows::lay_masked;
 use std::alloc::Global;
-use tile_core::{Block, Shot};
+use tile_core::{Block, Part, Shot};
 
 /// A round brush at a point.
 #[derive(Clone, Copy)]
@@ -27,6 +29,16 @@ pub struct Brush {
     pub y: i32,
     pub r: u8,
     pub soft: bool,
+}
+
+impl Brush {
+    /// The square round the point.
+    pub fn square(&self) -> Rect
+        requires { lies_in (square_of self.now.x self.now.y self.now.r) world ≡ true }
+        ensures { result ≡ square_of self.now.x self.now.y self.now.r }
+    {
+        square_round(self.x, self.y, self.r).unwrap()
+    }
 }
 
 /// What a dab leaves in the key's tile, where `square` is the square round it.
@@ -65,35 +77,83 @@ fn brushed(
     ensures has { IfOk result (λ v. HasPixels part.now (dabbed_at shot.now brush.now ink.now) v.items) }
 {
     let mut pixels = shot.read(alloc, key, part)?;
-    let dx = (part.x() - brush.x) as i16;
-    let dy = (part.y() - brush.y) as i16;
-    lay_dab(
-        &mut pixels,
-        part.w() as usize,
-        part.h() as usize,
-        dx,
-        dy,
-        brush,
-        ink,
-    );
+    let whole = Part {
+        left: 0,
+        top: 0,
+        w: part.w() as usize,
+        h: part.h() as usize,
+    };
+    lay_dab(&mut pixels, whole.w, whole, part, brush, ink);
     Ok(pixels)
 }
 
-/// Lays a dab on `h` rows of `w` pixels, of which the first is (dx, dy) from the centre.
-fn lay_dab(pixels: &mut [Pixel], w: usize, h: usize, dx: i16, dy: i16, brush: &Brush, ink: &Ink)
-    requires all { length pixels.old ≡ h * w }
-    requires small { w ≤ 64 × h ≤ 64 }
+/// Lays a dab on a part of the square round it, whose pixels stand at that place in rows of that
+/// width.
+pub fn lay_dab(
+    pixels: &mut [Pixel],
+    width: usize,
+    place: Part,
+    part: &Rect,
+    brush: &Brush,
+    ink: &Ink,
+)
+    requires across { place.left + place.w ≤ width }
+    requires down { (place.top + place.h) * width ≤ length pixels.old }
+    requires few { length pixels.old ≤ 4096 }
+    requires w { place.w ≡ part.now.w }
+    requires h { place.h ≡ part.now.h }
+    requires some { 1 ≤ place.w × 1 ≤ place.h }
+    requires small { place.w ≤ 64 × place.h ≤ 64 }
+    requires radius { brush.now.r ≤ 128 }
+    requires round { IsWithin part.now (square_of brush.now.x brush.now.y brush.now.r) }
+    ensures { ChangesRows (brushed_from brush.now ink.now (part.now.x -ℤ brush.now.x) (part.now.y -ℤ brush.now.y)) width place.left place.top place.w place.h pixels.old pixels.new }
+{
+    let dx = steps(brush.x, part.x());
+    let dy = steps(brush.y, part.y());
+    lay_dab_rows(pixels, width, place, dx, dy, brush, ink);
+}
+
+/// How many columns, or rows, to the right of the centre, or below it, x lies.
+fn steps(centre: i32, x: i32) -> i16
+    requires low { negsuc 127 ≤ℤ (x -ℤ centre) }
+    requires high { (x -ℤ centre) ≤ℤ pos 128 }
+    ensures { result ≡ x -ℤ centre }
+{
+    (x - centre) as i16
+}
+
+/// Lays a dab on a part of pixels that stand in rows of that width. The part's first pixel is
+/// (dx, dy) from the centre.
+fn lay_dab_rows(
+    pixels: &mut [Pixel],
+    width: usize,
+    part: Part,
+    dx: i16,
+    dy: i16,
+    brush: &Brush,
+    ink: &Ink,
+)
+    requires across { part.left + part.w ≤ width }
+    requires down { (part.top + part.h) * width ≤ length pixels.old }
+    requires few { length pixels.old ≤ 4096 }
+    requires small { part.w ≤ 64 × part.h ≤ 64 }
     requires radius { brush.now.r ≤ 128 }
     requires left { negsuc 127 ≤ℤ dx }
-    requires right { (dx +ℤ pos w) ≤ℤ pos 129 }
+    requires right { (dx +ℤ pos part.w) ≤ℤ pos 129 }
     requires top { negsuc 127 ≤ℤ dy }
-    requires bottom { (dy +ℤ pos h) ≤ℤ pos 129 }
-    ensures { DabsRows brush.now ink.now dx dy w h pixels.old pixels.new }
+    requires bottom { (dy +ℤ pos part.h) ≤ℤ pos 129 }
+    ensures { ChangesRows (brushed_from brush.now ink.now dx dy) width part.left part.top part.w part.h pixels.old pixels.new }
 {
-    let mut from = 0;
-    for row in 0..h {
-        lay_dab_row(&mut pixels[from..from + w], dx, dy + row as i16, brush, ink);
-        from += w;
+    let mut from = part.top * width + part.left;
+    for row in 0..part.h {
+        lay_dab_row(
+            &mut pixels[from..from + part.w],
+            dx,
+            dy + row as i16,
+            brush,
+            ink,
+        );
+        from += width;
     }
 }
 

@@ -1,6 +1,6 @@
 //! Fills.
 
-ghost use Rattle.std.specs.Prelude.{◌≡◌, [], ◌∷◌, ◌*◌, true, IfOk, vec_len};
+ghost use Rattle.std.specs.Prelude.{◌≡◌, [], ◌∷◌, ◌*◌, ◌+◌, ◌≤◌, true, IfOk, vec_len, length};
 ghost use Rattle.geom_core.specs.Areas.{IsWithin};
 ghost use Rattle.geom_core.specs.Grid.{IsWorldKey, tile};
 ghost use Rattle.pixel_core.specs.Compose.{compose};
@@ -9,6 +9,7 @@ ghost use Rattle.tile_core.specs.Shots.{sight_at};
 ghost use Rattle.doc_model.specs.declared.job.Job.TheVariants.{Fill};
 ghost use Rattle.job_core.specs.Paints.{paint, IsPainted};
 ghost use Rattle.job_core.specs.Due.{IsDue};
+ghost use Rattle.job_core.specs.Laid.{ChangesRows, inked as inked_pixel};
 
 use crate::ink::Ink;
 use crate::part::part_in;
@@ -16,7 +17,7 @@ use geom_core::{NoMemory, Rect, TileKey};
 use pixel_core::Pixel;
 use pixel_rows::lay_colour;
 use std::alloc::Global;
-use tile_core::{Block, Shot};
+use tile_core::{Block, Part, Shot};
 
 /// What a fill leaves in the key's tile.
 pub fn filled(
@@ -50,4 +51,44 @@ fn inked(
     let mut pixels = shot.read(alloc, key, part)?;
     lay_colour(ink.op, ink.colour, ink.strength, &mut pixels);
     Ok(pixels)
+}
+
+/// Lays the ink on each pixel of a part of a tile.
+pub fn lay_ink(tile: &mut [Pixel], part: Part, ink: &Ink)
+    requires whole { length tile.old ≡ 4096 }
+    requires across { part.left + part.w ≤ 64 }
+    requires down { part.top + part.h ≤ 64 }
+    ensures { ChangesRows (inked_pixel ink.now) 64 part.left part.top part.w part.h tile.old tile.new }
+{
+    if part.w == 64 {
+        lay_on_whole_rows(tile, part.top, part.h, ink);
+    } else {
+        lay_on_rows(tile, part, ink);
+    }
+}
+
+/// The same on all columns of `h` rows, which follow one another.
+fn lay_on_whole_rows(tile: &mut [Pixel], top: usize, h: usize, ink: &Ink)
+    requires whole { length tile.old ≡ 4096 }
+    requires down { top + h ≤ 64 }
+    ensures { ChangesRows (inked_pixel ink.now) 64 0 top 64 h tile.old tile.new }
+{
+    let from = 64 * top;
+    let rows = &mut tile[from..from + 64 * h];
+    lay_colour(ink.op, ink.colour, ink.strength, rows);
+}
+
+/// The same row by row.
+fn lay_on_rows(tile: &mut [Pixel], part: Part, ink: &Ink)
+    requires whole { length tile.old ≡ 4096 }
+    requires across { part.left + part.w ≤ 64 }
+    requires down { part.top + part.h ≤ 64 }
+    ensures { ChangesRows (inked_pixel ink.now) 64 part.left part.top part.w part.h tile.old tile.new }
+{
+    let mut from = 64 * part.top + part.left;
+    for _row in 0..part.h {
+        let row = &mut tile[from..from + part.w];
+        lay_colour(ink.op, ink.colour, ink.strength, row);
+        from += 64;
+    }
 }

@@ -10,10 +10,12 @@ mod made;
 mod moves;
 mod painted;
 mod part;
+mod points;
 mod rows;
 
 pub use made::Made;
 pub use painted::{Painted, paint_tile};
+pub use points::{PointWork, is_point_op};
 
 #[cfg(test)]
 mod tests;

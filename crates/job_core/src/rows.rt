@@ -6,15 +6,7 @@ ghost use Rattle.job_core.specs.Laid.{LaysRows, LaysOver};
 
 use geom_core::Rect;
 use pixel_core::Pixel;
-
-/// A part of rows of pixels: `w` columns from the column `left` on, in `h` rows from the row `top` on.
-#[derive(Clone, Copy)]
-struct Part {
-    left: usize,
-    top: usize,
-    w: usize,
-    h: usize,
-}
+use tile_core::Part;
 
 /// Lays the pixels of a part of the rectangle over the rectangle's pixels.
 pub fn lay_over(pixels: &mut [Pixel], rect: &Rect, part: &Rect, src: &[Pixel])

@@ -18,7 +18,7 @@ use Rattle.doc_model.specs.Changes.{new_look, answer, no_new, no_place, no_node,
 use Rattle.doc_model.specs.Picture.{Doc, with_look, laid, picture}
 use Rattle.doc_model.proofs.Parents.{Distinct}
 use Rattle.doc_model.proofs.Weights.{tree_distinct}
-use Rattle.tile_core.proofs.SameRows.{same_pixel-Decides}
+use Rattle.pixel_core.proofs.SamePixels.{same_pixel-Decides}
 use Rattle.export_core.specs.Pieces.{seen, Alike}
 use Rattle.export_core.proofs.LoneNodes.{same_absent}
 use Rattle.export_core.proofs.SameTree.{look_each}

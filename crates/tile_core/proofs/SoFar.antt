@@ -2,7 +2,7 @@
 use Rattle.std.proofs.Common.{◌≡◌, ℕ, ◌+◌, ◌*◌, List, length}
 use Rattle.pixel_core.specs.Rgba.{Rgba}
 use Rattle.tile_core.specs.Pixels.{Pixels}
-use Rattle.tile_core.specs.Parts.{LaysPart, TakesPart, LaysTile, SamePart}
+use Rattle.tile_core.specs.Parts.{LaysPart, TakesPart, LaysTile}
 
 -- the first rows of the part are laid, and the next row's places are these
 pub record LaidSoFar (old new : Pixels) (left top w rows : ℕ) (src : List Rgba) (from to : ℕ) : Type 0 where
@@ -14,11 +14,6 @@ pub record LaidSoFar (old new : Pixels) (left top w rows : ℕ) (src : List Rgba
 pub record TakenSoFar (tile : Pixels) (left top w rows : ℕ) (pixels : List Rgba) (from : ℕ) : Type 0 where
   pub taken : TakesPart tile left top w rows pixels
   pub many : length pixels ≡ rows * w
-  pub from_is : from ≡ 64 * (top + rows) + left
-
--- the first rows of the part are the same
-pub record SameSoFar (tile other : Pixels) (left top w rows : ℕ) (from : ℕ) : Type 0 where
-  pub same : SamePart tile other left top w rows
   pub from_is : from ≡ 64 * (top + rows) + left
 
 -- the first rows of a tile's part are laid

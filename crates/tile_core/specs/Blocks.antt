@@ -35,10 +35,6 @@ plain_piece k a c = piece k a (replicate (a.h * a.w) c)
 abbrev pub LaysBlock : Pixels → Pixels → Piece → Type 0
 LaysBlock old new b = (p : Point) → holds (tile b.key) p ≡ true → pixel_at new p ≡ cond (holds b.rect p) (piece_at b p) (pixel_at old p)
 
--- the tile is what the block makes of any tile
-abbrev pub IsLaidBy : Pixels → Piece → Type 0
-IsLaidBy t b = (old : Pixels) → LaysBlock old t b
-
 -- only the pixel at that point is another
 pub record SetsAt (old new : Piece) (q : Point) (c : Rgba) : Type 0 where
   pub key : new.key ≡ old.key

@@ -22,10 +22,6 @@ LaysPart old new left top w h src = (col row : ℕ) → col < 64 → pixel_of ne
 abbrev pub TakesPart : Pixels → ℕ → ℕ → ℕ → ℕ → List Rgba → Type 0
 TakesPart tile left top w h pixels = (col row : ℕ) → col < w → row < h → slice_index_or pixels (row * w + col) clear ≡ pixel_of tile (left + col) (top + row)
 
--- both tiles have the same pixels on the part
-abbrev pub SamePart : Pixels → Pixels → ℕ → ℕ → ℕ → ℕ → Type 0
-SamePart tile other left top w h = (col row : ℕ) → col < w → row < h → pixel_of tile (left + col) (top + row) ≡ pixel_of other (left + col) (top + row)
-
 -- the new pixels, in rows of some width, have a tile's pixels on a part, and the old ones elsewhere
 abbrev pub LaysTile : List Rgba → List Rgba → ℕ → ℕ → ℕ → ℕ → ℕ → Pixels → ℕ → ℕ → Type 0
 LaysTile old new width left top w h tile tile_left tile_top = (col row : ℕ) → col < width

@@ -19,8 +19,9 @@ pub use damage::Damage;
 pub use film::Film;
 pub use frame::Frame;
 pub use marks::Marks;
+pub use rows::Part;
 pub use shot::Shot;
-pub use tile::{Lays, Tile};
+pub use tile::{Lays, Tile, part_in_tile};
 
 #[cfg(test)]
 mod tests;

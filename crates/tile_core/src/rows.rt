@@ -1,10 +1,7 @@
 //! Rows of pixels in parts of tiles.
 
-ghost use Rattle.std.specs.Prelude.{◌^◌, IfOk, vec_len, ◌≡◌, ℕ, ◌+◌, ◌*◌, ◌<◌, ◌≤◌, ◌↔◌, IsTrue, length, take, drop, ◌++◌};
-ghost use Rattle.std.specs.Int.{to_le_bytes, w32};
-ghost use Rattle.pixel_core.specs.Rgba.{bytes_of};
-ghost use Rattle.tile_core.specs.Pixels.{Pixels};
-ghost use Rattle.tile_core.specs.Parts.{LaysPart, TakesPart, LaysTile, SamePart};
+ghost use Rattle.std.specs.Prelude.{◌^◌, IfOk, vec_len, ◌≡◌, ℕ, ◌+◌, ◌*◌, ◌<◌, ◌≤◌, ◌↔◌, IsTrue, length, take, drop, ◌++◌, replicate};
+ghost use Rattle.tile_core.specs.Parts.{LaysPart, TakesPart, LaysTile};
 
 use pixel_core::Pixel;
 use std::alloc::{AllocError, Global};
@@ -83,70 +80,32 @@ pub fn part_of(alloc: Global, tile: &[Pixel], part: Part) -> Result<Vec<Pixel>, 
     Ok(pixels)
 }
 
-/// Whether both tiles have the same pixels on the part.
-pub fn same_part(tile: &[Pixel], other: &[Pixel], part: Part) -> bool
-    requires whole { length tile.now ≡ 4096 }
-    requires other_whole { length other.now ≡ 4096 }
-    requires across { part.left + part.w ≤ 64 }
-    requires down { part.top + part.h ≤ 64 }
-    ensures { IsTrue result ↔ SamePart tile.now other.now part.left part.top part.w part.h }
+/// Whether all 4,096 pixels are `p`. Where the first or the last one isn't, it looks no further.
+pub fn is_plain(tile: &[Pixel], p: Pixel) -> bool
+    requires { length tile.now ≡ 4096 }
+    ensures { IsTrue result ↔ (tile.now ≡ replicate 4096 p) }
 {
-    let mut from = 64 * part.top + part.left;
-    for _row in 0..part.h {
-        if !same_pixels(&tile[from..from + part.w], &other[from..from + part.w]) {
-            return false;
-        }
-        from += 64;
-    }
-    true
+    ends_are(tile, p) && all_are(tile, p)
 }
 
-fn same_pixels(row: &[Pixel], other: &[Pixel]) -> bool
-    ensures { IsTrue result ↔ (row.now ≡ other.now) }
-{
-    row == other
-}
-
-/// Whether two tiles have the same pixels. It goes through all of them, with no branch.
-fn same_tiles(tile: &[Pixel], other: &[Pixel]) -> bool
-    requires { length other.now ≡ length tile.now }
-    ensures { IsTrue result ↔ (tile.now ≡ other.now) }
-{
-    let mut same = true;
-    for i in 0..tile.len() {
-        same = same & (word(tile[i]) == word(other[i]));
-    }
-    same
-}
-
-/// Whether the part is the whole tile, and the tile has just these pixels. Where the first or the
-/// last pixels differ it looks no further.
-pub fn has_laid(tile: &[Pixel], part: Part, src: &[Pixel]) -> bool
-    requires whole { length tile.now ≡ 4096 }
-    requires across { part.left + part.w ≤ 64 }
-    requires down { part.top + part.h ≤ 64 }
-    requires pixels { length src.now ≡ part.h * part.w }
-    ensures { IsTrue result → (old : Pixels) → length old ≡ 4096 → LaysPart old tile.now part.left part.top part.w part.h src.now }
-{
-    part.w == 64 && part.h == 64 && same_ends(tile, src) && same_tiles(tile, src)
-}
-
-/// Whether the first pixels are the same, and the last ones.
+/// Whether the first pixel is `p`, and the last one.
 #[inline]
-fn same_ends(tile: &[Pixel], other: &[Pixel]) -> bool
-    requires whole { length tile.now ≡ 4096 }
-    requires other_whole { length other.now ≡ 4096 }
+fn ends_are(tile: &[Pixel], p: Pixel) -> bool
+    requires { length tile.now ≡ 4096 }
+    ensures { tile.now ≡ replicate 4096 p → IsTrue result }
 {
-    tile[0] == other[0] && tile[4095] == other[4095]
+    tile[0] == p && tile[4095] == p
 }
 
-/// The four bytes of a pixel as one number.
-#[inline]
-fn word(p: Pixel) -> u32
-    ensures value { result ≡ p.r + 256 * p.g + 65536 * p.b + 16777216 * p.a }
-    ensures bytes { to_le_bytes w32 result ≡ bytes_of p }
+/// Whether all pixels are `p`. It goes through all of them, with no branch.
+fn all_are(pixels: &[Pixel], p: Pixel) -> bool
+    ensures { IsTrue result ↔ (pixels.now ≡ replicate (length pixels.now) p) }
 {
-    u32::from_le_bytes(p.bytes())
+    let mut all = true;
+    for i in 0..pixels.len() {
+        all = all & (pixels[i] == p);
+    }
+    all
 }
 
 /// Lays a part of a tile, from its column `tile_left` and its row `tile_top` on, over a part of

@@ -1,16 +1,16 @@
 //! Tiles of 64 by 64 pixels, shared copy on write.
 
 ghost use Rattle.std.specs.Prelude.{vec_len, ◌≡◌, ℕ, ◌+◌, ◌*◌, ◌<◌, ◌↔◌, IsTrue, length, IfOk, replicate, true, false, negsuc, pos, ◌≤ℤ◌, ◌+ℤ◌, ◌%◌, nat_abs};
-ghost use Rattle.tile_core.specs.Pixels.{Pixels, pixel_of, pixel_at, whole_tile, SameOn, HasPixels};
+ghost use Rattle.tile_core.specs.Pixels.{Pixels, pixel_of, pixel_at, HasPixels};
 ghost use Rattle.tile_core.specs.Parts.{IsPartOf};
 ghost use Rattle.geom_core.specs.Grid.{IsWorldKey, tile};
-ghost use Rattle.tile_core.specs.Blocks.{LaysBlock, IsLaidBy};
+ghost use Rattle.tile_core.specs.Blocks.{LaysBlock};
 ghost use Rattle.geom_core.specs.Areas.{IsWithin, holds, world};
 ghost use Rattle.geom_core.specs.Points.{point};
 ghost use Rattle.pixel_core.specs.Rgba.{clear};
 
 use crate::Block;
-use crate::rows::{Part, has_laid, lay_part, part_of, same_part, with_part};
+use crate::rows::{Part, is_plain, lay_part, part_of, with_part};
 use geom_core::{NoMemory, Rect, TileKey};
 use pixel_core::Pixel;
 use std::alloc::{AllocError, Global};
@@ -90,6 +90,13 @@ impl Tile {
         self.pixels.as_slice()
     }
 
+    /// Whether every pixel is `p`. Where the first or the last one isn't, it looks no further.
+    pub fn is_plain(&self, p: Pixel) -> bool
+        ensures { IsTrue result ↔ (self.now ≡ replicate 4096 p) }
+    {
+        is_plain(self.pixels(), p)
+    }
+
     /// The pixel of a column and a row, which count from 0.
     pub fn pixel(&self, col: u8, row: u8) -> Pixel
         requires col { col < 64 }
@@ -138,23 +145,6 @@ impl Tile {
         }
     }
 
-    /// Whether the block covers its whole tile, and has just this tile's pixels: then this is what
-    /// the block makes of any tile. It may say no where no pixel would change.
-    pub fn is_laid_by(&self, block: &Block) -> bool
-        ensures { IsTrue result → IsLaidBy self.now block.now }
-    {
-        let rect = block.rect();
-        has_laid(self.pixels(), part_in_tile(&rect), block.pixels())
-    }
-
-    /// Whether both tiles have the same pixels on a rectangle of a tile whose corner is (0, 0).
-    pub fn same_in(&self, other: &Tile, rect: &Rect) -> bool
-        requires { IsWithin rect.now whole_tile }
-        ensures { IsTrue result ↔ SameOn rect.now self.now other.now }
-    {
-        same_part(self.pixels(), other.pixels(), part_in_tile(rect))
-    }
-
     /// The pixels on a rectangle inside the key's tile, in row order.
     pub fn part(&self, alloc: Global, key: TileKey, rect: &Rect) -> Result<Vec<Pixel>, NoMemory>
         requires key { IsWorldKey key }
@@ -179,7 +169,8 @@ impl Lays for Block {
 }
 
 /// Which columns and rows of their tiles the rectangle's first column and row are, and its sides.
-fn part_in_tile(rect: &Rect) -> Part
+#[inline]
+pub fn part_in_tile(rect: &Rect) -> Part
     ensures { IsPartOf rect.now result }
 {
     Part {

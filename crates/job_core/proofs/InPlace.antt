@@ -1,0 +1,117 @@
+-- Point operations in place.
+use Rattle.std.proofs.Common.{◌≡◌, ℕ, ◌+◌, ◌*◌, ◌%◌, Bool, true, false, ◌&&◌, cond, [], ◌∷◌, get_or, refl, sym, ap, subst, ◌∙◌, arith}
+use Rattle.std.specs.Prelude.{ℤ, pos, ◌+ℤ◌, ◌-ℤ◌, ◌*ℤ◌, nat_abs}
+use Rattle.pixel_core.specs.declared.blending.Op.{Op}
+use Rattle.pixel_core.specs.Rgba.{Rgba, clear}
+use Rattle.pixel_core.specs.Compose.{compose}
+use Rattle.geom_core.specs.Points.{Point}
+use Rattle.geom_core.specs.Areas.{Area, holds, any_holds, meets, world, IsWithin, IsShared}
+use Rattle.geom_core.proofs.Tests.{and_left, and_right}
+use Rattle.geom_core.specs.Grid.{Key, tile, IsWorldKey}
+use Rattle.geom_core.proofs.Spots.{TileSpot, tile_spot}
+use Rattle.tile_core.specs.declared.rows.Part.{Part}
+use Rattle.tile_core.specs.Pixels.{Pixels, pixel_of, pixel_at}
+use Rattle.tile_core.specs.Parts.{in_part, IsPartOf}
+use Rattle.tile_core.proofs.LaidBlocks.{Axis, axis, rest_of}
+use Rattle.doc_model.specs.declared.job.Job.{Job}
+use Rattle.doc_model.specs.declared.job.Job.TheVariants.{Fill, Dab}
+use Rattle.doc_model.specs.Jobs.{square, writes, value}
+use Rattle.doc_model.specs.Layers.{Layer, at}
+use Rattle.doc_model.proofs.JobLaws.{at-apply}
+use Rattle.job_core.specs.declared.ink.Ink.{Ink}
+use Rattle.job_core.specs.declared.dabs.Brush.{Brush}
+use Rattle.job_core.specs.Laid.{Change, ChangesRows, inked}
+use Rattle.job_core.specs.Dabs.{brushed, brushed_from}
+use Rattle.job_core.specs.Points.{spot, IsPointWork, LaysPoints}
+use Rattle.job_core.proofs.Values.{one_met, world_key, some_of_limits, tile_held, or-false}
+use Rattle.job_core.proofs.DabValues.{Steps, steps, square_some, lying}
+
+chosen : (t u : Bool) (x y o o' : Rgba) → t ≡ u → o ≡ o' → (u ≡ true → x ≡ y) → cond t x o ≡ cond u y o'
+chosen t true x y o o' e same h = rw e (h refl)
+chosen t false x y o o' e same h = rw e same
+
+-- where a part of a tile is changed, each point of the rectangle that it is has its change
+pub tile_changed : (f : Change) (g : Point → Rgba → Rgba) (key : Key) (a : Area) (part : Part) (old new : Pixels) → IsWorldKey key → IsWithin a (tile key) → IsPartOf a part
+    → ((p : Point) (d : Rgba) → holds a p ≡ true → f (nat_abs (p.x -ℤ a.x)) (nat_abs (p.y -ℤ a.y)) d ≡ g p d)
+    → ChangesRows f 64 part.left part.top part.w part.h old new
+    → (p : Point) → holds (tile key) p ≡ true → pixel_at new p ≡ cond (holds a p) (g p (pixel_at old p)) (pixel_at old p)
+tile_changed f g key a part old new world is i same laid p held =
+    let n : ℕ = nat_abs (key.col +ℤ pos 256) in
+    let m : ℕ = nat_abs (key.row +ℤ pos 256) in
+    let c : ℕ = nat_abs (p.x -ℤ (pos 64 *ℤ key.col)) in
+    let r : ℕ = nat_abs (p.y -ℤ (pos 64 *ℤ key.row)) in
+    let left : ℕ = nat_abs (a.x +ℤ pos 16384) in
+    let top : ℕ = nat_abs (a.y +ℤ pos 16384) in
+    let spot : TileSpot key p n m c r = tile_spot key p world held in
+    let across : Axis a.x p.x c left a.w = axis a.x p.x _ n c left a.w spot.left spot.x i.x is.left is.right (rw (← i.w) i.some_w) in
+    let down : Axis a.y p.y r top a.h = axis a.y p.y _ m r top a.h spot.top spot.y i.y is.top is.bottom (rw (← i.h) i.some_h) in
+    let laid' : ChangesRows f 64 (left % 64) (top % 64) a.w a.h old new = rw (← i.left, ← i.top, ← i.w, ← i.h) laid in
+    let at : (v : Pixels) → get_or v (r * 64 + c) clear ≡ pixel_of v c r = (λ v. ap (λ j. get_or v j clear) (turned r c)) in
+    rw (rest_of p.x n c spot.x spot.col, rest_of p.y m r spot.y spot.row)
+    (sym (at new) ∙ laid' c r spot.col
+    ∙ chosen (in_part (left % 64) (top % 64) a.w a.h c r) (holds a p) _ (g p (pixel_of old c r)) _ (pixel_of old c r) (λ k. across.inside k && down.inside k) (at old)
+    (λ t. (λ k. f (across.apart (first _ _ t) k) (down.apart (second _ _ t) k) (at old k)) ∙ same p (pixel_of old c r) t))
+  where
+    turned : (r c : ℕ) → r * 64 + c ≡ 64 * r + c
+    turned r c = omega arith
+
+    first : (s t : Bool) → (s && t) ≡ true → s ≡ true
+    first s t e = grind arith
+
+    second : (s t : Bool) → (s && t) ≡ true → t ≡ true
+    second s t e = grind arith
+
+and-true : (s t : Bool) → t ≡ true → (s && t) ≡ s
+and-true s t e = grind arith
+
+-- a job that changes each point of one rectangle by itself
+pub lays_points : (job : Job) (key : Key) (rect part : Area) (g : Point → Rgba → Rgba) (old new : Pixels) → writes job ≡ rect ∷ []
+    → ((layer : Layer) (p : Point) → value job layer p ≡ g p (at layer p)) → IsShared rect (tile key) part
+    → ((p : Point) → holds (tile key) p ≡ true → pixel_at new p ≡ cond (holds part p) (g p (pixel_at old p)) (pixel_at old p))
+    → LaysPoints (spot job key) old new
+lays_points job key rect part g old new wr each shared changed layer has p inside =
+    let held : holds (tile key) p ≡ true = tile_held key p ∙ inside in
+    at-apply job layer p
+    ∙ chosen (any_holds (writes job) p) (holds part p) (value job layer p) (g p (pixel_at old p)) (at layer p) (pixel_at old p)
+    (ap (λ rects. any_holds rects p) wr ∙ or-false (holds rect p) ∙ sym (shared.held p ∙ and-true (holds rect p) (holds (tile key) p) held))
+    (has p inside) (λ _. each layer p ∙ ap (g p) (has p inside))
+    ∙ sym (changed p held)
+
+-- ---- fills
+
+module _ (rect : Area) (colour : Rgba) (op : Op) (m : ℕ) (key : Key) where
+  pub fill_meets : IsPointWork (spot (Fill rect colour op m) key) → meets rect (tile key) ≡ true
+  fill_meets work = one_met rect key (some_of_limits rect work.limits) work.met
+
+  pub fill_known : IsPointWork (spot (Fill rect colour op m) key) → IsWorldKey key
+  fill_known work = world_key rect key (and_left _ _ work.checked) (fill_meets work)
+
+pub fill_laid : (rect part : Area) (place : Part) (ink : Ink) (key : Key) (old new : Pixels) → IsPointWork (spot (Fill rect ink.colour ink.op ink.strength) key) → IsShared rect (tile key) part → IsPartOf part place
+    → ChangesRows (inked ink) 64 place.left place.top place.w place.h old new → LaysPoints (spot (Fill rect ink.colour ink.op ink.strength) key) old new
+fill_laid rect part place ink key old new work shared is laid =
+    lays_points (Fill rect ink.colour ink.op ink.strength) key rect part (λ _ d. compose ink.op ink.colour d ink.strength) old new refl (λ _ _. refl) shared
+    (tile_changed (inked ink) (λ _ d. compose ink.op ink.colour d ink.strength) key part place old new (fill_known rect ink.colour ink.op ink.strength key work) shared.in_b is (λ _ _ _. refl) laid)
+
+-- ---- dabs
+
+module _ (x y : ℤ) (r : ℕ) (soft : Bool) (colour : Rgba) (op : Op) (m : ℕ) (key : Key) where
+  pub dab_meets : (a : Area) → a ≡ square x y r → IsPointWork (spot (Dab x y r soft colour op m) key) → meets a (tile key) ≡ true
+  dab_meets a e work = ap (λ (b : Area). meets b (tile key)) e ∙ one_met (square x y r) key (square_some x y r) work.met
+
+  pub dab_known : IsPointWork (spot (Dab x y r soft colour op m) key) → IsWorldKey key
+  dab_known work = world_key (square x y r) key (and_left _ _ work.checked) (dab_meets (square x y r) refl work)
+
+  pub dab_lies : IsPointWork (spot (Dab x y r soft colour op m) key) → IsWithin (square x y r) world
+  dab_lies work = lying (square x y r) world (and_left _ _ work.checked)
+
+pub dab_laid : (a part : Area) (place : Part) (brush : Brush) (ink : Ink) (key : Key) (old new : Pixels) → a ≡ square brush.x brush.y brush.r → IsPointWork (spot (Dab brush.x brush.y brush.r brush.soft ink.colour ink.op ink.strength) key) → IsShared a (tile key) part → IsPartOf part place
+    → ChangesRows (brushed_from brush ink (part.x -ℤ brush.x) (part.y -ℤ brush.y)) 64 place.left place.top place.w place.h old new → LaysPoints (spot (Dab brush.x brush.y brush.r brush.soft ink.colour ink.op ink.strength) key) old new
+dab_laid a part place brush ink key old new e work shared is laid =
+    lays_points (Dab brush.x brush.y brush.r brush.soft ink.colour ink.op ink.strength) key (square brush.x brush.y brush.r) part (brushed_at brush ink) old new refl (λ _ _. refl) (subst (λ (b : Area). IsShared b (tile key) part) e shared)
+    (tile_changed (brushed_from brush ink (part.x -ℤ brush.x) (part.y -ℤ brush.y)) (brushed_at brush ink) key part place old new (dab_known _ _ _ _ _ _ _ _ work) shared.in_b is
+    (λ p d h. let i : Steps part.x p.x brush.x (part.x -ℤ brush.x) part.w = steps part.x p.x brush.x (part.x -ℤ brush.x) part.w refl (and_left _ _ h) in
+    let j : Steps part.y p.y brush.y (part.y -ℤ brush.y) part.h = steps part.y p.y brush.y (part.y -ℤ brush.y) part.h refl (and_right _ _ h) in
+    λ k. brushed brush ink (i.at k) (j.at k) d) laid)
+  where
+    brushed_at : Brush → Ink → Point → Rgba → Rgba
+    brushed_at brush ink p d = brushed brush ink (p.x -ℤ brush.x) (p.y -ℤ brush.y) d

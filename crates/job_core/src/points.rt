@@ -1,0 +1,133 @@
+//! Point operations, laid straight on the pixels of a tile.
+
+ghost use Rattle.std.specs.Prelude.{◌≡◌, true, length, ◌+◌, ◌*◌};
+ghost use Rattle.std.specs.List.{list_any};
+ghost use Rattle.geom_core.specs.Areas.{IsInWorld};
+ghost use Rattle.geom_core.specs.Grid.{same_key, all_keys_of};
+ghost use Rattle.doc_model.specs.declared.job.Job.TheVariants.{Fill, Dab};
+ghost use Rattle.doc_model.specs.Jobs.{writes, square as square_of};
+ghost use Rattle.doc_model.specs.Lawful.{checks, within_limits};
+ghost use Rattle.job_core.specs.Points.{is_point_op as is_point_op_of, spot, IsPointWork, LaysPoints};
+
+use crate::dabs::{Brush, lay_dab};
+use crate::fills::lay_ink;
+use crate::ink::Ink;
+use crate::part::part_in;
+use doc_model::Job;
+use geom_core::{Rect, TileKey};
+use pixel_core::Pixel;
+use std::marker::Model;
+use tile_core::{Lays, part_in_tile};
+
+/// Whether the job makes each pixel from that pixel alone, as fills and dabs do.
+pub fn is_point_op(job: &Job) -> bool
+    ensures { result ≡ is_point_op_of job.now }
+{
+    match *job {
+        Job::Fill { .. } | Job::Dab { .. } => true,
+        Job::Move { .. } | Job::Blur { .. } => false,
+    }
+}
+
+/// A point operation's work in one tile of its writes.
+#[derive(Drop)]
+pub struct PointWork<'a> {
+    job: &'a Job,
+    key: TileKey,
+}
+
+impl<'a> Model for PointWork<'a> {
+    ghost use Rattle.job_core.specs.Points.{Spot, spot, spot_code, IsPointWork};
+
+    ghost Value = { Spot };
+
+    ghost coded = { spot_code };
+
+    ghost view = { λ w. spot w.job.now w.key };
+
+    ghost invariant = { λ w. IsPointWork (spot w.job.now w.key) };
+}
+
+impl<'a> PointWork<'a> {
+    /// The work of a point operation in the key's tile.
+    pub fn new(job: &'a Job, key: TileKey) -> PointWork<'a>
+        requires point_op { is_point_op_of job.now ≡ true }
+        requires checked { checks job.now ≡ true }
+        requires limits { within_limits job.now ≡ true }
+        requires met { list_any (same_key key) (all_keys_of (writes job.now)) ≡ true }
+        ensures { result ≡ spot job.now key }
+    {
+        PointWork { job, key }
+    }
+
+    /// The key of the tile.
+    pub fn key(&self) -> TileKey
+        ensures value { result ≡ self.now.key }
+        ensures known { IsPointWork self.now }
+    {
+        self.key
+    }
+}
+
+impl Lays for PointWork<'_> {
+    ghost use Rattle.job_core.specs.Points.{LaysPoints};
+
+    ghost laid = { λ w old new. LaysPoints w old new };
+
+    /// Lays the job's pixels on those of its writes in the tile.
+    fn lay(&self, tile: &mut [Pixel]) {
+        match *self.job {
+            Job::Fill {
+                rect,
+                colour,
+                op,
+                strength,
+            } => {
+                let ink = Ink {
+                    colour,
+                    op,
+                    strength,
+                };
+                fill_in(self.key, &rect, &ink, tile);
+            }
+            Job::Dab {
+                x,
+                y,
+                r,
+                soft,
+                colour,
+                op,
+                strength,
+            } => {
+                let brush = Brush { x, y, r, soft };
+                let ink = Ink {
+                    colour,
+                    op,
+                    strength,
+                };
+                dab_in(self.key, &brush, &ink, tile);
+            }
+            Job::Move { .. } | Job::Blur { .. } => unreachable!(),
+        }
+    }
+}
+
+/// Lays a fill on the key's tile.
+fn fill_in(key: TileKey, rect: &Rect, ink: &Ink, tile: &mut [Pixel])
+    requires work { IsPointWork (spot (Fill rect.now ink.now.colour ink.now.op ink.now.strength) key) }
+    requires whole { length tile.old ≡ 4096 }
+    ensures { LaysPoints (spot (Fill rect.now ink.now.colour ink.now.op ink.now.strength) key) tile.old tile.new }
+{
+    let part = part_in(key, rect);
+    lay_ink(tile, part_in_tile(&part), ink);
+}
+
+/// Lays a dab on the key's tile.
+fn dab_in(key: TileKey, brush: &Brush, ink: &Ink, tile: &mut [Pixel])
+    requires work { IsPointWork (spot (Dab brush.now.x brush.now.y brush.now.r brush.now.soft ink.now.colour ink.now.op ink.now.strength) key) }
+    requires whole { length tile.old ≡ 4096 }
+    ensures { LaysPoints (spot (Dab brush.now.x brush.now.y brush.now.r brush.now.soft ink.now.colour ink.now.op ink.now.strength) key) tile.old tile.new }
+{
+    let part = part_in(key, &brush.square());
+    lay_dab(tile, 64, part_in_tile(&part), &part, brush, ink);
+}
