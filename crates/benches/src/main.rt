@@ -1,6 +1,7 @@
 //! Times parts of the engine against the plain work that they do.
 #![tactic(auto)]
 
+mod frames;
 mod rows;
 mod stopwatch;
 mod strokes;
@@ -13,6 +14,7 @@ use std::{env, io};
 /// What can be measured.
 #[derive(Clone, Copy)]
 enum Subject {
+    Frames,
     Rows,
     Strokes,
     Tiles,
@@ -22,6 +24,7 @@ enum Subject {
 /// The subject of that name.
 fn subject_of(name: &str) -> Option<Subject> {
     match name {
+        "frames" => Some(Subject::Frames),
         "rows" => Some(Subject::Rows),
         "strokes" => Some(Subject::Strokes),
         "tiles" => Some(Subject::Tiles),
@@ -42,10 +45,11 @@ fn asked(rt: &impl Runtime) -> io::Result<Option<Subject>> {
 
 fn main(rt: HostRuntime) -> io::Result<()> {
     match asked(&rt)? {
+        Some(Subject::Frames) => frames::measure(&rt, rt.alloc()),
         Some(Subject::Rows) => rows::measure(&rt),
         Some(Subject::Strokes) => strokes::measure(&rt, rt.alloc()),
         Some(Subject::Tiles) => tiles::measure(&rt, rt.alloc()),
         Some(Subject::Trees) => trees::measure(&rt, rt.alloc()),
-        None => println!(rt; "benches: pass a word to measure: rows, strokes, tiles, trees"),
+        None => println!(rt; "benches: pass a word to measure: frames, rows, strokes, tiles, trees"),
     }
 }

@@ -18,7 +18,7 @@ const WIDTH: usize = 64;
 
 /// The alphas of some pixels.
 #[derive(Clone, Copy, Debug)]
-enum Alphas {
+pub(crate) enum Alphas {
     /// From 0 to 255.
     Mixed,
     /// 255 alone.
@@ -38,6 +38,10 @@ enum Work {
     Colour,
     /// `lay_masked`.
     Masked,
+    /// `lay_colour`, a pixel a call.
+    Singles,
+    /// `lay_masked`, a pixel a call.
+    MaskedSingles,
 }
 
 /// Rows of sources, and the rows that they are laid on.
@@ -51,7 +55,7 @@ struct Rows {
 
 /// A pixel with such an alpha that looks like no other nearby.
 #[inline(never)]
-fn scattered(alphas: Alphas, n: u32) -> Pixel {
+pub(crate) fn scattered(alphas: Alphas, n: u32) -> Pixel {
     let mixed = n.wrapping_mul(2_654_435_761) ^ n.wrapping_mul(n);
     let [r, g, b, a] = (mixed ^ (mixed >> 15))
         .wrapping_mul(2_246_822_519)
@@ -98,6 +102,22 @@ fn lay_pixels(op: Op, sources: &[Pixel], backdrop: &mut [Pixel]) {
     }
 }
 
+/// Lays the colour on each pixel by a call of its own.
+#[inline(never)]
+fn lay_singles(op: Op, colour: Pixel, backdrop: &mut [Pixel]) {
+    for i in 0..backdrop.len() {
+        lay_colour(op, colour, 255, &mut backdrop[i..i + 1]);
+    }
+}
+
+/// The same with a mask.
+#[inline(never)]
+fn lay_masked_singles(op: Op, colour: Pixel, mask: &[u8], backdrop: &mut [Pixel]) {
+    for i in 0..backdrop.len().min(mask.len()) {
+        lay_masked(op, colour, &mask[i..i + 1], &mut backdrop[i..i + 1]);
+    }
+}
+
 /// Lays one row.
 #[inline(never)]
 fn lay(work: Work, rows: &Rows, sources: &[Pixel; WIDTH], backdrop: &mut [Pixel; WIDTH]) {
@@ -106,6 +126,8 @@ fn lay(work: Work, rows: &Rows, sources: &[Pixel; WIDTH], backdrop: &mut [Pixel;
         Work::Sources => lay_sources(rows.op, sources, 255, backdrop),
         Work::Colour => lay_colour(rows.op, sources[0], 255, backdrop),
         Work::Masked => lay_masked(rows.op, sources[0], &rows.mask, backdrop),
+        Work::Singles => lay_singles(rows.op, sources[0], backdrop),
+        Work::MaskedSingles => lay_masked_singles(rows.op, sources[0], &rows.mask, backdrop),
     }
 }
 
@@ -158,6 +180,8 @@ fn measure_on(
     print_pixel(rt, "sources", Work::Sources, &rows)?;
     print_pixel(rt, "colour", Work::Colour, &rows)?;
     print_pixel(rt, "mask", Work::Masked, &rows)?;
+    print_pixel(rt, "one colour", Work::Singles, &rows)?;
+    print_pixel(rt, "one mask", Work::MaskedSingles, &rows)?;
     println!(rt; "")
 }
 

@@ -1,4 +1,4 @@
--- One more job at the end leaves what was kept at the front of what is kept.
+-- What one more job at the end changes of the first pair in conflict, and that it leaves what was kept at the front of what is kept.
 use Rattle.std.proofs.Common.{◌≡◌, ℕ, suc, zero, ◌+◌, ◌-◌, ◌<◌, ◌≤◌, Bool, true, false, cond, [], ◌∷◌, ◌++◌, Option, Some, None, is_some, length, take, refl, sym, ap, ◌∙◌, arith, subst}
 use Rattle.doc_model.specs.declared.job.Job.{Job}
 use Rattle.doc_model.specs.declared.job.Kind.{Kind}
@@ -7,11 +7,11 @@ use Rattle.doc_model.specs.Strokes as strokes
 use Rattle.doc_model.specs.Strokes.{Jobs, conflict, conflicting, first_conflicting, second_of, pair_at, pair_of, up_to}
 use Rattle.doc_model.proofs.Conflicts.{conflicting-take, IsLeastFrom, least_from_is}
 
-take_front : (jobs rest : Jobs) → take (length jobs) (jobs ++ rest) ≡ jobs
+pub take_front : (jobs rest : Jobs) → take (length jobs) (jobs ++ rest) ≡ jobs
 take_front [] rest = refl
 take_front (j ∷ jobs) rest = ap (λ js. j ∷ js) (take_front jobs rest)
 
-take_less : (m : ℕ) (jobs rest : Jobs) → m ≤ length jobs → take m (jobs ++ rest) ≡ take m jobs
+pub take_less : (m : ℕ) (jobs rest : Jobs) → m ≤ length jobs → take m (jobs ++ rest) ≡ take m jobs
 take_less zero jobs rest h = refl
 take_less (suc m) [] rest h = absurd (omega arith)
 take_less (suc m) (j ∷ jobs) rest h = ap (λ js. j ∷ js) (take_less m jobs rest (omega arith))
@@ -27,7 +27,7 @@ least_same k (suc n) s t same = cond_same (same k (omega arith) (omega arith)) (
     cond_same : {b c : Bool} {x y : Option ℕ} → b ≡ c → x ≡ y → cond b (Some k) x ≡ cond c (Some k) y
     cond_same e f i = cond (e i) (Some k) (f i)
 
-abbrev or_then : Option ℕ → Option ℕ → Option ℕ
+abbrev pub or_then : Option ℕ → Option ℕ → Option ℕ
 or_then None b = b
 or_then (Some i) b = Some i
 
@@ -45,16 +45,16 @@ least_more k (suc n) t = ap (cond (t k) (Some k)) (least_more (k + 1) n t ∙ ap
     out true x y = refl
     out false x y = refl
 
-first_front : (jobs rest : Jobs) (j : ℕ) → j < length jobs → first_conflicting (jobs ++ rest) j ≡ first_conflicting jobs j
+pub first_front : (jobs rest : Jobs) (j : ℕ) → j < length jobs → first_conflicting (jobs ++ rest) j ≡ first_conflicting jobs j
 first_front jobs rest j l = least_same 0 j _ _ (λ i a b. conflicting_front jobs rest i j (omega arith) l)
 
-length_one : (jobs : Jobs) (x : Kind × Job) → length (jobs ++ x ∷ []) ≡ suc (length jobs)
-length_one [] x = refl
-length_one (j ∷ jobs) x = ap suc (length_one jobs x)
+pub length_last : (jobs : Jobs) (x : Kind × Job) → length (jobs ++ x ∷ []) ≡ suc (length jobs)
+length_last [] x = refl
+length_last (j ∷ jobs) x = ap suc (length_last jobs x)
 
-second_more : (jobs : Jobs) (x : Kind × Job) → second_of (jobs ++ x ∷ []) ≡ or_then (second_of jobs) (cond (is_some (first_conflicting (jobs ++ x ∷ []) (length jobs))) (Some (length jobs)) None)
+pub second_more : (jobs : Jobs) (x : Kind × Job) → second_of (jobs ++ x ∷ []) ≡ or_then (second_of jobs) (cond (is_some (first_conflicting (jobs ++ x ∷ []) (length jobs))) (Some (length jobs)) None)
 second_more jobs x =
-    ap (λ n. least n (λ j. is_some (first_conflicting (jobs ++ x ∷ []) j))) (length_one jobs x)
+    ap (λ n. least n (λ j. is_some (first_conflicting (jobs ++ x ∷ []) j))) (length_last jobs x)
     ∙ least_more 0 (length jobs) (λ j. is_some (first_conflicting (jobs ++ x ∷ []) j))
     ∙ (λ i. or_then (least_same 0 (length jobs) _ (λ j. is_some (first_conflicting jobs j)) (λ j a b. ap is_some (first_front jobs (x ∷ []) j (omega arith))) i)
     (cond (is_some (first_conflicting (jobs ++ x ∷ []) (zero_plus (length jobs) i))) (Some (zero_plus (length jobs) i)) None))
@@ -62,7 +62,7 @@ second_more jobs x =
     zero_plus : (n : ℕ) → 0 + n ≡ n
     zero_plus n = omega arith
 
-one_less : (n : ℕ) → suc n - 1 ≡ n
+pub one_less : (n : ℕ) → suc n - 1 ≡ n
 one_less n = omega arith
 
 append_none : (jobs : Jobs) → jobs ++ [] ≡ jobs

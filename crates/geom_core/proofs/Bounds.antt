@@ -40,9 +40,16 @@ first_in a b n m = grind (arith, ints)
 second_in : (a b : ℤ) (n m : ℕ) → (int_le (int_min a b) b && int_le (b +ℤ pos m) (int_min a b +ℤ pos (nat_abs (int_max (a +ℤ pos n) (b +ℤ pos m) -ℤ int_min a b)))) ≡ true
 second_in a b n m = grind (arith, ints)
 
+-- the bound of two holds the points of each
+pub bound_first : (a b : Area) → AllIn a (bound a b)
+bound_first a b = lies_held a (bound a b) (both_true _ _ (first_in a.x b.x a.w b.w) (first_in a.y b.y a.h b.h))
+
+pub bound_second : (a b : Area) → AllIn b (bound a b)
+bound_second a b = lies_held b (bound a b) (both_true _ _ (second_in a.x b.x a.w b.w) (second_in a.y b.y a.h b.h))
+
 pub least_bound : BoundIsLeast
 least_bound a b wa ha wb hb = record {
-  first = lies_held a (bound a b) (both_true _ _ (first_in a.x b.x a.w b.w) (first_in a.y b.y a.h b.h));
-  second = lies_held b (bound a b) (both_true _ _ (second_in a.x b.x a.w b.w) (second_in a.y b.y a.h b.h));
+  first = bound_first a b;
+  second = bound_second a b;
   least = λ d f g. lies_held (bound a b) d (bound_lies a b d (lies_all a d wa ha f) (lies_all b d wb hb g));
 }

@@ -1,7 +1,8 @@
 //! Rows of pixels laid on others.
 
-ghost use Rattle.std.specs.Prelude.{◌≡◌, ◌*◌, ◌+◌, ◌≤◌, ◌<◌, ℕ, length, slice_index_or};
-ghost use Rattle.pixel_core.specs.Rgba.{clear};
+ghost use Rattle.std.specs.Prelude.{◌≡◌, ◌*◌, ◌+◌, ◌≤◌, ◌<◌, ℕ, length, slice_index_or, IfSome};
+ghost use Rattle.pixel_core.specs.Rgba.{Rgba, clear, IsCanonical};
+ghost use Rattle.pixel_core.specs.Compose.{compose as composed};
 ghost use Rattle.pixel_rows.specs.Rows.{LaysRow, LaysPart, Dims};
 
 use crate::block::{BLOCK, dimmed, lay_block};
@@ -77,13 +78,57 @@ fn lay_few_sources(op: Op, sources: &[Pixel], opacity: u8, backdrop: &mut [Pixel
 pub fn lay_colour(op: Op, colour: Pixel, strength: u8, backdrop: &mut [Pixel])
     ensures { LaysRow op (λ _. colour) (λ _. strength) backdrop.old backdrop.new }
 {
-    let whole = backdrop.len() / BLOCK;
+    match left_everywhere(op, colour, strength) {
+        Some(left) => fill(left, backdrop),
+        None => {
+            let whole = backdrop.len() / BLOCK;
+            if whole > 0 {
+                lay_colour_blocks(op, colour, strength, backdrop, whole);
+            }
+            lay_last_colour(op, colour, strength, backdrop, BLOCK * whole);
+        }
+    }
+}
+
+/// What is left of each pixel, where that is the same whatever lies there: an opaque colour at full
+/// strength hides or erases all.
+#[inline]
+fn left_everywhere(op: Op, colour: Pixel, strength: u8) -> Option<Pixel>
+    ensures { IfSome result (λ left. (d : Rgba) → IsCanonical d → composed op colour d strength ≡ left) }
+{
+    let [_, _, _, a] = colour.bytes();
+    if a < 255 || strength < 255 {
+        return None;
+    }
+    match op {
+        Op::Over => Some(colour),
+        Op::Erase => Some(Pixel::CLEAR),
+        _ => None,
+    }
+}
+
+/// Writes one pixel to each place.
+#[inline]
+fn fill(left: Pixel, backdrop: &mut [Pixel])
+    ensures all { (k : ℕ) → k < length backdrop.old → slice_index_or backdrop.new k clear ≡ left }
+    ensures known { (k : ℕ) → k < length backdrop.old → IsCanonical (slice_index_or backdrop.old k clear) }
+{
+    for i in 0..backdrop.len() {
+        let _known = backdrop[i].bytes();
+        backdrop[i] = left;
+    }
+}
+
+/// Lays one colour on the pixels of the first blocks.
+fn lay_colour_blocks(op: Op, colour: Pixel, strength: u8, backdrop: &mut [Pixel], whole: usize)
+    requires { BLOCK * whole ≤ length backdrop.old }
+    ensures { LaysPart op (λ _. colour) (λ _. strength) 0 (BLOCK * whole) backdrop.old backdrop.new }
+{
     let block = dimmed_all(colour, strength);
     for i in 0..whole {
         let at = BLOCK * i;
         lay_block(op, &block, &mut backdrop[at..at + BLOCK]);
     }
-    lay_last_colour(op, colour, strength, backdrop, BLOCK * whole);
 }
 
 /// The same for the pixels from a place on, fewer than a block has.

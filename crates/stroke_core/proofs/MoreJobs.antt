@@ -1,67 +1,12 @@
 -- What one more job at the end changes of the conflict, and of what is kept.
-use Rattle.std.proofs.Common.{◌≡◌, ℕ, suc, zero, ◌+◌, ◌-◌, ◌<◌, ◌≤◌, Bool, true, false, cond, [], ◌∷◌, ◌++◌, Option, Some, None, is_some, length, take, refl, sym, ap, ◌∙◌, arith}
+use Rattle.std.proofs.Common.{◌≡◌, ℕ, suc, ◌+◌, ◌-◌, ◌<◌, ◌≤◌, true, cond, [], ◌∷◌, ◌++◌, Option, Some, None, is_some, length, take, refl, sym, ap, ◌∙◌, arith}
 use Rattle.doc_model.specs.declared.job.Job.{Job}
 use Rattle.doc_model.specs.declared.job.Kind.{Kind}
-use Rattle.doc_model.specs.Least.{least, least_from}
 use Rattle.doc_model.specs.Strokes as strokes
 use Rattle.doc_model.specs.Strokes.{Jobs, conflict, conflicting, first_conflicting, second_of, pair_at, pair_of, up_to}
-use Rattle.doc_model.proofs.Conflicts.{conflicting-take, IsLeastFrom, least_from_is}
+use Rattle.doc_model.proofs.Conflicts.{IsLeastFrom, least_from_is}
+use Rattle.doc_model.proofs.Growing.{take_front, take_less, or_then, first_front, second_more, one_less}
 use Rattle.stroke_core.specs.Fed.{Fed, StandsFor, found, pair_or, plus}
-
-take_front : (jobs rest : Jobs) → take (length jobs) (jobs ++ rest) ≡ jobs
-take_front [] rest = refl
-take_front (j ∷ jobs) rest = ap (λ js. j ∷ js) (take_front jobs rest)
-
-take_less : (m : ℕ) (jobs rest : Jobs) → m ≤ length jobs → take m (jobs ++ rest) ≡ take m jobs
-take_less zero jobs rest h = refl
-take_less (suc m) [] rest h = absurd (omega arith)
-take_less (suc m) (j ∷ jobs) rest h = ap (λ js. j ∷ js) (take_less m jobs rest (omega arith))
-
--- jobs of the front conflict as they did
-conflicting_front : (jobs rest : Jobs) (i j : ℕ) → i < j → j < length jobs → conflicting (jobs ++ rest) i j ≡ conflicting jobs i j
-conflicting_front jobs rest i j h l = sym (conflicting-take (length jobs) (jobs ++ rest) i j h l) ∙ ap (λ js. conflicting js i j) (take_front jobs rest)
-
-cond_same : {b c : Bool} {x y : Option ℕ} (k : ℕ) → b ≡ c → x ≡ y → cond b (Some k) x ≡ cond c (Some k) y
-cond_same k e f i = cond (e i) (Some k) (f i)
-
-least_same : (k n : ℕ) (s t : ℕ → Bool) → ((i : ℕ) → k ≤ i → i < k + n → s i ≡ t i) → least_from k n s ≡ least_from k n t
-least_same k zero s t same = refl
-least_same k (suc n) s t same = cond_same k (same k (omega arith) (omega arith)) (least_same (k + 1) n s t (λ i a b. same i (omega arith) (omega arith)))
-
-abbrev or_then : Option ℕ → Option ℕ → Option ℕ
-or_then None b = b
-or_then (Some i) b = Some i
-
-least_more : (k n : ℕ) (t : ℕ → Bool) → least_from k (suc n) t ≡ or_then (least_from k n t) (cond (t (k + n)) (Some (k + n)) None)
-least_more k zero t = ap (λ m. cond (t m) (Some m) None) (same k)
-  where
-    same : (k : ℕ) → k ≡ k + 0
-    same k = omega arith
-least_more k (suc n) t = ap (cond (t k) (Some k)) (least_more (k + 1) n t ∙ ap (λ m. or_then (least_from (k + 1) n t) (cond (t m) (Some m) None)) (next k n)) ∙ out (t k) _ _
-  where
-    next : (k n : ℕ) → (k + 1) + n ≡ k + suc n
-    next k n = omega arith
-
-    out : (b : Bool) (x y : Option ℕ) → cond b (Some k) (or_then x y) ≡ or_then (cond b (Some k) x) y
-    out true x y = refl
-    out false x y = refl
-
-first_front : (jobs rest : Jobs) (j : ℕ) → j < length jobs → first_conflicting (jobs ++ rest) j ≡ first_conflicting jobs j
-first_front jobs rest j l = least_same 0 j _ _ (λ i a b. conflicting_front jobs rest i j (omega arith) l)
-
-pub length_last : (jobs : Jobs) (x : Kind × Job) → length (jobs ++ x ∷ []) ≡ suc (length jobs)
-length_last [] x = refl
-length_last (j ∷ jobs) x = ap suc (length_last jobs x)
-
-second_more : (jobs : Jobs) (x : Kind × Job) → second_of (jobs ++ x ∷ []) ≡ or_then (second_of jobs) (cond (is_some (first_conflicting (jobs ++ x ∷ []) (length jobs))) (Some (length jobs)) None)
-second_more jobs x =
-    ap (λ n. least n (λ j. is_some (first_conflicting (jobs ++ x ∷ []) j))) (length_last jobs x)
-    ∙ least_more 0 (length jobs) (λ j. is_some (first_conflicting (jobs ++ x ∷ []) j))
-    ∙ (λ i. or_then (least_same 0 (length jobs) _ (λ j. is_some (first_conflicting jobs j)) (λ j a b. ap is_some (first_front jobs (x ∷ []) j (omega arith))) i)
-    (cond (is_some (first_conflicting (jobs ++ x ∷ []) (zero_plus (length jobs) i))) (Some (zero_plus (length jobs) i)) None))
-  where
-    zero_plus : (n : ℕ) → 0 + n ≡ n
-    zero_plus n = omega arith
 
 -- one more job adds at most the pair of which it is the second
 pub conflict_more : (jobs : Jobs) (x : Kind × Job) → conflict (jobs ++ x ∷ []) ≡ pair_or (conflict jobs) (pair_of (first_conflicting (jobs ++ x ∷ []) (length jobs)) (length jobs))
@@ -95,9 +40,6 @@ second_small jobs pair e = go (second_of jobs) (least_from_is 0 (length jobs) (�
     go : (o : Option ℕ) → IsLeastFrom 0 (length jobs) (λ j. is_some (first_conflicting jobs j)) o → pair_at jobs o ≡ Some pair → pair.1 - 1 ≤ length jobs
     go None told e = cc
     go (Some m) told e = of_pair (first_conflicting jobs m) m (omega (arith, told.1)) e
-
-one_less : (n : ℕ) → suc n - 1 ≡ n
-one_less n = omega arith
 
 -- where nothing conflicted, all jobs before the new one are kept
 up_to_last : (jobs : Jobs) (x : Kind × Job) (o : Option ℕ) (pair : ℕ × ℕ) → pair_of o (length jobs) ≡ Some pair → take (pair.1 - 1) (jobs ++ x ∷ []) ≡ jobs

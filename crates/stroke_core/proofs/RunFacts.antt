@@ -14,7 +14,8 @@ use Rattle.stroke_core.specs.Fed.{IsKept, pair_or, plus}
 use Rattle.stroke_core.specs.Marks.{Marks, marks_of, marks_in_run, marks_clash}
 use Rattle.stroke_core.proofs.Apart.{and_comm}
 use Rattle.stroke_core.proofs.FirstPlace.{plus_plus, position_here, position_later}
-use Rattle.stroke_core.proofs.MoreJobs.{conflict_more, conflict_nil, length_last}
+use Rattle.doc_model.proofs.Growing.{length_last}
+use Rattle.stroke_core.proofs.MoreJobs.{conflict_more, conflict_nil}
 
 get_front : (jobs rest : Jobs) (k : ℕ) → k < length jobs → slice_get (jobs ++ rest) k ≡ slice_get jobs k
 get_front [] rest k h = absurd (omega arith)

@@ -34,14 +34,18 @@ pub record AreEdges (marks : List Marks) (lefts lefts_for_unique rights tops bot
   pub bounded : (k : ℕ) (m : Marks) → slice_get marks k ≡ Some m → Encloses (bound_at lefts rights tops bottoms k) m
   pub seen : (k : ℕ) (m : Marks) → slice_get marks k ≡ Some m → m.unique ≡ false → slice_index lefts_for_unique k ≡ slice_index lefts k
 
--- the bound encloses the jobs at places from 64 i to 64 i + 63, save unique ones where these are left out
-abbrev pub IsBoundOf : Bool → List Marks → ℕ → Bound → Type 0
-IsBoundOf unique_out marks i b = (k : ℕ) (m : Marks) → 64 * i ≤ k → k < 64 * i + 64 → slice_get marks k ≡ Some m → (unique_out && m.unique) ≡ false → Encloses b m
+-- how many neighbouring jobs have a bound together
+abbrev pub block_size : ℕ
+block_size = 64
 
--- one bound for every 64 neighbouring jobs, and one for those that are left over
+-- the bound encloses the jobs of the i'th block, from 0, save unique ones where these are left out
+abbrev pub IsBoundOf : Bool → List Marks → ℕ → Bound → Type 0
+IsBoundOf unique_out marks i b = (k : ℕ) (m : Marks) → block_size * i ≤ k → k < block_size * i + block_size → slice_get marks k ≡ Some m → (unique_out && m.unique) ≡ false → Encloses b m
+
+-- one bound for every full block of neighbouring jobs, and one for those that are left over
 pub record AreBlocks (unique_out : Bool) (marks : List Marks) (blocks : List Bound) : Type 0 where
-  pub enough : length marks ≤ 64 * length blocks
-  pub needed : 64 * length blocks < length marks + 64
+  pub enough : length marks ≤ block_size * length blocks
+  pub needed : block_size * length blocks < length marks + block_size
   pub bounded : (i : ℕ) (b : Bound) → slice_get blocks i ≡ Some b → IsBoundOf unique_out marks i b
 
 -- what is kept of the marks of a run: the edges of each bound, and the bounds of the blocks, with all jobs and without the unique ones

@@ -262,9 +262,9 @@ impl Footprints {
 
     /// The place of the first in a block that clashes with a new one.
     fn first_in_block(&self, i: usize, new: &Footprint, bound: Bound) -> Option<usize>
-        requires inside { 64 * i < length self.now }
+        requires inside { BLOCK * i < length self.now }
         requires bound { Encloses bound new.now }
-        ensures { result ≡ plus (64 * i) (position (λ f. marks_clash f new.now) (take 64 (drop (64 * i) self.now))) }
+        ensures { result ≡ plus (BLOCK * i) (position (λ f. marks_clash f new.now) (take BLOCK (drop (BLOCK * i) self.now))) }
     {
         let len = self.exact.len();
         let from = i * BLOCK;
@@ -304,8 +304,8 @@ impl Footprints {
 /// others are full.
 fn add_to_blocks(blocks: &mut Vec<Bound>, len: usize, bound: Bound)
     requires room { vec_len blocks.old < vec_capacity blocks.old }
-    requires enough { len ≤ 64 * length blocks.old.items }
-    requires needed { 64 * length blocks.old.items < len + 64 }
+    requires enough { len ≤ BLOCK * length blocks.old.items }
+    requires needed { BLOCK * length blocks.old.items < len + BLOCK }
     ensures { (unique_out : Bool) (marks : List Marks) (m : Marks) → length marks ≡ len → AreBlocks unique_out marks blocks.old.items → ((unique_out && m.unique) ≡ false → Encloses bound m) → AreBlocks unique_out (marks ++ m ∷ []) blocks.new.items }
 {
     if len % BLOCK == 0 {

@@ -82,6 +82,36 @@ fn conflicts(rt: HostRuntime) {
     assert_eq!(rt; answer(alloc, &apart), Some((None, 2)));
 }
 
+/// What a stroke answers after a job for each of 130 columns, more than two blocks, and one more.
+fn answer_after_columns(alloc: Global, last: Job) -> Option<Answer> {
+    let mut jobs = [(Kind::Con, last); 131];
+    for x in 0..130u8 {
+        jobs[x as usize] = (Kind::Con, fill(x, x));
+    }
+    answer(alloc, &jobs)
+}
+
+#[test]
+fn conflicts_in_several_blocks(rt: HostRuntime) {
+    let alloc = rt.alloc();
+    assert_eq!(rt;
+        answer_after_columns(alloc, fill(130, 130)),
+        Some((None, 131))
+    );
+    for (first, last, pair) in [
+        (0, 0, (1, 131)),
+        (63, 64, (64, 131)),
+        (64, 129, (65, 131)),
+        (99, 99, (100, 131)),
+        (129, 140, (130, 131)),
+    ] {
+        assert_eq!(rt;
+            answer_after_columns(alloc, fill(first, last)),
+            Some((Some(pair), 130))
+        );
+    }
+}
+
 #[test]
 fn closed(rt: HostRuntime) {
     let alloc = rt.alloc();

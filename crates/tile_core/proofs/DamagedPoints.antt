@@ -1,15 +1,14 @@
 -- Which points are damaged after a rectangle was added.
 use Rattle.std.proofs.Common.{◌≡◌, ℕ, ◌≤◌, Bool, true, false, ◌&&◌, cond, Option, Some, None, refl, ap, sym, ◌∙◌, arith}
-use Rattle.std.specs.Prelude.{ℤ, pos, ◌+ℤ◌, ◌-ℤ◌, int_le, int_lt, nat_abs}
-use Rattle.std.specs.Int.{int_max, int_min}
+use Rattle.std.specs.Prelude.{ℤ, pos, ◌+ℤ◌, int_le, int_lt}
 use borrow.Author.Differences.{ints}
 use Rattle.geom_core.specs.Points.{Point}
-use Rattle.geom_core.specs.Areas.{Area, holds, bound, meets, common, clipped}
+use Rattle.geom_core.specs.Areas.{Area, holds, meets, common, clipped}
 use Rattle.geom_core.specs.Grid.{Key, key_of, tile}
 use Rattle.geom_core.proofs.Tests.{and_left, and_right, both_true, taken}
 use Rattle.geom_core.proofs.Tiles.{own_tile}
 use Rattle.geom_core.proofs.Common.{Sized, common_held, meets_held}
-use Rattle.geom_core.proofs.Bounds.{lies_held}
+use Rattle.geom_core.proofs.Bounds.{bound_first, bound_second}
 use Rattle.tile_core.specs.Marks.{on_canvas}
 use Rattle.tile_core.specs.Damage.{Parts, part_at, part_has, is_damaged, grown, intact}
 use Rattle.tile_core.proofs.DamagedParts.{none_intact, no_part}
@@ -17,19 +16,6 @@ use Rattle.tile_core.proofs.DamagedParts.{none_intact, no_part}
 -- the rectangle's points on the largest canvas are damaged too
 abbrev pub Adds : Area → Parts → Parts → Type 0
 Adds a old new = (k : Key) → part_at new k ≡ cond (on_canvas k) (grown (part_at old k) (clipped a (tile k))) None
-
--- one axis: both lie in what is round both
-first_in : (a b : ℤ) (n m : ℕ) → (int_le (int_min a b) a && int_le (a +ℤ pos n) (int_min a b +ℤ pos (nat_abs (int_max (a +ℤ pos n) (b +ℤ pos m) -ℤ int_min a b)))) ≡ true
-first_in a b n m = grind (arith, ints)
-
-second_in : (a b : ℤ) (n m : ℕ) → (int_le (int_min a b) b && int_le (b +ℤ pos m) (int_min a b +ℤ pos (nat_abs (int_max (a +ℤ pos n) (b +ℤ pos m) -ℤ int_min a b)))) ≡ true
-second_in a b n m = grind (arith, ints)
-
-bound_first : (a b : Area) (p : Point) → holds a p ≡ true → holds (bound a b) p ≡ true
-bound_first a b p h = lies_held a (bound a b) (both_true _ _ (first_in a.x b.x a.w b.w) (first_in a.y b.y a.h b.h)) p h
-
-bound_second : (a b : Area) (p : Point) → holds b p ≡ true → holds (bound a b) p ≡ true
-bound_second a b p h = lies_held b (bound a b) (both_true _ _ (second_in a.x b.x a.w b.w) (second_in a.y b.y a.h b.h)) p h
 
 -- what grows keeps the points of both
 pub grown_first : (o c : Option Area) (p : Point) → part_has o p ≡ true → part_has (grown o c) p ≡ true

@@ -1,10 +1,10 @@
 -- Rows of a frame, tile by tile.
-use Rattle.std.proofs.Common.{◌≡◌, ℕ, suc, zero, ◌+◌, ◌-◌, ◌*◌, ◌/◌, ◌%◌, ◌≤◌, ◌<◌, List, [], ◌∷◌, ◌++◌, length, get_or, take, drop, map, replicate, min, Option, Some, None, refl, sym, ap, subst, ◌∙◌, arith, append_assoc, length-append}
+use Rattle.std.proofs.Common.{◌≡◌, ℕ, suc, zero, ◌+◌, ◌-◌, ◌*◌, ◌/◌, ◌%◌, ◌≤◌, ◌<◌, List, [], ◌∷◌, ◌++◌, length, get_or, take, drop, map, replicate, min, Option, Some, None, refl, sym, ap, subst, ◌∙◌, arith, length-append}
 use Rattle.std.specs.List.{flat_map}
 use Rattle.std.specs.FinMap as finite
 use Rattle.std.specs.Prelude.{ℤ, pos, ◌+ℤ◌, slice_range}
 use Rattle.std.proofs.Math.Seq.{take-append_seam, drop-cons}
-use Rattle.std.proofs.lemmas.List.{length-map, length-replicate, length-take-le, take_more, take-replicate}
+use Rattle.std.proofs.lemmas.List.{length-map, length-replicate}
 use Rattle.std.proofs.lemmas.List.Folds.{flat_map-map}
 use Rattle.std.proofs.lemmas.Slice.{drop-append-drop}
 use Rattle.std.proofs.lemmas.Grind.{flat_map-append}
@@ -31,21 +31,6 @@ many_colours f (x ∷ xs) h = length-append (f x) (flat_map f xs) ∙ ap (λ n. 
 pub length-row : (x y : ℤ) (n : ℕ) → length (row x y n) ≡ n
 length-row x y zero = refl
 length-row x y (suc n) = ap (λ i. suc i) (length-row (x +ℤ pos 1) y n)
-
--- one more pixel's colours
-pub colours_next : (paper : Rgba) (old mid new rgb : List ℕ) (ps : List Rgba) (at i : ℕ) (p : Rgba) → mid ≡ (take at old ++ flat_map (λ q. on_paper q paper) (take i ps)) ++ drop (at + 3 * i) old → i < length ps → p ≡ get_or ps i p
-    → at + 3 * length ps ≤ length old → rgb ≡ on_paper p paper → new ≡ take (at + 3 * i) mid ++ rgb ++ drop (at + 3 * i + 3) mid
-    → new ≡ (take at old ++ flat_map (λ q. on_paper q paper) (take (i + 1) ps)) ++ drop (at + 3 * (i + 1)) old
-colours_next paper old mid new rgb ps at i p e h is room er w =
-    let f : Rgba → List ℕ = (λ q. on_paper q paper) in
-    let front : length (take at old) ≡ at = length-take-le at old (omega arith) in
-    let n : length (take at old ++ flat_map f (take i ps)) ≡ at + 3 * i = length-append (take at old) (flat_map f (take i ps)) ∙ ap (λ m. m + length (flat_map f (take i ps))) front ∙ ap (λ m. at + m) (many_colours f (take i ps) (λ _. refl) ∙ ap (λ m. 3 * m) (length-take-le i ps (omega arith))) in
-    let w' : new ≡ take (at + 3 * i) mid ++ f p ++ drop (at + 3 * i + 3) mid = w ∙ ap (λ v. take (at + 3 * i) mid ++ v ++ drop (at + 3 * i + 3) mid) er in
-    let more : flat_map f (take i ps) ++ f p ≡ flat_map f (take (i + 1) ps) = sym (ap (flat_map f) (take_more ps i p h ∙ ap (λ q. take i ps ++ q ∷ []) (sym is)) ∙ flat_map-append f (take i ps) (p ∷ [])) in
-    let end : at + 3 * i + 3 ≡ at + 3 * (i + 1) = omega arith in
-    written old mid new (take at old ++ flat_map f (take i ps)) (f p) (at + 3 * i) 3 e n w'
-    ∙ ap (λ v. v ++ drop (at + 3 * i + 3) old) (append_assoc (take at old) (flat_map f (take i ps)) (f p) ∙ ap (λ v. take at old ++ v) more)
-    ∙ ap (λ m. (take at old ++ flat_map f (take (i + 1) ps)) ++ drop m old) end
 
 -- the pixel put at a point of a row
 pub point_pixel : (s : Scene) (o : Option Pixels) (i y c : ℕ) → finite.get s.tiles (key (pos i) (pos (y / 64))) ≡ o → c < 64 → put_at s (point (pos (64 * i + c)) (pos y)) ≡ pixel_or o clear (point (pos (64 * i + c)) (pos y))
@@ -114,13 +99,6 @@ pub lays_none : (s : Scene) (paper : Rgba) (i y n n' at : ℕ) (old new : List �
 lays_none s paper i y n n' at old new ep e en small ea w =
     let many : n ≡ length (replicate n clear) = sym (length-replicate n clear) in
     subst (λ m. LaysPoints s y old new (64 * i) m) en (lays_points s paper y (64 * i) n at old new (replicate n clear) ep (row_in_none s i y n e small) ea (w ∙ ap (λ m. take at old ++ flat_map (λ q. on_paper q paper) (replicate n clear) ++ drop (at + 3 * m) old) many))
-
--- the first n of 64 clear pixels
-pub lays_clear : (paper : Rgba) (at n : ℕ) (old new : List ℕ) → n ≤ 64 → new ≡ take at old ++ flat_map (λ q. on_paper q paper) (take n (replicate 64 clear)) ++ drop (at + 3 * length (take n (replicate 64 clear))) old
-    → new ≡ take at old ++ flat_map (λ q. on_paper q paper) (replicate n clear) ++ drop (at + 3 * n) old
-lays_clear paper at n old new h w =
-    let e : take n (replicate 64 clear) ≡ replicate n clear = take-replicate n 64 clear h in
-    w ∙ ap (λ v. take at old ++ flat_map (λ q. on_paper q paper) v ++ drop (at + 3 * length v) old) e ∙ ap (λ m. take at old ++ flat_map (λ q. on_paper q paper) (replicate n clear) ++ drop (at + 3 * m) old) (length-replicate n clear)
 
 -- a row in two parts
 pub row-add : (a m n b : ℕ) (y : ℤ) → a + m ≡ b → row (pos a) y (m + n) ≡ row (pos a) y m ++ row (pos b) y n

@@ -6,6 +6,7 @@ pub mod MapViews
 pub mod Taken
 pub mod LaidKeys
 pub mod OnPaper
+pub mod LaidColours
 pub mod PartsOf
 pub mod FrameRows
 pub mod SameRows

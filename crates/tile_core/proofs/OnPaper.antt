@@ -14,9 +14,6 @@ is_opaque p e i = rgba p.r p.g p.b (e i)
 colour_below : (d : ℕ) → d ≡ (2 * ((255 - 0) * 255 * d + (255 - 255) * 0 * 0 + 0 * 255 * 0) + 65025) / (2 * 65025)
 colour_below d = omega arith
 
-colour_above : (s d : ℕ) → s ≡ (2 * ((255 - 255) * 255 * d + (255 - 255) * 255 * s + 255 * 255 * s) + 65025) / (2 * 65025)
-colour_above s d = omega arith
-
 three : {r r' g g' b b' : ℕ} → r ≡ r' → g ≡ g' → b ≡ b' → (r ∷ g ∷ b ∷ []) ≡ (r' ∷ g' ∷ b' ∷ [])
 three e f h i = e i ∷ f i ∷ h i ∷ []
 
@@ -24,14 +21,6 @@ clear_shows : (p : Rgba) → (p.r ∷ p.g ∷ p.b ∷ []) ≡ on_paper clear (op
 unfolding compose mul
 clear_shows p = three (colour_below p.r) (colour_below p.g) (colour_below p.b)
 
-opaque_hides : (p q : Rgba) → (p.r ∷ p.g ∷ p.b ∷ []) ≡ on_paper (opaque p) (opaque q)
-unfolding compose mul
-opaque_hides p q = three (colour_above p.r q.r) (colour_above p.g q.g) (colour_above p.b q.b)
-
 -- where nothing is laid the paper shows
 pub paper_shows : (paper : Rgba) → paper.a ≡ 255 → (paper.r ∷ paper.g ∷ paper.b ∷ []) ≡ on_paper clear paper
 paper_shows paper e = clear_shows paper ∙ ap (on_paper clear) (sym (is_opaque paper e))
-
--- an opaque pixel hides the paper
-pub paper_hidden : (p paper : Rgba) → p.a ≡ 255 → paper.a ≡ 255 → (p.r ∷ p.g ∷ p.b ∷ []) ≡ on_paper p paper
-paper_hidden p paper e h = opaque_hides p paper ∙ ap (λ q. on_paper q (opaque paper)) (sym (is_opaque p e)) ∙ ap (on_paper p) (sym (is_opaque paper h))

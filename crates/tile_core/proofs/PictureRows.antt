@@ -6,7 +6,7 @@ use Rattle.std.specs.Prelude.{ℤ, pos, slice_range}
 use Rattle.std.proofs.Math.ListN.{drop_of_length-le}
 use borrow.Rule.Slice.PartMut.{put_mid}
 use Rattle.std.proofs.Math.Seq.{take-append_seam, drop-append_seam}
-use Rattle.std.proofs.lemmas.List.{length-take, drop-drop, drop-take}
+use Rattle.std.proofs.lemmas.List.{length-take, drop-take}
 use Rattle.std.proofs.lemmas.List.Folds.{flat_map-map}
 use Rattle.std.proofs.lemmas.Slice.{drop-append-drop}
 use Rattle.std.proofs.lemmas.Grind.{flat_map-append}
@@ -17,6 +17,7 @@ use Rattle.geom_core.specs.Grid.{key}
 use Rattle.tile_core.specs.Frames.{Scene, put_at, colours_at, row_colours, Shows, SameCanvas, LaysPoints}
 use Rattle.tile_core.specs.Marks.{Grid, mark_at, place_at}
 use Rattle.tile_core.specs.Films.{Renews}
+use Rattle.tile_core.proofs.LaidColours.{put_row}
 use Rattle.tile_core.proofs.FrameRows.{written, many_colours, length-row, point_pixel, row-add, RowSoFar}
 
 -- the colours of the first n rows
@@ -51,12 +52,6 @@ first_more s y =
     let z : 0 + y ≡ y = omega arith in
     sym (ap (flat_map (colours_at s)) (rows-add 0 s.width y 1 ∙ ap (λ i. rows (pos 0) (pos 0) s.width y ++ rows (pos 0) (pos i) s.width 1) z ∙ ap (λ l. rows (pos 0) (pos 0) s.width y ++ l) (append-nil (row (pos 0) (pos y) s.width)))
     ∙ flat_map-append (colours_at s) (rows (pos 0) (pos 0) s.width y) (row (pos 0) (pos y) s.width))
-
--- a part is written in the middle of bytes
-put_row : (old colours : List ℕ) (at across k : ℕ) → across ≡ at + k → put_mid at (across - at) old colours ≡ take at old ++ colours ++ drop (at + k) old
-put_row old colours at across k e =
-    let z : across - at ≡ k = omega arith in
-    ap (λ i. put_mid at i old colours) z ∙ ap (λ zs. take at old ++ (colours ++ zs)) (drop-drop k at old) ∙ sym (append_assoc (take at old) colours (drop (at + k) old))
 
 -- how far a picture has come
 pub record PictureSoFar (s : Scene) (old new : List ℕ) (y at : ℕ) : Type 0 where

@@ -1,5 +1,5 @@
 -- A frame as contracts see it: its sides, its paper, and tiles under some keys.
-use Rattle.std.specs.Prelude.{◌≡◌, ℕ, ◌+◌, ◌*◌, ◌≤◌, pos, List, take, drop, ◌++◌, refl}
+use Rattle.std.specs.Prelude.{◌≡◌, ℕ, ◌+◌, ◌*◌, ◌≤◌, pos, List, [], ◌∷◌, take, drop, ◌++◌, refl}
 use Rattle.std.specs.List.{flat_map}
 use Rattle.std.specs.FinMap as map
 use Rattle.std.specs.FinMap.{FinMap}
@@ -29,6 +29,10 @@ pub record IsScene (s : Scene) : Type 0 where
   pub some_rows : 1 ≤ s.height
   pub rows : s.height ≤ 2048
   pub opaque : s.paper.a ≡ 255
+
+-- red, green and blue of a pixel
+abbrev pub colours : Rgba → List ℕ
+colours p = p.r ∷ p.g ∷ p.b ∷ []
 
 -- the pixel put at a point, clear where none was put
 abbrev pub put_at : Scene → Point → Rgba

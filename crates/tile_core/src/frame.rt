@@ -1,16 +1,14 @@
 //! Pictures of the canvas.
 
-ghost use Rattle.std.specs.Prelude.{replicate, ◌≡◌, ℕ, ◌+◌, ◌*◌, ◌<◌, ◌≤◌, ◌++◌, IfOk, OnOk, OnErr, length, ◌-◌, pos, take, drop, min};
-ghost use Rattle.std.specs.List.{flat_map};
+ghost use Rattle.std.specs.Prelude.{◌≡◌, ◌*◌, ◌<◌, ◌≤◌, ◌++◌, IfOk, OnOk, OnErr, length, ◌-◌, pos, drop, min};
 ghost use Rattle.std.specs.FinMap as map;
 ghost use Rattle.std.specs.Option.{option_copied};
 ghost use Rattle.geom_core.specs.Areas.{row as points};
 ghost use Rattle.geom_core.specs.Points.{point};
-ghost use Rattle.pixel_core.specs.Compose.{on_paper as paper_colours};
-ghost use Rattle.pixel_core.specs.Rgba.{clear};
 ghost use Rattle.tile_core.specs.Frames.{IsScene, scene, colours_at, row_colours, with_put, LaysPoints};
 
 use crate::Tile;
+use crate::colours::{lay_colours, lay_paper};
 use crate::keyed::{pixel_under, put_under, tile_under};
 use geom_core::{NoMemory, TileKey, tile_of};
 use pixel_core::{Pixel, on_paper};
@@ -102,7 +100,7 @@ impl Frame {
         requires y { y < self.now.height }
         ensures { result ≡ colours_at self.now (point (pos x) (pos y)) }
     {
-        colours_of(
+        on_paper(
             pixel_under(&self.tiles, Pixel::CLEAR, x as i32, y as i32),
             self.paper,
         )
@@ -135,56 +133,5 @@ impl Frame {
             }
             None => lay_paper(row, 3 * left, n, self.paper),
         }
-    }
-}
-
-/// Writes the colours of the pixels on the paper to the places from `at` on.
-fn lay_colours(row: &mut [u8], at: usize, pixels: &[Pixel], paper: Pixel)
-    requires opaque { paper.a ≡ 255 }
-    requires room { at + 3 * length pixels.now ≤ length row.old }
-    ensures { row.new ≡ take at row.old ++ flat_map (λ p. paper_colours p paper) pixels.now ++ drop (at + 3 * length pixels.now) row.old }
-{
-    for i in 0..pixels.len() {
-        put_colours(row, at + 3 * i, colours_of(pixels[i], paper));
-    }
-}
-
-/// Writes three colours to the places from `at` on.
-#[inline]
-fn put_colours(row: &mut [u8], at: usize, colours: [u8; 3])
-    requires { at + 3 ≤ length row.old }
-    ensures { row.new ≡ take at row.old ++ colours ++ drop (at + 3) row.old }
-{
-    let [r, g, b] = colours;
-    row[at] = r;
-    row[at + 1] = g;
-    row[at + 2] = b;
-}
-
-/// Writes the colours of n clear pixels on the paper to the places from `at` on.
-fn lay_paper(row: &mut [u8], at: usize, n: usize, paper: Pixel)
-    requires opaque { paper.a ≡ 255 }
-    requires few { n ≤ 64 }
-    requires room { at + 3 * n ≤ length row.old }
-    ensures { row.new ≡ take at row.old ++ flat_map (λ p. paper_colours p paper) (replicate n clear) ++ drop (at + 3 * n) row.old }
-{
-    let plain = [Pixel::CLEAR; 64];
-    lay_colours(row, at, &plain[..n], paper);
-}
-
-/// Red, green and blue of a pixel on an opaque paper, with no division for a clear or an opaque one.
-fn colours_of(p: Pixel, paper: Pixel) -> [u8; 3]
-    requires { paper.a ≡ 255 }
-    ensures { result ≡ paper_colours p paper }
-{
-    let [r, g, b, a] = p.bytes();
-    if a == 255 {
-        return [r, g, b];
-    }
-    if p == Pixel::CLEAR {
-        let [r, g, b, _] = paper.bytes();
-        [r, g, b]
-    } else {
-        on_paper(p, paper)
     }
 }

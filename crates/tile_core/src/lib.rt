@@ -2,6 +2,7 @@
 #![tactic(auto)]
 
 mod block;
+mod colours;
 mod damage;
 mod film;
 mod frame;

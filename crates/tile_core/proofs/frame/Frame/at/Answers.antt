@@ -17,5 +17,5 @@ returns c =
     let x : to_z w32 c.args.x ≡ pos c.args.x = to_z_pos w32 c.args.x (omega arith) in
     let y : to_z w32 c.args.y ≡ pos c.args.y = to_z_pos w32 c.args.y (omega arith) in
     let e : c.pixel_under.result ≡ pixel_or (tree.get key_cmp c.self.inside.tiles (key_of (point (pos c.args.x) (pos c.args.y)))) clear (point (pos c.args.x) (pos c.args.y)) = simp (x, y) at c.pixel_under.ensures in
-    c.colours_of.ensures ∙ ap (λ q. on_paper q c.self.inside.paper) (e ∙ seen_under c.self.inside.tiles (key_of (point (pos c.args.x) (pos c.args.y))) clear (point (pos c.args.x) (pos c.args.y)))
+    c.on_paper.ensures ∙ ap (λ q. on_paper q c.self.inside.paper) (e ∙ seen_under c.self.inside.tiles (key_of (point (pos c.args.x) (pos c.args.y))) clear (point (pos c.args.x) (pos c.args.y)))
     ∙ ap (λ (s : Scene). colours_at s (point (pos c.args.x) (pos c.args.y))) c.self.view_is

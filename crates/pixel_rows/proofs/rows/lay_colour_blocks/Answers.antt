@@ -1,6 +1,6 @@
 use Rattle.std.proofs.Common.{◌*◌, ◌+◌, ◌-◌, arith}
 use Rattle.pixel_rows.proofs.Joins.{block_laid}
-use Rattle.pixel_rows.proofs.rows.lay_colour.Goals as goal
+use Rattle.pixel_rows.proofs.rows.lay_colour_blocks.Goals as goal
 
 pub loop-i-preserved : goal.loop-i-preserved
 loop-i-preserved c =

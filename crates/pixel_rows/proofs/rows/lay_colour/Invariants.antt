@@ -1,7 +1,0 @@
-use Rattle.std.proofs.Common.{◌*◌}
-use Rattle.pixel_rows.specs.Rows.{LaysPart}
-use Rattle.pixel_rows.proofs.rows.lay_colour.Given as goal
-
--- the blocks so far are laid on
-abbrev pub invariant-loop-i : goal.invariant-loop-i
-invariant-loop-i l = LaysPart l.op (λ _. l.colour) (λ _. l.strength) 0 (16 * l.i) l.initial.backdrop l.backdrop

@@ -1,0 +1,19 @@
+use Rattle.std.proofs.Common.{◌≡◌, ◌+◌, ◌*◌, ◌++◌, ◌∙◌, ap, arith, length, take, drop, replicate}
+use Rattle.std.specs.List.{flat_map}
+use Rattle.std.proofs.lemmas.List.{length-take-le, get_or-take, get_or-replicate}
+use Rattle.std.proofs.lemmas.Slice.{take-put_mid}
+use Rattle.pixel_core.specs.Rgba.{clear}
+use Rattle.tile_core.specs.Frames.{colours}
+use Rattle.tile_core.proofs.LaidColours.{laid_colours}
+use Rattle.tile_core.proofs.colours.lay_colours.Goals as goal
+
+pub returns : goal.returns
+returns c =
+    let old : length (take (length c.args.pixels.now) (replicate 64 c.args.paper)) ≡ length c.args.pixels.now = length-take-le (length c.args.pixels.now) (replicate 64 c.args.paper) c.requires.few in
+    let new : length c.lay_sources.new.backdrop ≡ length c.args.pixels.now = omega (arith, old, c.lay_sources.auto.backdrop) in
+    let front : flat_map colours (take (length c.args.pixels.now) (c.lay_sources.new.backdrop ++ drop (length c.args.pixels.now) (replicate 64 c.args.paper))) ≡ flat_map colours c.lay_sources.new.backdrop =
+    ap (flat_map colours) (take-put_mid 0 (length c.args.pixels.now) (replicate 64 c.args.paper) c.lay_sources.new.backdrop (length c.args.pixels.now) (omega (arith, new)) (omega arith)) in
+    c.put_colours.ensures
+    ∙ ap (λ v. take c.args.at c.args.row.now ++ v ++ drop (c.args.at + 3 * length c.args.pixels.now) c.args.row.now)
+    (front ∙ laid_colours c.args.paper c.args.pixels.now (take (length c.args.pixels.now) (replicate 64 c.args.paper)) c.lay_sources.new.backdrop new old
+    (λ k t. get_or-take (length c.args.pixels.now) (replicate 64 c.args.paper) k clear t ∙ get_or-replicate 64 k c.args.paper clear (omega (arith, t, c.requires.few))) c.lay_sources.ensures)
