@@ -188,7 +188,7 @@ some_left zero (e ∷ es) h = omega arith
 some_left (suc k) [] h = cc
 some_left (suc k) (e ∷ es) h = let r : suc k ≤ length es = some_left k es h in omega arith
 
-leaves_closed : (e : doc.Entry) (es : List Entry) → may_leave (queued e ∷ es) ≡ true → is_closed_entry e ≡ true
+pub leaves_closed : (e : doc.Entry) (es : List Entry) → may_leave (queued e ∷ es) ≡ true → is_closed_entry e ≡ true
 leaves_closed (doc.Strokes s) es h = go s.fate h
   where
     go : (f : Fate) → may_leave (stroke_of f (kept_of s) ∷ es) ≡ true → not (is_open f) ≡ true

@@ -22,10 +22,11 @@ use Rattle.doc_model.specs.Forest.{content, with_content}
 use Rattle.doc_model.specs.Changes.{there}
 use Rattle.doc_model.specs.Picture.{Doc, frame, picture}
 use Rattle.doc_model.specs.Laws.{IsDocument, EachDoc}
-use Rattle.doc_model.specs.Lawful.{is_closed_entry, is_open, lawful}
+use Rattle.doc_model.specs.Lawful.{is_closed_entry, is_open, lawful, may_follow}
 use Rattle.doc_model.specs.Meaning.{Story, start, told, told_all, told_stroke, closed_stroke, laid_stroke, told_change, undone, redone, meaning, ends_with}
 use Rattle.doc_model.specs.Strokes as doc
 use Rattle.doc_model.specs.Strokes.{Fate, Open, Ended, Cancelled, Stroke, Jobs, conflict, entries, fed}
+use Rattle.doc_model.proofs.Feeding.{entries_last, lawful_differ, take_fed}
 use Rattle.doc_model.proofs.Limits.{meaning_keeps_limits}
 use Rattle.doc_model.proofs.SameContent.{content_has, with_same}
 use Rattle.doc_model.proofs.Weights.{tree_distinct}
@@ -43,6 +44,7 @@ use Rattle.stroke_core.specs.Fed.{Closed}
 use Rattle.entry_queue.specs.declared.entry.Entry.{Entry}
 use Rattle.entry_queue.specs.declared.entry.Entry.TheVariants.{Waiting, Whole, Other}
 use Rattle.entry_queue.specs.Pushed.{Pending, StandsFor, kept_of, may_leave, queued, stroke_of}
+use Rattle.entry_queue.proofs.Standing.{lawful_split, leaves_closed}
 use Rattle.entry_queue.proofs.Taking.{Fits, kept_fit, lawful_fits}
 use Rattle.desk_steps.specs.Archives as archives
 use Rattle.desk_steps.specs.Archives.{Archive, IsArchive, finished, shape}
@@ -328,42 +330,50 @@ queued_fits doc.Exports h = refl
 next_entry : (commands : List Command) (s : Solo) (q : Pending) (x : Entry) → HasCome commands s q → Some x ≡ slice_get q.left 0 → IsNext (entries commands) (length q.outcomes) x
 next_entry commands s q x h e = next_left (entries commands) (length q.outcomes) x (ap (λ left. slice_get left 0) (sym h.queue.left_is) ∙ sym e)
 
--- the first entry is ready
-pub next_ready : (commands : List Command) (s : Solo) (q : Pending) (x : Entry) → lawful commands ≡ true → list_all is_closed_entry (entries commands) ≡ true → HasCome commands s q → Some x ≡ slice_get q.left 0 → IsReady x
-next_ready commands s q x l all h e =
-    let next : IsNext (entries commands) (length q.outcomes) x = next_entry commands s q x h e in
-    record {
-      entry = next.entry;
-      is = next.is;
-      closed = closed_at (entries commands) (length q.outcomes) next.entry next.at all;
-      fit = ap fits (sym next.is) ∙ queued_fits next.entry (fits_at (entries commands) (length q.outcomes) next.entry next.at (lawful_fits commands l));
-    }
-
--- and may leave
-pub ready_leaves : (q : Pending) (x : Entry) → Some x ≡ slice_get q.left 0 → IsReady x → may_leave q.left ≡ true
-ready_leaves q x e r = go q.left e (leaves r.entry r.closed r.is)
+closed_leaves : (e : doc.Entry) (es : List Entry) → is_closed_entry e ≡ true → may_leave (queued e ∷ es) ≡ true
+closed_leaves (doc.Strokes s) es h = go s.fate h
   where
-    leaves : (d : doc.Entry) → is_closed_entry d ≡ true → queued d ≡ x → may_leave (x ∷ []) ≡ true
-    leaves (doc.Strokes s) c is = closed s.fate c is
-      where
-        closed : (f : Fate) → not (is_open f) ≡ true → stroke_of f (kept_of s) ≡ x → may_leave (x ∷ []) ≡ true
-        closed Open c is = cc
-        closed Ended c is = ap (λ y. may_leave (y ∷ [])) (sym is)
-        closed Cancelled c is = ap (λ y. may_leave (y ∷ [])) (sym is)
-    leaves (doc.Changes change) c is = ap (λ y. may_leave (y ∷ [])) (sym is)
-    leaves doc.Undoes c is = ap (λ y. may_leave (y ∷ [])) (sym is)
-    leaves doc.Redoes c is = ap (λ y. may_leave (y ∷ [])) (sym is)
-    leaves (doc.Purges k) c is = ap (λ y. may_leave (y ∷ [])) (sym is)
-    leaves doc.Exports c is = ap (λ y. may_leave (y ∷ [])) (sym is)
+    go : (f : Fate) → not (is_open f) ≡ true → may_leave (stroke_of f (kept_of s) ∷ es) ≡ true
+    go Open h = h
+    go Ended h = refl
+    go Cancelled h = refl
+closed_leaves (doc.Changes change) es h = refl
+closed_leaves doc.Undoes es h = refl
+closed_leaves doc.Redoes es h = refl
+closed_leaves (doc.Purges k) es h = refl
+closed_leaves doc.Exports es h = refl
 
+-- whether the first entry may leave is told by that entry
+first_leaves : (left : List Entry) (x : Entry) → Some x ≡ slice_get left 0 → may_leave left ≡ may_leave (x ∷ [])
+first_leaves [] x e = cc
+first_leaves (y ∷ left) x e = let same : x ≡ y = cc in alone y left ∙ ap (λ z. may_leave (z ∷ [])) (sym same)
+  where
     alone : (y : Entry) (left : List Entry) → may_leave (y ∷ left) ≡ may_leave (y ∷ [])
     alone (Waiting s) left = refl
     alone (Whole c) left = refl
     alone (Other c) left = refl
 
-    go : (left : List Entry) → Some x ≡ slice_get left 0 → may_leave (x ∷ []) ≡ true → may_leave left ≡ true
-    go [] e m = cc
-    go (y ∷ left) e m = let same : x ≡ y = cc in alone y left ∙ ap (λ z. may_leave (z ∷ [])) (sym same) ∙ m
+-- the first entry is ready, where it may leave
+pub next_ready : (commands : List Command) (s : Solo) (q : Pending) (x : Entry) → lawful commands ≡ true → may_leave q.left ≡ true → HasCome commands s q → Some x ≡ slice_get q.left 0 → IsReady x
+next_ready commands s q x l m h e =
+    let next : IsNext (entries commands) (length q.outcomes) x = next_entry commands s q x h e in
+    record {
+      entry = next.entry;
+      is = next.is;
+      closed = leaves_closed next.entry [] (ap (λ y. may_leave (y ∷ [])) next.is ∙ sym (first_leaves q.left x e) ∙ m);
+      fit = ap fits (sym next.is) ∙ queued_fits next.entry (fits_at (entries commands) (length q.outcomes) next.entry next.at (lawful_fits commands l));
+    }
+
+-- and may leave
+pub ready_leaves : (q : Pending) (x : Entry) → Some x ≡ slice_get q.left 0 → IsReady x → may_leave q.left ≡ true
+ready_leaves q x e r = first_leaves q.left x e ∙ ap (λ y. may_leave (y ∷ [])) (sym r.is) ∙ closed_leaves r.entry [] r.closed
+
+-- where all entries are closed and the first of those left may not leave, none is left
+none_left : (es : List doc.Entry) (n : ℕ) → list_all is_closed_entry es ≡ true → may_leave (map queued (drop n es)) ≡ false → map queued (drop n es) ≡ []
+none_left [] zero c m = refl
+none_left (e ∷ es) zero c m = let t : may_leave (queued e ∷ map queued es) ≡ true = closed_leaves e (map queued es) (and_left (is_closed_entry e) _ c) in cc
+none_left [] (suc n) c m = refl
+none_left (e ∷ es) (suc n) c m = none_left es n (and_right (is_closed_entry e) _ c) m
 
 -- the document between entries is within the limits
 pub document_right : (commands : List Command) (s : Solo) (q : Pending) → HasCome commands s q → IsDocument s.store.base
@@ -399,17 +409,32 @@ none_left_over (suc n) (e ∷ es) h = ap (λ ds. e ∷ ds) (none_left_over n es 
 pub come_all : (commands : List Command) (s : Solo) (q : Pending) → HasCome commands s q → q.left ≡ [] → story_of s q.outcomes ≡ meaning s.canvas (entries commands)
 come_all commands s q h e = h.story ∙ ap (meaning s.canvas) (none_left_over (length q.outcomes) (entries commands) (sym h.queue.left_is ∙ e))
 
--- no entry yet
-pub come_none : (fed commands : List Command) (s : Solo) (q : Pending) → fed ≡ commands → Rests s → StandsFor fed q → q.outcomes ≡ [] → story_of s [] ≡ start → HasCome commands s q
-come_none fed commands s q same r stands none begins = record {
+-- no command yet
+pub come_none : (s : Solo) (q : Pending) → Rests s → StandsFor [] q → q.outcomes ≡ [] → story_of s [] ≡ start → HasCome [] s q
+come_none s q r stands none begins = record {
   rests = r;
-  queue = subst (λ cs. StandsFor cs q) same stands;
-  story = ap (story_of s) none ∙ begins ∙ sym (ap (λ os. meaning s.canvas (take (length os) (entries commands))) none);
+  queue = stands;
+  story = ap (story_of s) none ∙ begins ∙ sym (ap (λ os. meaning s.canvas (take (length os) (entries []))) none);
 }
 
--- the frames and the outcomes after all entries
-pub come_shows : (script : Contents) (s : Solo) (q : Pending) → HasCome script.commands s q → s.canvas ≡ script.canvas → q.left ≡ [] → Shows script s.film q.outcomes
-come_shows script s q h c e =
+-- one command more is fed
+pub come_fed : (before : List Command) (c : Command) (s : Solo) (q r : Pending) → lawful (before ++ c ∷ []) ≡ true → r.outcomes ≡ q.outcomes → StandsFor (before ++ c ∷ []) r → HasCome before s q → HasCome (before ++ c ∷ []) s r
+come_fed before c s q r h same stands come =
+    let both : (lawful before ≡ true) × (may_follow (entries before) c ≡ true) = lawful_split [] before c h in
+    record {
+      rests = come.rests;
+      queue = stands;
+      story =
+          ap (story_of s) same
+          ∙ come.story
+          ∙ ap (meaning s.canvas) (sym (ap (take (length q.outcomes)) (entries_last before c) ∙ take_fed (entries before) c (length q.outcomes) both.1 (lawful_differ before both.0) come.queue.few come.queue.closed))
+          ∙ ap (λ os. meaning s.canvas (take (length os) (entries (before ++ c ∷ [])))) (sym same);
+    }
+
+-- the frames and the outcomes after all commands, which leave no entry open
+pub come_shows : (script : Contents) (s : Solo) (q : Pending) → HasCome script.commands s q → s.canvas ≡ script.canvas → list_all is_closed_entry (entries script.commands) ≡ true → may_leave q.left ≡ false → Shows script s.film q.outcomes
+come_shows script s q h c closed m =
+    let e : q.left ≡ [] = h.queue.left_is ∙ none_left (entries script.commands) (length q.outcomes) closed (sym (ap may_leave h.queue.left_is) ∙ m) in
     let told : story_of s q.outcomes ≡ meaning script.canvas (entries script.commands) = come_all script.commands s q h e ∙ ap (λ d. meaning d (entries script.commands)) c in
     record {
       sides = subst (λ d. All (HasSides d) s.film) c h.rests.sides;
@@ -420,3 +445,7 @@ come_shows script s q h c e =
 pub shorter : (left new : List Entry) → may_leave left ≡ true → new ≡ drop 1 left → length new < length left
 shorter [] new m e = cc
 shorter (x ∷ left) new m e = let same : length new ≡ length left = ap length e in omega arith
+
+-- the canvas that carrying out the first entry keeps
+pub come_canvas : (old new : Solo) (x : Entry) (o : Outcome) → IsReady x → ((e : doc.Entry) → queued e ≡ x → Ends e old new o) → new.canvas ≡ old.canvas
+come_canvas old new x o r ends = (ends r.entry r.is).canvas

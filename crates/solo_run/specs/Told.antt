@@ -10,7 +10,7 @@ use Rattle.doc_model.specs.Canvases.{IsOfLimits}
 use Rattle.doc_model.specs.Picture.{Doc}
 use Rattle.doc_model.specs.Strokes as doc
 use Rattle.doc_model.specs.Strokes.{entries}
-use Rattle.doc_model.specs.Lawful.{is_closed_entry, within_limits}
+use Rattle.doc_model.specs.Lawful.{is_closed_entry, lawful, within_limits}
 use Rattle.doc_model.specs.Meaning.{Story, told, meaning}
 use Rattle.machine_model.specs.State.{Reach}
 use Rattle.tile_core.specs.Frames.{Scene}
@@ -83,3 +83,9 @@ pub record HasCome (commands : List Command) (s : Solo) (q : Pending) : Type 0 w
   pub rests : Rests s
   pub queue : StandsFor commands q
   pub story : story_of s q.outcomes ≡ meaning s.canvas (take (length q.outcomes) (entries commands))
+
+-- so it has come after some commands, each of which may follow those before it
+pub record HasBegun (s : Solo) (q : Pending) : Type 0 where
+  pub commands : List Command
+  pub follows : lawful commands ≡ true
+  pub come : HasCome commands s q
