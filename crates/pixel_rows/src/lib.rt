@@ -11,4 +11,4 @@ mod shares;
 #[cfg(test)]
 mod tests;
 
-pub use rows::{lay_colour, lay_masked, lay_sources};
+pub use rows::{lay_colour, lay_masked, lay_sources, left_everywhere, tell_canonical};

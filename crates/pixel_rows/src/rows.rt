@@ -93,7 +93,7 @@ pub fn lay_colour(op: Op, colour: Pixel, strength: u8, backdrop: &mut [Pixel])
 /// What is left of each pixel, where that is the same whatever lies there: an opaque colour at full
 /// strength hides or erases all.
 #[inline]
-fn left_everywhere(op: Op, colour: Pixel, strength: u8) -> Option<Pixel>
+pub fn left_everywhere(op: Op, colour: Pixel, strength: u8) -> Option<Pixel>
     ensures { IfSome result (λ left. (d : Rgba) → IsCanonical d → composed op colour d strength ≡ left) }
 {
     let [_, _, _, a] = colour.bytes();
@@ -104,6 +104,16 @@ fn left_everywhere(op: Op, colour: Pixel, strength: u8) -> Option<Pixel>
         Op::Over => Some(colour),
         Op::Erase => Some(Pixel::CLEAR),
         _ => None,
+    }
+}
+
+/// Tells that each pixel is canonical. It looks at them for that alone.
+#[inline]
+pub fn tell_canonical(pixels: &[Pixel])
+    ensures { (k : ℕ) → k < length pixels.now → IsCanonical (slice_index_or pixels.now k clear) }
+{
+    for i in 0..pixels.len() {
+        let _known = pixels[i].bytes();
     }
 }
 

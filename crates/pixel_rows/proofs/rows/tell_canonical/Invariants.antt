@@ -1,0 +1,7 @@
+use Rattle.std.proofs.Common.{ℕ, ◌<◌, get_or}
+use Rattle.pixel_core.specs.Rgba.{clear, IsCanonical}
+use Rattle.pixel_rows.proofs.rows.tell_canonical.Given as goal
+
+-- the pixels so far are
+abbrev pub invariant-loop-i : goal.invariant-loop-i
+invariant-loop-i l = (k : ℕ) → k < l.i → IsCanonical (get_or l.pixels k clear)
