@@ -1,13 +1,13 @@
 //! Point operations, laid straight on the pixels of a tile.
 
-ghost use Rattle.std.specs.Prelude.{◌≡◌, true, length, ◌+◌, ◌*◌};
+ghost use Rattle.std.specs.Prelude.{◌≡◌, true, length, ◌+◌, ◌*◌, IfSome};
 ghost use Rattle.std.specs.List.{list_any};
 ghost use Rattle.geom_core.specs.Areas.{IsInWorld};
 ghost use Rattle.geom_core.specs.Grid.{same_key, all_keys_of};
 ghost use Rattle.doc_model.specs.declared.job.Job.TheVariants.{Fill, Dab};
 ghost use Rattle.doc_model.specs.Jobs.{writes, square as square_of};
 ghost use Rattle.doc_model.specs.Lawful.{checks, within_limits};
-ghost use Rattle.job_core.specs.Points.{is_point_op as is_point_op_of, spot, IsPointWork, LaysPoints};
+ghost use Rattle.job_core.specs.Points.{is_point_op as is_point_op_of, spot, IsPointWork, LaysPoints, LeavesPlain};
 
 use crate::dabs::{Brush, lay_dab};
 use crate::fills::lay_ink;
@@ -67,6 +67,29 @@ impl<'a> PointWork<'a> {
     {
         self.key
     }
+
+    /// The one pixel that it leaves at all points of the tile, where all of them had `under` before
+    /// it if that is told. None where they may differ, as after dabs.
+    pub fn plain(&self, under: Option<Pixel>) -> Option<Pixel>
+        ensures { IfSome result (LeavesPlain self.now under) }
+    {
+        match *self.job {
+            Job::Fill {
+                rect,
+                colour,
+                op,
+                strength,
+            } => {
+                let ink = Ink {
+                    colour,
+                    op,
+                    strength,
+                };
+                filled_plain(self.key, &rect, &ink, under)
+            }
+            _ => None,
+        }
+    }
 }
 
 impl Lays for PointWork<'_> {
@@ -109,6 +132,19 @@ impl Lays for PointWork<'_> {
             }
             Job::Move { .. } | Job::Blur { .. } => unreachable!(),
         }
+    }
+}
+
+/// The one pixel that a fill leaves at all points of the key's tile, where it covers them.
+fn filled_plain(key: TileKey, rect: &Rect, ink: &Ink, under: Option<Pixel>) -> Option<Pixel>
+    requires { IsPointWork (spot (Fill rect.now ink.now.colour ink.now.op ink.now.strength) key) }
+    ensures { IfSome result (LeavesPlain (spot (Fill rect.now ink.now.colour ink.now.op ink.now.strength) key) under) }
+{
+    let part = part_in(key, rect);
+    if part.w() == 64 && part.h() == 64 {
+        ink.over(under)
+    } else {
+        None
     }
 }
 
