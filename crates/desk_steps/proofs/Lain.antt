@@ -23,12 +23,12 @@ use Rattle.doc_model.proofs.Shots.{at-published, default-published}
 use Rattle.doc_model.proofs.JobLaws.{laws_of_jobs}
 use Rattle.job_core.specs.Paints as paints
 use Rattle.job_core.specs.Paints.{Paint, Stuff, Makes, HasValue}
-use Rattle.job_core.specs.Points.{Spot, IsPointWork, is_point_op, LaysPoints, LeavesPlain}
+use Rattle.job_core.specs.Points.{Spot, IsPointWork, is_point_op, LaysPoints}
 use Rattle.job_core.proofs.Values.{world_key, one_met, some_of_limits}
 use Rattle.paint_device.specs.InPlace.{LaysUnder}
 use Rattle.paint_device.specs.Seen.{layer_of}
 use Rattle.paint_device.specs.Sheets.{Sheet, sheet, sheet_at, tile_or, with_under, readied}
-use Rattle.desk_steps.specs.Tiles.{IsLaid, IsLaidFrom, IsPaintedOn, IsPlainUnder}
+use Rattle.desk_steps.specs.Tiles.{IsLaid, IsLaidFrom, IsPaintedOn}
 use Rattle.paint_device.proofs.Shown.{at-layer_of, default-layer_of}
 use Rattle.paint_device.proofs.Writes.{pixel_or-tile_or, seen_after_exchange, ready_keeps_pixels}
 
@@ -190,14 +190,6 @@ by_writes job s p = go (any_holds (writes job) p) refl
 -- a point operation painted on the pixels that stand under its key
 pub points_laid : (w : Spot) (s : Sheet) (before after : Pixels) → ((p : Point) → in_tile w.key p ≡ true → pixel_at before p ≡ sheet_at s p) → LaysPoints w before after → IsPaintedOn w s after
 points_laid w s before after same lays p h = sym (lays (layer_of s) (λ p h. at-layer_of s p ∙ sym (same p h)) p h) ∙ by_writes w.job s p
-
--- the tile of the one pixel that it leaves
-pub plain_laid : (w : Spot) (s : Sheet) (under : Option Rgba) (c : Rgba) → IfSome under (IsPlainUnder s w.key) → LeavesPlain w under c → IsPaintedOn w s (replicate 4096 c)
-plain_laid w s under c is leaves p h = sym (pixel_or-tile_or None c p) ∙ sym (leaves (layer_of s) (λ g e p h. at-layer_of s p ∙ known under g e is p h) p h) ∙ by_writes w.job s p
-  where
-    known : (under : Option Rgba) (g : Rgba) → under ≡ Some g → IfSome under (IsPlainUnder s w.key) → IsPlainUnder s w.key g
-    known None g e is = absurd (some_none g (sym e))
-    known (Some c) g e is = subst (IsPlainUnder s w.key) (some_same c g e) is
 
 -- a point operation writes in tiles of the world
 pub work_key : (w : Spot) → IsPointWork w → IsWorldKey w.key

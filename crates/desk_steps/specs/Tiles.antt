@@ -28,10 +28,6 @@ IsLaidFrom made s t = (w : Paint) → Makes w made → IsLaid w.job (paints.laye
 abbrev pub IsPaintedOn : Spot → Sheet → Pixels → Type 0
 IsPaintedOn w s t = IsLaid w.job (layer_of s) w.key s t
 
--- the pixel is the sheet's at each point of the tile
-abbrev pub IsPlainUnder : Sheet → Key → Rgba → Type 0
-IsPlainUnder s k c = (p : Point) → in_tile k p ≡ true → sheet_at s p ≡ c
-
 -- the tile to the left of the key, or else the one above
 abbrev pub beside : Sheet → Key → Option Pixels
 beside s k = option_or (tile_under s.tiles (key (k.col -ℤ pos 1) k.row)) (tile_under s.tiles (key k.col (k.row -ℤ pos 1)))

@@ -5,10 +5,10 @@ ghost use Rattle.std.specs.Option.{option_copied};
 ghost use Rattle.std.specs.FinSet as set;
 ghost use Rattle.geom_core.specs.Grid.{IsWorldKey};
 ghost use Rattle.memento_core.specs.Planes.{tile_under};
-ghost use Rattle.job_core.specs.Points.{painted_in};
+ghost use Rattle.job_core.specs.Points.{LaysPoints, painted_in};
 ghost use Rattle.paint_device.specs.Seen.{layer_of};
 ghost use Rattle.paint_device.specs.Sheets.{tile_or};
-ghost use Rattle.desk_steps.specs.Tiles.{IsPaintedOn, IsPlainUnder, beside};
+ghost use Rattle.desk_steps.specs.Tiles.{IsPaintedOn, beside};
 
 use crate::keys::KeySet;
 use crate::laying::{changed_in_place, set_under};
@@ -60,10 +60,19 @@ fn paint_anew(
 fn painted(alloc: Global, device: &Device, work: &PointWork<'_>) -> Result<Tile, NoMemory>
     ensures { IfOk result (IsPaintedOn work.now device.now) }
 {
-    let key = work.key();
-    match work.plain(plain_under(device, key)) {
-        Some(pixel) => plain_tile(alloc, device, key, pixel),
+    match plain_left(device, work) {
+        Some(pixel) => plain_tile(alloc, device, work.key(), pixel),
         None => painted_copy(alloc, device, work),
+    }
+}
+
+/// The one pixel that the point operation leaves at all points of its tile. None where it finds none.
+fn plain_left(device: &Device, work: &PointWork<'_>) -> Option<Pixel>
+    ensures { IfSome result (λ c. LaysPoints work.now (tile_or (tile_under device.now.tiles work.now.key) device.now.default_pixel) (replicate 4096 c)) }
+{
+    match device.tile(work.key()) {
+        Some(tile) => work.plain_on(tile),
+        None => work.plain_on_ground(device.ground()),
     }
 }
 
@@ -99,16 +108,6 @@ fn neighbour(device: &Device, key: TileKey) -> Option<&Tile>
     match left {
         Some(tile) => Some(tile),
         None => device.tile(above),
-    }
-}
-
-/// The device's ground, where no tile stands under the key.
-fn plain_under(device: &Device, key: TileKey) -> Option<Pixel>
-    ensures { IfSome result (IsPlainUnder device.now key) }
-{
-    match device.tile(key) {
-        Some(_) => None,
-        None => Some(device.ground()),
     }
 }
 

@@ -1,11 +1,13 @@
 -- Point operations in place.
 use borrow.Author.Differences.{ints}
-use Rattle.std.proofs.Common.{◌≡◌, ℕ, ◌+◌, ◌*◌, ◌%◌, Bool, true, false, ◌&&◌, cond, [], ◌∷◌, get_or, refl, sym, ap, subst, ◌∙◌, arith}
+use Rattle.std.proofs.Common.{◌≡◌, ℕ, ◌+◌, ◌*◌, ◌%◌, ◌<◌, replicate, Bool, true, false, ◌&&◌, cond, [], ◌∷◌, get_or, refl, sym, ap, subst, ◌∙◌, arith}
 use Rattle.std.specs.Prelude.{IfSome, Option, Some, None, int_le, int_lt, ◌≤ℤ◌, ℤ, pos, ◌+ℤ◌, ◌-ℤ◌, ◌*ℤ◌, nat_abs}
 use Rattle.pixel_core.specs.declared.blending.Op.{Op}
 use Rattle.pixel_core.specs.Rgba.{Rgba, clear}
 use Rattle.pixel_core.specs.Compose.{compose}
+use Rattle.std.proofs.lemmas.List.{get_or-replicate}
 use Rattle.geom_core.specs.Points.{Point}
+use Rattle.geom_core.specs.Place.{across, down}
 use Rattle.geom_core.specs.Areas.{Area, holds, any_holds, meets, world, IsWithin, IsShared}
 use Rattle.geom_core.proofs.Tests.{and_left, and_right, both_true, or_left, taken}
 use Rattle.geom_core.specs.Grid.{Key, tile, IsWorldKey}
@@ -21,9 +23,9 @@ use Rattle.doc_model.specs.Layers.{Layer, at}
 use Rattle.doc_model.proofs.JobLaws.{at-apply}
 use Rattle.job_core.specs.declared.ink.Ink.{Ink}
 use Rattle.job_core.specs.declared.dabs.Brush.{Brush}
-use Rattle.job_core.specs.Laid.{Change, ChangesRows, inked, LeavesOf}
+use Rattle.job_core.specs.Laid.{Change, ChangesRows, inked, LeavesAll}
 use Rattle.job_core.specs.Dabs.{brushed, brushed_from}
-use Rattle.job_core.specs.Points.{spot, IsPointWork, LaysPoints, LeavesPlain}
+use Rattle.job_core.specs.Points.{spot, IsPointWork, LaysPoints}
 use Rattle.job_core.proofs.Values.{one_met, world_key, some_of_limits, tile_held, or-false}
 use Rattle.job_core.proofs.DabValues.{Steps, steps, square_some, lying}
 
@@ -97,22 +99,29 @@ fill_laid rect part place ink key old new work shared is laid =
 axis_whole : (t a x : ℤ) (n : ℕ) → n ≡ 64 → t ≤ℤ a → (a +ℤ pos n) ≤ℤ (t +ℤ pos 64) → (int_le t x && int_lt x (t +ℤ pos 64)) ≡ true → (int_le a x && int_lt x (a +ℤ pos n)) ≡ true
 axis_whole t a x n e low high h = grind (arith, ints)
 
-covered : (rect part : Area) (key : Key) → IsShared rect (tile key) part → part.w ≡ 64 → part.h ≡ 64 → (p : Point) → in_tile key p ≡ true → holds rect p ≡ true
+pub covered : (rect part : Area) (key : Key) → IsShared rect (tile key) part → part.w ≡ 64 → part.h ≡ 64 → (p : Point) → in_tile key p ≡ true → holds rect p ≡ true
 covered rect part key shared w h p inside =
     let held : holds (tile key) p ≡ true = tile_held key p ∙ inside in
     let whole : holds part p ≡ true = both_true _ _ (axis_whole _ part.x p.x part.w w shared.in_b.left shared.in_b.right (and_left _ _ held)) (axis_whole _ part.y p.y part.h h shared.in_b.top shared.in_b.bottom (and_right _ _ held)) in
     and_left (holds rect p) (holds (tile key) p) (sym (shared.held p) ∙ whole)
 
-more_some : {P Q : Rgba → Type 0} (o : Option Rgba) → ((c : Rgba) → P c → Q c) → IfSome o P → IfSome o Q
-more_some None f h = h
-more_some (Some c) f h = f c h
+small_place : (x y : ℕ) → 64 * (y % 64) + x % 64 < 4096
+small_place x y = omega arith
 
--- a fill that covers its tile
-pub fill_plain : (rect part : Area) (ink : Ink) (key : Key) (under o : Option Rgba) → IsShared rect (tile key) part → part.w ≡ 64 → part.h ≡ 64 → IfSome o (LeavesOf ink under) → IfSome o (LeavesPlain (spot (Fill rect ink.colour ink.op ink.strength) key) under)
-fill_plain rect part ink key under o shared w h = more_some o (λ c leaves layer told p inside.
+-- a fill that covers its tile, and leaves one pixel of each there
+pub fill_plain : (rect : Area) (ink : Ink) (key : Key) (old : Pixels) (c : Rgba) → ((p : Point) → in_tile key p ≡ true → holds rect p ≡ true) → LeavesAll ink old c → LaysPoints (spot (Fill rect ink.colour ink.op ink.strength) key) old (replicate 4096 c)
+fill_plain rect ink key old c covers leaves layer has p inside =
+    let small : 64 * (down p % 64) + across p % 64 < 4096 = small_place (across p) (down p) in
     at-apply (Fill rect ink.colour ink.op ink.strength) layer p
-    ∙ taken (any_holds (rect ∷ []) p) _ _ (or_left (holds rect p) false (covered rect part key shared w h p inside))
-    ∙ leaves (at layer p) (λ g e. told g e p inside))
+    ∙ taken (any_holds (rect ∷ []) p) _ _ (or_left (holds rect p) false (covers p inside))
+    ∙ ap (λ d. compose ink.op ink.colour d ink.strength) (has p inside)
+    ∙ leaves (64 * (down p % 64) + across p % 64) small
+    ∙ sym (get_or-replicate 4096 (64 * (down p % 64) + across p % 64) c clear small)
+
+-- what follows of one that is there
+pub more_some : (P Q : Rgba → Type 0) (o : Option Rgba) → ((c : Rgba) → P c → Q c) → IfSome o P → IfSome o Q
+more_some P Q None f h = h
+more_some P Q (Some c) f h = f c h
 
 -- ---- dabs
 

@@ -1,9 +1,10 @@
 -- Rows of pixels laid over others.
-use Rattle.std.specs.Prelude.{◌≡◌, ℕ, ◌+◌, ◌-◌, ◌*◌, ◌<◌, true, if◌then◌else◌, List, slice_index_or, Option, Some}
+use Rattle.std.specs.Prelude.{◌≡◌, ℕ, ◌+◌, ◌-◌, ◌*◌, ◌<◌, true, if◌then◌else◌, List, slice_index_or}
 use Rattle.pixel_core.specs.Rgba.{Rgba, clear}
 use Rattle.geom_core.specs.Points.{Point}
 use Rattle.geom_core.specs.Areas.{Area, holds, place_in}
 use Rattle.tile_core.specs.Parts.{in_part}
+use Rattle.tile_core.specs.Pixels.{Pixels}
 use Rattle.pixel_core.specs.Compose.{compose}
 use Rattle.job_core.specs.declared.ink.Ink.{Ink}
 
@@ -20,9 +21,9 @@ ChangesRows f width left top w h old new = (col row : ℕ) → col < width
 abbrev pub inked : Ink → Change
 inked ink col row d = compose ink.op ink.colour d ink.strength
 
--- the ink leaves this of each pixel, or of the one that is told
-abbrev pub LeavesOf : Ink → Option Rgba → Rgba → Type 0
-LeavesOf ink under c = (d : Rgba) → ((g : Rgba) → under ≡ Some g → d ≡ g) → inked ink 0 0 d ≡ c
+-- the ink leaves this of each of a tile's pixels
+abbrev pub LeavesAll : Ink → Pixels → Rgba → Type 0
+LeavesAll ink tile c = (k : ℕ) → k < 4096 → inked ink 0 0 (slice_index_or tile k clear) ≡ c
 
 -- the pixel of a source in rows of w pixels
 abbrev pub row_of : List Rgba → ℕ → Change

@@ -1,5 +1,5 @@
 -- Point operations: jobs that make each pixel from what stood at that very point, as fills and dabs do.
-use Rattle.std.specs.Prelude.{◌≡◌, Bool, true, false, Option, Some, refl}
+use Rattle.std.specs.Prelude.{◌≡◌, Bool, true, false, refl}
 use Rattle.std.specs.List.{list_any}
 use Rattle.std.specs.Coded.{Coded, code_by, coded×}
 use Rattle.pixel_core.specs.Rgba.{Rgba}
@@ -47,11 +47,6 @@ HasTile key tile layer = (p : Point) → in_tile key p ≡ true → at layer p �
 -- whichever layer has the old tile's pixels there has the new one's after the job
 abbrev pub LaysPoints : Spot → Pixels → Pixels → Type 0
 LaysPoints w old new = (layer : Layer) → HasTile w.key old layer → HasTile w.key new (apply w.job layer)
-
--- after the job all points of the tile have this pixel, if before it they all had the one that may be told
-abbrev pub LeavesPlain : Spot → Option Rgba → Rgba → Type 0
-LeavesPlain w under c = (layer : Layer) → ((g : Rgba) → under ≡ Some g → (p : Point) → in_tile w.key p ≡ true → at layer p ≡ g)
-    → (p : Point) → in_tile w.key p ≡ true → at (apply w.job layer) p ≡ c
 
 -- the code by which contracts tell jobs with keys apart
 abbrev pub spot_code : Coded Spot

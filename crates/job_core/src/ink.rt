@@ -1,9 +1,11 @@
 //! Inks.
 
-ghost use Rattle.std.specs.Prelude.{◌≡◌, IfSome, IsTrue};
-ghost use Rattle.pixel_core.specs.Rgba.{Rgba, clear};
+ghost use Rattle.std.specs.Prelude.{◌≡◌, IfSome};
+ghost use Rattle.job_core.specs.Laid.{inked, LeavesAll};
 
 use pixel_core::{Op, Pixel, compose};
+use pixel_rows::{left_everywhere, tell_canonical};
+use tile_core::Tile;
 
 /// A colour, and how it is laid on pixels.
 #[derive(Clone, Copy)]
@@ -14,27 +16,26 @@ pub struct Ink {
 }
 
 impl Ink {
-    ghost use Rattle.job_core.specs.Laid.{inked, LeavesOf};
-
-    /// What it leaves of a pixel, which may be told. None where too little is known.
-    pub fn over(&self, under: Option<Pixel>) -> Option<Pixel>
-        ensures { IfSome result (LeavesOf self.now under) }
+    /// What it leaves of a pixel.
+    pub fn on(&self, below: Pixel) -> Pixel
+        ensures { result ≡ inked self.now 0 0 below }
     {
-        match under {
-            Some(below) => Some(compose(self.op, self.colour, below, self.strength)),
-            None if self.erases() => Some(Pixel::CLEAR),
-            None => None,
-        }
+        compose(self.op, self.colour, below, self.strength)
     }
 
-    /// Whether it leaves every pixel clear.
-    fn erases(&self) -> bool
-        ensures { IsTrue result → (d : Rgba) → inked self.now 0 0 d ≡ clear }
+    /// The one pixel that it leaves of each of a tile's: where it hides or erases all, or the tile
+    /// has one pixel everywhere. Else None.
+    pub fn on_all(&self, tile: &Tile) -> Option<Pixel>
+        ensures { IfSome result (LeavesAll self.now tile.now) }
     {
-        let [_, _, _, alpha] = self.colour.bytes();
-        match self.op {
-            Op::Erase => alpha == 255 && self.strength == 255,
-            _ => false,
+        let first = tile.pixel(0, 0);
+        match left_everywhere(self.op, self.colour, self.strength) {
+            Some(left) => {
+                tell_canonical(tile.pixels());
+                Some(left)
+            }
+            None if tile.is_plain(first) => Some(self.on(first)),
+            None => None,
         }
     }
 }

@@ -1,13 +1,17 @@
 //! Point operations, laid straight on the pixels of a tile.
 
-ghost use Rattle.std.specs.Prelude.{◌≡◌, true, length, ◌+◌, ◌*◌, IfSome};
+ghost use Rattle.std.specs.Prelude.{◌≡◌, true, length, ◌+◌, ◌*◌, IfSome, IsTrue, replicate};
 ghost use Rattle.std.specs.List.{list_any};
-ghost use Rattle.geom_core.specs.Areas.{IsInWorld};
-ghost use Rattle.geom_core.specs.Grid.{same_key, all_keys_of};
+ghost use Rattle.pixel_core.specs.Rgba.{Rgba};
+ghost use Rattle.geom_core.specs.Points.{Point};
+ghost use Rattle.geom_core.specs.Areas.{IsInWorld, holds, meets};
+ghost use Rattle.geom_core.specs.Grid.{IsWorldKey, same_key, all_keys_of, tile};
+ghost use Rattle.tile_core.specs.Pixels.{Pixels};
 ghost use Rattle.doc_model.specs.declared.job.Job.TheVariants.{Fill, Dab};
-ghost use Rattle.doc_model.specs.Jobs.{writes, square as square_of};
+ghost use Rattle.doc_model.specs.Jobs.{writes, in_tile, square as square_of};
 ghost use Rattle.doc_model.specs.Lawful.{checks, within_limits};
-ghost use Rattle.job_core.specs.Points.{is_point_op as is_point_op_of, spot, IsPointWork, LaysPoints, LeavesPlain};
+ghost use Rattle.job_core.specs.Points.{is_point_op as is_point_op_of, spot, IsPointWork, LaysPoints};
+ghost use Rattle.job_core.specs.Laid.{LeavesAll};
 
 use crate::dabs::{Brush, lay_dab};
 use crate::fills::lay_ink;
@@ -17,7 +21,7 @@ use doc_model::Job;
 use geom_core::{Rect, TileKey};
 use pixel_core::Pixel;
 use std::marker::Model;
-use tile_core::{Lays, part_in_tile};
+use tile_core::{Lays, Tile, part_in_tile};
 
 /// Whether the job makes each pixel from that pixel alone, as fills and dabs do.
 pub fn is_point_op(job: &Job) -> bool
@@ -68,10 +72,24 @@ impl<'a> PointWork<'a> {
         self.key
     }
 
-    /// The one pixel that it leaves at all points of the tile, where all of them had `under` before
-    /// it if that is told. None where they may differ, as after dabs.
-    pub fn plain(&self, under: Option<Pixel>) -> Option<Pixel>
-        ensures { IfSome result (LeavesPlain self.now under) }
+    /// The one pixel that it leaves at all points of the tile, which has these pixels before it.
+    /// None where it finds none, as for dabs and for fills that don't cover the tile.
+    pub fn plain_on(&self, tile: &Tile) -> Option<Pixel>
+        ensures { IfSome result (λ c. LaysPoints self.now tile.now (replicate 4096 c)) }
+    {
+        self.covering_ink()?.on_all(tile)
+    }
+
+    /// The same where all points of the tile have that one pixel before it.
+    pub fn plain_on_ground(&self, ground: Pixel) -> Option<Pixel>
+        ensures { IfSome result (λ c. LaysPoints self.now (replicate 4096 ground) (replicate 4096 c)) }
+    {
+        Some(self.covering_ink()?.on(ground))
+    }
+
+    /// The ink of a fill that covers the tile.
+    fn covering_ink(&self) -> Option<Ink>
+        ensures { IfSome result (λ ink. (old : Pixels) (c : Rgba) → LeavesAll ink old c → LaysPoints self.now old (replicate 4096 c)) }
     {
         match *self.job {
             Job::Fill {
@@ -80,12 +98,14 @@ impl<'a> PointWork<'a> {
                 op,
                 strength,
             } => {
-                let ink = Ink {
+                if !covers(self.key, &rect) {
+                    return None;
+                }
+                Some(Ink {
                     colour,
                     op,
                     strength,
-                };
-                filled_plain(self.key, &rect, &ink, under)
+                })
             }
             _ => None,
         }
@@ -135,17 +155,14 @@ impl Lays for PointWork<'_> {
     }
 }
 
-/// The one pixel that a fill leaves at all points of the key's tile, where it covers them.
-fn filled_plain(key: TileKey, rect: &Rect, ink: &Ink, under: Option<Pixel>) -> Option<Pixel>
-    requires { IsPointWork (spot (Fill rect.now ink.now.colour ink.now.op ink.now.strength) key) }
-    ensures { IfSome result (LeavesPlain (spot (Fill rect.now ink.now.colour ink.now.op ink.now.strength) key) under) }
+/// Whether the rectangle has all points of the key's tile.
+fn covers(key: TileKey, rect: &Rect) -> bool
+    requires key { IsWorldKey key }
+    requires met { meets rect.now (tile key) ≡ true }
+    ensures { IsTrue result → (p : Point) → in_tile key p ≡ true → holds rect.now p ≡ true }
 {
     let part = part_in(key, rect);
-    if part.w() == 64 && part.h() == 64 {
-        ink.over(under)
-    } else {
-        None
-    }
+    part.w() == 64 && part.h() == 64
 }
 
 /// Lays a fill on the key's tile.
