@@ -68,12 +68,7 @@ fn painted(alloc: Global, device: &Device, work: &PointWork<'_>) -> Result<Tile,
 }
 
 /// A tile of one pixel: a neighbour's, shared, where that is such a one, or else a new one.
-fn plain_tile(
-    alloc: Global,
-    device: &Device,
-    key: TileKey,
-    pixel: Pixel,
-) -> Result<Tile, NoMemory>
+fn plain_tile(alloc: Global, device: &Device, key: TileKey, pixel: Pixel) -> Result<Tile, NoMemory>
     requires { IsWorldKey key }
     ensures { IfOk result (λ t. t ≡ replicate 4096 pixel) }
 {

@@ -12,4 +12,4 @@ returns-clause-ok c w m =
     let key : c.key.result ≡ w.key = c.key.ensures.value ∙ key_made w c.args.made.now m in
     more_ok c.set_under.result
     (λ e. ap layer_of e ∙ laid_layer w.job (paints.layer_of w.shot) c.key.result c.args.device.now c.in_ok-tile.tile (subst (λ k. IsLaid w.job (paints.layer_of w.shot) k c.args.device.now c.in_ok-tile.tile) (sym key) (c.in_ok-tile.ensures w m))
-        ∙ ap (λ k. published w.job (paints.layer_of w.shot) k (layer_of c.args.device.now)) key) c.set_under.ensures.ok
+    ∙ ap (λ k. published w.job (paints.layer_of w.shot) k (layer_of c.args.device.now)) key) c.set_under.ensures.ok

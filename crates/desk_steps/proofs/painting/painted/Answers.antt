@@ -12,5 +12,5 @@ plain_tile-requires c = subst IsWorldKey (sym c.key-key.ensures.value) (work_key
 pub returns-in-Some : goal.returns-in-Some
 returns-in-Some c = IfOk-weaker c.plain_tile.result (λ t. t ≡ replicate 4096 c.in-Some.pixel) (IsPaintedOn c.args.work.now c.args.device.now)
     (λ t e. subst (IsPaintedOn c.args.work.now c.args.device.now) (sym e)
-        (plain_laid c.args.work.now c.args.device.now c.plain_under.result c.in-Some.pixel (subst (λ k. IfSome c.plain_under.result (IsPlainUnder c.args.device.now k)) c.key-key.ensures.value c.plain_under.ensures) c.in-Some.ensures))
+    (plain_laid c.args.work.now c.args.device.now c.plain_under.result c.in-Some.pixel (subst (λ k. IfSome c.plain_under.result (IsPlainUnder c.args.device.now k)) c.key-key.ensures.value c.plain_under.ensures) c.in-Some.ensures))
     c.plain_tile.ensures
