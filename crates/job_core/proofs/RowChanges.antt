@@ -22,9 +22,12 @@ put_mid-laid old ys at k e =
     ap (λ zs. take at old ++ (ys ++ zs)) (drop-drop k at old ∙ ap (λ n. drop (at + n) old) (sym e))
     ∙ sym (append_assoc (take at old) ys (drop (at + length ys) old))
 
-within : (t : Bool) (x y z : Rgba) → (t ≡ true → x ≡ y) → cond t x z ≡ cond t y z
+pub within : (t : Bool) (x y z : Rgba) → (t ≡ true → x ≡ y) → cond t x z ≡ cond t y z
 within true x y z e = e refl
 within false x y z e = refl
+
+pub below : (from i n : ℕ) → (leb from i && ltb i (from + n)) ≡ true → i - from < n
+below from i n t = grind (arith, nat_tests)
 
 -- a slice that was changed in place
 pub slice_changed : (g : ℕ → Rgba → Rgba) (old ys : List Rgba) (from n k : ℕ) → from + n ≤ length old → k ≡ n → length ys ≡ n
@@ -38,9 +41,6 @@ slice_changed g old ys from n k fits ek many each i =
     let back : from + (i - from) ≡ i = above from i n t in
     each (i - from) small ∙ ap (g (i - from)) (get_or-take k (drop from old) (i - from) clear (rw ek small) ∙ get_or-drop from old (i - from) clear ∙ ap (λ j. get_or old j clear) back))
   where
-    below : (from i n : ℕ) → (leb from i && ltb i (from + n)) ≡ true → i - from < n
-    below from i n t = grind (arith, nat_tests)
-
     above : (from i n : ℕ) → (leb from i && ltb i (from + n)) ≡ true → from + (i - from) ≡ i
     above from i n t = grind (arith, nat_tests)
 

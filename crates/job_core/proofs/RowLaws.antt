@@ -8,60 +8,32 @@ use Rattle.pixel_core.specs.Rgba.{Rgba, clear}
 use Rattle.geom_core.specs.Areas.{Area, holds, IsWithin}
 use Rattle.geom_core.specs.Place.{IsOffset}
 use Rattle.geom_core.proofs.Tests.{and_left, and_right}
-use Rattle.tile_core.specs.Parts.{in_part, pixel_in}
-use Rattle.tile_core.proofs.LaidRows.{get_or-laid, stretch, length_range}
-use Rattle.job_core.specs.Laid.{LaysRows, LaysOver}
+use Rattle.tile_core.specs.Parts.{in_part}
+use Rattle.tile_core.proofs.LaidRows.{get_or-laid, length_range}
+use Rattle.job_core.specs.Laid.{row_of, LaysRows, LaysOver}
+use Rattle.job_core.proofs.RowChanges.{ChangedSoFar, within, below, row_changed}
 
--- the first rows of the part are laid, and the next row's places are these
+-- the first rows of the part are laid, and the next row stands at this place of the source
 pub record RowsSoFar (width left top w rows : ℕ) (src old new : List Rgba) (from to : ℕ) : Type 0 where
-  pub laid : LaysRows width left top w rows src old new
+  pub laid : ChangedSoFar (row_of src w) width left top w rows old new to
   pub from_is : from ≡ rows * w
-  pub to_is : to ≡ (top + rows) * width + left
-
--- one more row, read along that row and along the others
-one_more : {X : Type 0} (left top w rows col row : ℕ) (x y z u : X)
-    → (in_part left (top + rows) w 1 col row ≡ true → x ≡ y)
-    → u ≡ cond (in_part left top w rows col row) y z
-    → cond (in_part left (top + rows) w 1 col row) x u ≡ cond (in_part left top w (rows + 1) col row) y z
-one_more left top w rows col row x y z u same e = grind (arith, nat_tests)
-
--- the place in the row is the place in the part
-place : (width left top w rows col row to from : ℕ) → to ≡ (top + rows) * width + left → from ≡ rows * w → in_part left (top + rows) w 1 col row ≡ true
-    → (from + ((row * width + col) - to) ≡ (row - top) * w + (col - left)) × ((row * width + col) - to < w)
-place width left top w rows col row to from e f t =
-    let r : row ≡ top + rows = grind (arith, nat_tests) in
-    let p : left ≤ col = grind (arith, nat_tests) in
-    let q : col < left + w = grind (arith, nat_tests) in
-    let m : row * width ≡ (top + rows) * width = ap (λ i. i * width) r in
-    let s : row - top ≡ rows = omega arith in
-    let n : (row - top) * w ≡ rows * w = ap (λ i. i * w) s in
-    (omega arith, omega arith)
 
 pub rows_next : (old mid src : List Rgba) (width left top w rows from to : ℕ) → RowsSoFar width left top w rows src old mid from to → left + w ≤ width → to + w ≤ length mid → from + w ≤ length src
     → RowsSoFar width left top w (rows + 1) src old (take to mid ++ slice_range src from (from + w) ++ drop (to + length (slice_range src from (from + w))) mid) (from + w) (to + width)
 rows_next old mid src width left top w rows from to so across fits has =
     let n : length (slice_range src from (from + w)) ≡ w = length_range src from w has in
     record {
-      laid = λ col row k.
-          let r : Rgba = get_or (slice_range src from (from + w)) ((row * width + col) - to) clear in
-          let o : Rgba = get_or mid (row * width + col) clear in
-          get_or-laid mid (slice_range src from (from + w)) to (row * width + col) clear (rw n fits)
-          ∙ ap (λ m. cond (leb to (row * width + col) && ltb (row * width + col) (to + m)) r o) n
-          ∙ ap (λ t. cond (leb t (row * width + col) && ltb (row * width + col) (t + w)) r o) so.to_is
-          ∙ ap (λ b. cond b r o) (stretch width left w (top + rows) row col across k)
-          ∙ one_more left top w rows col row r (pixel_in left top w src col row) (get_or old (row * width + col) clear) o
-          (λ t. let q : (from + ((row * width + col) - to) ≡ (row - top) * w + (col - left)) × ((row * width + col) - to < w) = place width left top w rows col row to from so.to_is so.from_is t in
-          get_or-take (from + w - from) (drop from src) ((row * width + col) - to) clear (omega arith) ∙ get_or-drop from src ((row * width + col) - to) clear ∙ ap (λ i. get_or src i clear) q.0)
-          (so.laid col row k);
+      laid = row_changed (row_of src w) width left top w rows to old mid _ so.laid across (λ i.
+          get_or-laid mid (slice_range src from (from + w)) to i clear (rw n fits)
+          ∙ ap (λ m. cond (leb to i && ltb i (to + m)) (get_or (slice_range src from (from + w)) (i - to) clear) (get_or mid i clear)) n
+          ∙ within (leb to i && ltb i (to + w)) _ _ _ (λ t.
+          get_or-take (from + w - from) (drop from src) (i - to) clear (let small : i - to < w = below to i w t in omega arith)
+          ∙ get_or-drop from src (i - to) clear ∙ ap (λ j. get_or src (j + (i - to)) clear) so.from_is));
       from_is = next_from rows w from so.from_is;
-      to_is = next_to top rows width left to so.to_is;
     }
   where
     next_from : (rows w from : ℕ) → from ≡ rows * w → from + w ≡ (rows + 1) * w
     next_from rows w from e = omega arith
-
-    next_to : (top rows width left to : ℕ) → to ≡ (top + rows) * width + left → to + width ≡ (top + (rows + 1)) * width + left
-    next_to top rows width left to e = omega arith
 
 -- ---- the part as a rectangle
 

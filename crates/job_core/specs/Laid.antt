@@ -3,7 +3,7 @@ use Rattle.std.specs.Prelude.{◌≡◌, ℕ, ◌+◌, ◌-◌, ◌*◌, ◌<◌
 use Rattle.pixel_core.specs.Rgba.{Rgba, clear}
 use Rattle.geom_core.specs.Points.{Point}
 use Rattle.geom_core.specs.Areas.{Area, holds, place_in}
-use Rattle.tile_core.specs.Parts.{in_part, pixel_in}
+use Rattle.tile_core.specs.Parts.{in_part}
 use Rattle.pixel_core.specs.Compose.{compose}
 use Rattle.job_core.specs.declared.ink.Ink.{Ink}
 
@@ -24,10 +24,13 @@ inked ink col row d = compose ink.op ink.colour d ink.strength
 abbrev pub LeavesOf : Ink → Option Rgba → Rgba → Type 0
 LeavesOf ink under c = (d : Rgba) → ((g : Rgba) → under ≡ Some g → d ≡ g) → inked ink 0 0 d ≡ c
 
+-- the pixel of a source in rows of w pixels
+abbrev pub row_of : List Rgba → ℕ → Change
+row_of src w col row d = slice_index_or src (row * w + col) clear
+
 -- the new pixels, in rows of some width, have these ones on a part, and the old ones elsewhere
 abbrev pub LaysRows : ℕ → ℕ → ℕ → ℕ → ℕ → List Rgba → List Rgba → List Rgba → Type 0
-LaysRows width left top w h src old new = (col row : ℕ) → col < width
-    → slice_index_or new (row * width + col) clear ≡ (if in_part left top w h col row then pixel_in left top w src col row else slice_index_or old (row * width + col) clear)
+LaysRows width left top w h src old new = ChangesRows (row_of src w) width left top w h old new
 
 -- the new pixels of a rectangle have a part's pixels on the part, and the old ones elsewhere
 abbrev pub LaysOver : Area → Area → List Rgba → List Rgba → List Rgba → Type 0

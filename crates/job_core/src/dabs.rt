@@ -41,20 +41,18 @@ impl Brush {
     }
 }
 
-/// What a dab leaves in the key's tile, where `square` is the square round it.
+/// What a dab leaves in the key's tile.
 pub fn dabbed(
     alloc: Global,
     shot: &Shot,
     key: TileKey,
-    square: &Rect,
     brush: &Brush,
     ink: &Ink,
 ) -> Result<Block, NoMemory>
-    requires due { IsDue (Dab brush.now.x brush.now.y brush.now.r brush.now.soft ink.now.colour ink.now.op ink.now.strength) shot.now key }
-    requires square { square.now ≡ square_of brush.now.x brush.now.y brush.now.r }
+    requires { IsDue (Dab brush.now.x brush.now.y brush.now.r brush.now.soft ink.now.colour ink.now.op ink.now.strength) shot.now key }
     ensures { IfOk result (λ b. IsPainted (paint (Dab brush.now.x brush.now.y brush.now.r brush.now.soft ink.now.colour ink.now.op ink.now.strength) shot.now key (b ∷ []))) }
 {
-    let part = part_in(key, square);
+    let part = part_in(key, &brush.square());
     let pixels = brushed(alloc, shot, key, &part, brush, ink)?;
     Ok(Block::from_pixels(key, part, pixels))
 }

@@ -153,7 +153,7 @@ fn blocks_of(alloc: Global, job: &Job, shot: &Shot, key: TileKey) -> Result<Bloc
                 op,
                 strength,
             };
-            let block = dabbed(alloc, shot, key, &written(job, 0), &brush, &ink)?;
+            let block = dabbed(alloc, shot, key, &brush, &ink)?;
             Ok(alone(block))
         }
         Job::Move { rect, dx, dy } => moved(alloc, shot, key, &rect, &written(job, 1), dx, dy),

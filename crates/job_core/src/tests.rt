@@ -57,12 +57,17 @@ fn dab(x: i32, y: i32, r: u8, soft: bool) -> Job {
     }
 }
 
-/// A shot of the world. It has a red pixel at (0, 0), and its ground elsewhere.
-fn red_corner(alloc: Global) -> Result<Shot, NoMemory> {
+/// A tile with a red pixel in its corner, and the ground elsewhere.
+fn red_tile(alloc: Global) -> Result<Tile, NoMemory> {
     let mut pixels = vec![in alloc; pixel(GROUND); 4096]?;
     pixels[0] = pixel(RED);
+    Tile::from_pixels(alloc, pixels)
+}
+
+/// A shot of the world. It has a red pixel at (0, 0), and its ground elsewhere.
+fn red_corner(alloc: Global) -> Result<Shot, NoMemory> {
     let mut shot = Shot::new(alloc, &[rect(-16384, -16384, 32768, 32768)], pixel(GROUND))?;
-    shot.put(ORIGIN, &Tile::from_pixels(alloc, pixels)?)?;
+    shot.put(ORIGIN, &red_tile(alloc)?)?;
     Ok(shot)
 }
 
@@ -225,4 +230,76 @@ fn dabs(rt: HostRuntime) -> Result<(), Fail> {
         assert_eq!(rt; a, alpha, "{x} {y}");
     }
     Ok(())
+}
+
+/// The job's work in its first tile.
+fn work<'a>(rt: &impl Abort, job: &'a Job) -> PointWork<'a> {
+    assert!(rt; is_point_op(job));
+    assert!(rt; job.check().is_ok());
+    assert!(rt; job.is_within_limits());
+    let key = first_tile(rt, job);
+    assert_eq!(rt; key, ORIGIN);
+    PointWork::new(job, key)
+}
+
+/// Lays the job in place on a tile with a red corner, and looks at some of its pixels.
+fn leaves_in_place(
+    rt: &impl Abort,
+    alloc: Global,
+    job: Job,
+    wanted: &[(u8, u8, [u8; 4])],
+) -> Result<(), NoMemory> {
+    let mut tile = red_tile(alloc)?;
+    assert!(rt; tile.lay_alone(&work(rt, &job)));
+    for (col, row, want) in wanted {
+        assert!(rt; *col < 64 && *row < 64);
+        assert_eq!(rt;
+            tile.pixel(*col, *row).bytes(),
+            *want,
+            "{job:?} at {col} {row}"
+        );
+    }
+    Ok(())
+}
+
+#[test]
+fn in_place(rt: HostRuntime) -> Result<(), Fail> {
+    let alloc = rt.alloc();
+    let blue = [0, 0, 255, 255];
+    leaves_in_place(
+        &rt,
+        alloc,
+        filling(rect(0, 0, 1, 1), blue, 255),
+        &[(0, 0, blue), (1, 0, GROUND), (0, 1, GROUND)],
+    )?;
+    leaves_in_place(
+        &rt,
+        alloc,
+        filling(rect(0, 0, 65, 2), [0, 0, 255, 128], 255),
+        &[(0, 0, [127, 0, 128, 255]), (0, 2, GROUND)],
+    )?;
+    leaves_in_place(
+        &rt,
+        alloc,
+        dab(2, 2, 1, false),
+        &[
+            (0, 0, RED),
+            (1, 1, GROUND),
+            (2, 1, RED),
+            (1, 2, RED),
+            (2, 2, RED),
+            (3, 3, GROUND),
+        ],
+    )?;
+    Ok(())
+}
+
+#[test]
+fn plain_tiles(rt: HostRuntime) {
+    let blue = [0, 0, 255, 255];
+    let whole = filling(rect(0, 0, 64, 65), blue, 255);
+    assert!(rt; work(&rt, &whole).plain(Some(pixel(GROUND))) == Some(pixel(blue)));
+    assert!(rt; work(&rt, &whole).plain(None).is_none());
+    let part = filling(rect(0, 0, 63, 64), blue, 255);
+    assert!(rt; work(&rt, &part).plain(Some(pixel(GROUND))).is_none());
 }
