@@ -34,10 +34,10 @@ pub fn lay(
     ensures no_key { OnErr result (keys.new ≡ keys.old) }
 {
     if laid_in_place(device, keys, made) {
-        Ok(())
-    } else {
-        lay_anew(alloc, device, keys, made)
+        return Ok(());
     }
+    let tile = laid(alloc, device, made)?;
+    set_under(device, keys, made.key(), tile)
 }
 
 /// Lays one block in place, where its tile is among the keys and nobody shares it. It tells whether
@@ -71,22 +71,6 @@ pub fn changed_in_place<L: Lays>(
     } else {
         false
     }
-}
-
-/// Lays what was painted on the device as a new tile, and adds the tile to the keys.
-fn lay_anew(
-    alloc: Global,
-    device: &mut Device,
-    keys: &mut KeySet,
-    made: &Made,
-) -> Result<(), NoMemory>
-    ensures ok { (w : Paint) → Makes w made.now → OnOk result (layer_of device.new ≡ published w.job (paints.layer_of w.shot) w.key (layer_of device.old)) }
-    ensures keys { OnOk result (keys.new ≡ set.insert keys.old made.now.key) }
-    ensures err { OnErr result (layer_of device.new ≡ layer_of device.old) }
-    ensures no_key { OnErr result (keys.new ≡ keys.old) }
-{
-    let tile = laid(alloc, device, made)?;
-    set_under(device, keys, made.key(), tile)
 }
 
 /// The tile stands under a key of the world, and that is among the keys. Where there is no memory

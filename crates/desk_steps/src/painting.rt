@@ -34,26 +34,10 @@ pub fn paint(
 {
     let key = work.key();
     if changed_in_place(device, keys, key, work) {
-        Ok(())
-    } else {
-        paint_anew(alloc, device, keys, work)
+        return Ok(());
     }
-}
-
-/// Paints it as another tile, and adds that to the keys.
-fn paint_anew(
-    alloc: Global,
-    device: &mut Device,
-    keys: &mut KeySet,
-    work: &PointWork<'_>,
-) -> Result<(), NoMemory>
-    ensures ok { OnOk result (layer_of device.new ≡ painted_in work.now.job work.now.key (layer_of device.old)) }
-    ensures keys { OnOk result (keys.new ≡ set.insert keys.old work.now.key) }
-    ensures err { OnErr result (layer_of device.new ≡ layer_of device.old) }
-    ensures no_key { OnErr result (keys.new ≡ keys.old) }
-{
     let tile = painted(alloc, device, work)?;
-    set_under(device, keys, work.key(), tile)
+    set_under(device, keys, key, tile)
 }
 
 /// The tile under the key with what the point operation makes of it.
@@ -77,12 +61,7 @@ fn plain_left(device: &Device, work: &PointWork<'_>) -> Option<Pixel>
 }
 
 /// A tile of one pixel: a neighbour's, shared, where that is such a one, or else a new one.
-fn plain_tile(
-    alloc: Global,
-    device: &Device,
-    key: TileKey,
-    pixel: Pixel,
-) -> Result<Tile, NoMemory>
+fn plain_tile(alloc: Global, device: &Device, key: TileKey, pixel: Pixel) -> Result<Tile, NoMemory>
     requires { IsWorldKey key }
     ensures { IfOk result (λ t. t ≡ replicate 4096 pixel) }
 {

@@ -120,11 +120,7 @@ fn a_stroke_and_two_layers(rt: HostRuntime) -> Result<(), Fail> {
         [3, 3, 1]
     );
     assert!(rt; store.tree().has(2));
-    assert!(rt;
-        store
-            .tile(1, ORIGIN)
-            .is_none()
-    );
+    assert!(rt; store.tile(1, ORIGIN).is_none());
     crosses(&store);
     Ok(())
 }

@@ -18,5 +18,5 @@ returns-then-block_count-eq1-clause-laid c w m laid =
     let block = c.block.result.now in
     changed_layer job shot (λ old new. LaysBlock old new block) c.args.device.now c.changed_in_place.new.device c.key.result (c.changed_in_place.ensures.laid laid)
     (λ before after was lays. subst (λ k. IsLaid job shot k c.args.device.now after) (sym key)
-        (one_block_laid c.args.made.now c.args.device.now before after block one c.block.ensures (ap (tile_under c.args.device.now.tiles) (sym c.key.ensures.value) ∙ was) lays w m))
+    (one_block_laid c.args.made.now c.args.device.now before after block one c.block.ensures (ap (tile_under c.args.device.now.tiles) (sym c.key.ensures.value) ∙ was) lays w m))
     ∙ ap (λ k. published job shot k (layer_of c.args.device.now)) key

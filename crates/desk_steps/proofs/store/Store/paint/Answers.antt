@@ -18,5 +18,5 @@ pub returns-clause-ok : goal.returns-clause-ok
 returns-clause-ok c =
     let w = c.args.work.now in
     both_ok c.paint.result (λ e more. put_is c.self.inside.doc c.paint.new.self c.self.inside.history c.self.inside.room c.in-Some.way c.paint.new.keys w.key (painted_in w.job w.key)
-        (λ a. with_painted a.way w a) c.self.inside.way c.args.self.now refl c.in-Some.is e more c.self.view_is)
+    (λ a. with_painted a.way w a) c.self.inside.way c.args.self.now refl c.in-Some.is e more c.self.view_is)
     c.paint.ensures.ok c.paint.ensures.keys

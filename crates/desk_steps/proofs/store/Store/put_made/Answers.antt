@@ -21,5 +21,5 @@ invariant_of-self c =
 pub returns-clause-ok : goal.returns-clause-ok
 returns-clause-ok c w m =
     both_ok c.put.result (λ e more. put_is c.self.inside.doc c.put.new.self c.self.inside.history c.self.inside.room c.in-Some.way c.put.new.keys w.key (published w.job (layer_of w.shot) w.key)
-        (λ a. with_put a.way w a) c.self.inside.way c.args.self.now refl c.in-Some.is e (more ∙ ap (set.insert c.in-Some.way.keys) (key_made w c.args.made.now m)) c.self.view_is)
+    (λ a. with_put a.way w a) c.self.inside.way c.args.self.now refl c.in-Some.is e (more ∙ ap (set.insert c.in-Some.way.keys) (key_made w c.args.made.now m)) c.self.view_is)
     (c.put.ensures.ok w m) c.put.ensures.keys
