@@ -264,11 +264,12 @@ fn damage_job(job: &Job, stale: &mut Damage)
     requires { checks job.now ≡ true }
     ensures { DamagesRects (writes job.now) stale.old stale.new }
 {
-    if is_point_op(job) {
-        stale.add(&point_rect(job));
-    } else {
-        let writes = job.writes();
-        damage_rects(writes.as_slice(), stale);
+    match job {
+        Job::Fill { rect, .. } => stale.add(rect),
+        _ => {
+            let writes = job.writes();
+            damage_rects(writes.as_slice(), stale);
+        }
     }
 }
 

@@ -1,9 +1,8 @@
-use Rattle.std.proofs.Common.{ap, sym, ◌∙◌, subst, refl, arith}
-use Rattle.std.specs.Prelude.{slice_get, Some}
+use Rattle.std.proofs.Common.{ap, arith}
+use Rattle.std.specs.Prelude.{slice_get}
 use Rattle.geom_core.specs.Grid.{keys_of}
 use Rattle.doc_model.specs.Jobs.{writes}
 use Rattle.job_core.specs.Points.{painted_in}
-use Rattle.solo_run.specs.Painting.{PaintsOn, in_tiles}
 use Rattle.solo_run.proofs.Published.{key_met, paints_none, tile_more, painted_on}
 use Rattle.solo_run.proofs.Points.{points_done}
 use Rattle.solo_run.proofs.strokes.paint_points.Goals as goal
