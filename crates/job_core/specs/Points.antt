@@ -2,7 +2,6 @@
 use Rattle.std.specs.Prelude.{◌≡◌, Bool, true, false, refl}
 use Rattle.std.specs.List.{list_any}
 use Rattle.std.specs.Coded.{Coded, code_by, coded×}
-use Rattle.pixel_core.specs.Rgba.{Rgba}
 use Rattle.geom_core.specs.Points.{Point}
 use Rattle.geom_core.specs.Grid.{Key, key_code, same_key, all_keys_of}
 use Rattle.tile_core.specs.Pixels.{Pixels, pixel_at}

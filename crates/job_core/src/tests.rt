@@ -295,11 +295,20 @@ fn in_place(rt: HostRuntime) -> Result<(), Fail> {
 }
 
 #[test]
-fn plain_tiles(rt: HostRuntime) {
+fn plain_tiles(rt: HostRuntime) -> Result<(), Fail> {
+    let alloc = rt.alloc();
+    let mut pixels = vec![in alloc; pixel(GROUND); 4096]?;
+    pixels[77] = pixel(RED);
+    let spotted = Tile::from_pixels(alloc, pixels)?;
     let blue = [0, 0, 255, 255];
     let whole = filling(rect(0, 0, 64, 65), blue, 255);
-    assert!(rt; work(&rt, &whole).plain(Some(pixel(GROUND))) == Some(pixel(blue)));
-    assert!(rt; work(&rt, &whole).plain(None).is_none());
+    assert!(rt; work(&rt, &whole).plain_on_ground(pixel(GROUND)) == Some(pixel(blue)));
+    assert!(rt; work(&rt, &whole).plain_on(&spotted) == Some(pixel(blue)));
+    let faint = filling(rect(0, 0, 64, 65), blue, 0);
+    let plain = Tile::plain(alloc, pixel(GROUND))?;
+    assert!(rt; work(&rt, &faint).plain_on(&plain) == Some(pixel(GROUND)));
+    assert!(rt; work(&rt, &faint).plain_on(&spotted).is_none());
     let part = filling(rect(0, 0, 63, 64), blue, 255);
-    assert!(rt; work(&rt, &part).plain(Some(pixel(GROUND))).is_none());
+    assert!(rt; work(&rt, &part).plain_on_ground(pixel(GROUND)).is_none());
+    Ok(())
 }

@@ -1,9 +1,6 @@
-use Rattle.std.proofs.Common.{◌≡◌, refl, sym, ap, subst, ◌∙◌}
-use Rattle.pixel_core.specs.Rgba.{Rgba}
+use Rattle.std.proofs.Common.{refl, sym, ap, subst, ◌∙◌}
 use Rattle.std.specs.Prelude.{replicate}
-use Rattle.tile_core.specs.Pixels.{Pixels}
 use Rattle.doc_model.specs.declared.job.Job.{Job}
-use Rattle.job_core.specs.Laid.{LeavesAll}
 use Rattle.job_core.specs.Points.{Spot, spot, IsPointWork, LaysPoints}
 use Rattle.job_core.proofs.InPlace.{fill_known, fill_meets, fill_plain}
 use Rattle.job_core.proofs.points.PointWork.covering_ink.Goals as goal

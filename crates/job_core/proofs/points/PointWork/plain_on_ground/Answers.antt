@@ -1,7 +1,6 @@
 use Rattle.std.proofs.Common.{◌∙◌, ap, sym, replicate}
 use Rattle.std.proofs.lemmas.List.{get_or-replicate}
-use Rattle.pixel_core.specs.Rgba.{Rgba, clear}
-use Rattle.pixel_core.specs.Compose.{compose}
+use Rattle.pixel_core.specs.Rgba.{clear}
 use Rattle.job_core.specs.Laid.{inked}
 use Rattle.job_core.proofs.points.PointWork.plain_on_ground.Goals as goal
 
