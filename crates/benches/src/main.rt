@@ -50,6 +50,8 @@ fn main(rt: HostRuntime) -> io::Result<()> {
         Some(Subject::Strokes) => strokes::measure(&rt, rt.alloc()),
         Some(Subject::Tiles) => tiles::measure(&rt, rt.alloc()),
         Some(Subject::Trees) => trees::measure(&rt, rt.alloc()),
-        None => println!(rt; "benches: pass a word to measure: frames, rows, strokes, tiles, trees"),
+        None => println!(rt;
+            "benches: pass a word to measure: frames, rows, strokes, tiles, trees"
+        ),
     }
 }
