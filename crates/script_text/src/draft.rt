@@ -159,15 +159,15 @@ fn exports_after(exports: u32, command: &Command) -> u32
 }
 
 impl Draft {
-    /// No commands.
-    pub(crate) fn new(alloc: Global) -> Self
-        ensures { result ≡ [] }
+    /// No commands, and room for so many.
+    pub(crate) fn new(alloc: Global, room: usize) -> Result<Self, NoMemory>
+        ensures { IfOk result (λ d. d ≡ []) }
     {
-        Draft {
-            commands: Vec::new(alloc),
+        Ok(Draft {
+            commands: Vec::with_capacity(alloc, room)?,
             strokes: BTreeMap::new(alloc),
             exports: 0,
-        }
+        })
     }
 
     /// What is kept of the stroke with that number.
@@ -188,6 +188,7 @@ impl Draft {
     }
 
     /// Adds the command of a line. Nothing is added where it may not follow, or no memory is left.
+    #[inline(always)]
     pub(crate) fn add(&mut self, line: u32, command: Command) -> Result<(), ReadRefusal>
         requires ranges { in_range command ≡ true }
         requires sound { is_sound command ≡ true }

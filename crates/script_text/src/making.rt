@@ -128,7 +128,9 @@ fn gather(alloc: Global, canvas: Canvas, commands: &[Command]) -> Result<Reading
     ensures ok { IfOk result (λ r. IsGathered r canvas commands.now) }
     ensures refused { result ≡ Err NotScript → (list_all in_range commands.now && lawful commands.now) ≡ false }
 {
-    let mut reading = Reading::with_canvas(alloc, canvas);
+    let Ok(mut reading) = Reading::with_canvas(alloc, canvas, commands.len()) else {
+        return Err(MakeRefusal::NoMemory);
+    };
     for i in 0..commands.len() {
         let command = commands[i];
         if !fits(&command) {

@@ -13,9 +13,14 @@ ghost use Rattle.script_text.specs.Read.{IsRefused, IsGathered, Fits, StartsAre,
 use crate::draft::{Draft, add_last};
 use crate::script::{ReadRefusal, Script, at};
 use doc_model::{Canvas, Command};
+use geom_core::NoMemory;
 use script_forms::{Word, canvas, command_of, is, word_of};
 use script_lines::{Cause, is_command, next_fields};
 use std::alloc::Global;
+
+/// How many bytes a line has as a rule, or fewer. Room for as many commands is taken at once; it
+/// costs next to nothing until it is written to.
+const USUAL_LINE: usize = 32;
 
 /// Where a stroke starts.
 #[derive(Clone, Copy, Debug, PartialEq, Eq)]
@@ -43,27 +48,28 @@ fn start_of(line: u32, command: &Command) -> Option<Start>
 }
 
 impl Reading {
-    fn new(alloc: Global) -> Self
-        ensures canvas { result.canvas ≡ None }
-        ensures draft { result.draft ≡ [] }
-        ensures starts { result.starts.items ≡ [] }
+    /// Nothing, and room for so many commands.
+    fn new(alloc: Global, room: usize) -> Result<Self, NoMemory>
+        ensures canvas { IfOk result (λ r. r.canvas ≡ None) }
+        ensures draft { IfOk result (λ r. r.draft ≡ []) }
+        ensures starts { IfOk result (λ r. r.starts.items ≡ []) }
     {
-        Reading {
+        Ok(Reading {
             canvas: None,
-            draft: Draft::new(alloc),
+            draft: Draft::new(alloc, room)?,
             starts: Vec::new(alloc),
-        }
+        })
     }
 
-    /// A canvas, and no commands.
-    pub(crate) fn with_canvas(alloc: Global, canvas: Canvas) -> Self
-        ensures { IsGathered result canvas [] }
+    /// A canvas, and room for so many commands.
+    pub(crate) fn with_canvas(alloc: Global, canvas: Canvas, room: usize) -> Result<Self, NoMemory>
+        ensures { IfOk result (λ r. IsGathered r canvas []) }
     {
-        Reading {
+        Ok(Reading {
             canvas: Some(canvas),
-            draft: Draft::new(alloc),
+            draft: Draft::new(alloc, room)?,
             starts: Vec::new(alloc),
-        }
+        })
     }
 
     /// A canvas line, behind its word.
@@ -87,6 +93,7 @@ impl Reading {
     }
 
     /// What a line says, where it says a command.
+    #[inline(always)]
     pub(crate) fn add(&mut self, number: u32, command: Command) -> Result<(), ReadRefusal>
         requires ranges { in_range command ≡ true }
         requires sound { is_sound command ≡ true }
@@ -181,7 +188,7 @@ pub fn read(alloc: Global, bytes: &[u8]) -> Result<Script, ReadRefusal>
     ensures { Answers result (fault bytes.now) (script bytes.now) }
 {
     let mut fields = Vec::new(alloc);
-    let mut reading = Reading::new(alloc);
+    let mut reading = Reading::new(alloc, bytes.len() / USUAL_LINE)?;
     let mut number = 0;
     let mut left = Some(bytes);
     while let Some(rest) = left {

@@ -11,6 +11,9 @@ use std::alloc::Global;
 /// The most bytes that a script may have.
 pub const LIMIT: usize = 1_048_576;
 
+/// How many bytes are asked for at once.
+const CHUNK: usize = 16_384;
+
 /// Why a source wasn't read to its end.
 #[derive(Clone, Copy, Debug, PartialEq, Eq)]
 pub enum ReadError {
@@ -32,8 +35,11 @@ pub fn read_all<S: Source>(alloc: Global, source: &mut S) -> Result<Vec<u8>, Rea
     ensures failed { IsErrOf result ReadError.Failed → Rose (S.faults source.old) (S.faults source.new) }
     ensures later { S.faults source.old ≤ S.faults source.new }
 {
-    let mut bytes = Vec::new(alloc);
-    let mut chunk = [0u8; 4096];
+    // Room that isn't written to yet costs next to nothing, and so the bytes never move.
+    let Ok(mut bytes) = Vec::with_capacity(alloc, LIMIT) else {
+        return Err(ReadError::NoMemory);
+    };
+    let mut chunk = [0u8; CHUNK];
     loop {
         let n = match source.read(&mut chunk) {
             Ok(n) => n,

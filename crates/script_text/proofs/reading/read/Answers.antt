@@ -9,7 +9,7 @@ pub loop-left-init : goal.loop-left-init
 unfolding fault
 loop-left-init c = record {
   going = record {
-    reading = record { canvas = c.new-reading.ensures.canvas; draft = c.new-reading.ensures.draft; starts = c.new-reading.ensures.starts; fits = search rules };
+    reading = record { canvas = c.in_ok-reading.ensures.canvas; draft = c.in_ok-reading.ensures.draft; starts = c.in_ok-reading.ensures.starts; fits = search rules };
     rest = refl;
   };
   left = refl;
