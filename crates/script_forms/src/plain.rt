@@ -14,20 +14,24 @@ ghost use Rattle.script_forms.specs.declared.words.Work.TheVariants.{Fill, Dab};
 use crate::jobs::{Ink, Outline, Tip, dab_of, fill_of};
 use doc_model::{Command, Kind};
 use pixel_core::Op;
-use script_lines::{natural_before, number_in_before, rgba_before};
+use script_lines::{behind_word, natural_before, number_in_before, rgba_before};
 
 /// The kind before a space, and what stands behind the space.
 #[inline(always)]
 fn kind_before(text: &[u8]) -> Option<(Kind, &[u8])>
     ensures { IfSome result (λ r. Begins kind_of 32 text.now r.0 r.1.now) }
 {
-    match text {
-        [b'c', b'o', b'n', b' ', behind @ ..] => Some((Kind::Con, behind)),
-        [b's', b'e', b'q', b' ', behind @ ..] => Some((Kind::Seq, behind)),
-        [b'b', b'a', b'r', b' ', behind @ ..] => Some((Kind::Bar, behind)),
-        [b'u', b'n', b'i', b' ', behind @ ..] => Some((Kind::Uni, behind)),
-        _ => None,
+    if let Some(behind) = behind_word(b' ', b"con", text) {
+        return Some((Kind::Con, behind));
     }
+    if let Some(behind) = behind_word(b' ', b"seq", text) {
+        return Some((Kind::Seq, behind));
+    }
+    if let Some(behind) = behind_word(b' ', b"bar", text) {
+        return Some((Kind::Bar, behind));
+    }
+    let behind = behind_word(b' ', b"uni", text)?;
+    Some((Kind::Uni, behind))
 }
 
 /// The blend operation before a space, and what stands behind the space.
@@ -35,18 +39,20 @@ fn kind_before(text: &[u8]) -> Option<(Kind, &[u8])>
 fn op_before(text: &[u8]) -> Option<(Op, &[u8])>
     ensures { IfSome result (λ r. Begins op_of 32 text.now r.0 r.1.now) }
 {
-    match text {
-        [b'o', b'v', b'e', b'r', b' ', behind @ ..] => Some((Op::Over, behind)),
-        [b'e', b'r', b'a', b's', b'e', b' ', behind @ ..] => Some((Op::Erase, behind)),
-        [b'm', b'u', b'l', b't', b'i', b'p', b'l', b'y', b' ', behind @ ..] => {
-            Some((Op::Multiply, behind))
-        }
-        [b's', b'c', b'r', b'e', b'e', b'n', b' ', behind @ ..] => Some((Op::Screen, behind)),
-        [b'a', b'd', b'd', b'i', b't', b'i', b'o', b'n', b' ', behind @ ..] => {
-            Some((Op::Addition, behind))
-        }
-        _ => None,
+    if let Some(behind) = behind_word(b' ', b"over", text) {
+        return Some((Op::Over, behind));
     }
+    if let Some(behind) = behind_word(b' ', b"erase", text) {
+        return Some((Op::Erase, behind));
+    }
+    if let Some(behind) = behind_word(b' ', b"multiply", text) {
+        return Some((Op::Multiply, behind));
+    }
+    if let Some(behind) = behind_word(b' ', b"screen", text) {
+        return Some((Op::Screen, behind));
+    }
+    let behind = behind_word(b' ', b"addition", text)?;
+    Some((Op::Addition, behind))
 }
 
 /// Whether the edge before a space is soft, and what stands behind the space.
@@ -54,11 +60,11 @@ fn op_before(text: &[u8]) -> Option<(Op, &[u8])>
 fn edge_before(text: &[u8]) -> Option<(bool, &[u8])>
     ensures { IfSome result (λ r. Begins edge_of 32 text.now r.0 r.1.now) }
 {
-    match text {
-        [b'h', b'a', b'r', b'd', b' ', behind @ ..] => Some((false, behind)),
-        [b's', b'o', b'f', b't', b' ', behind @ ..] => Some((true, behind)),
-        _ => None,
+    if let Some(behind) = behind_word(b' ', b"hard", text) {
+        return Some((false, behind));
     }
+    let behind = behind_word(b' ', b"soft", text)?;
+    Some((true, behind))
 }
 
 /// A rectangle, and what stands behind the space that ends it.
@@ -95,7 +101,9 @@ fn last_ink(text: &[u8]) -> Option<(Ink, &[u8])>
     ensures colour { IfSome result (λ r. is_pixel r.0.colour ≡ true) }
     ensures strength { IfSome result (λ r. is_byte r.0.strength ≡ true) }
 {
-    let (colour, text) = rgba_before(b' ', text)?;
+    let Some((colour, text)) = rgba_before(b' ', text) else {
+        return None;
+    };
     let (op, text) = op_before(text)?;
     let (strength, behind) = natural_before(b'\n', 0, 255, text)?;
     let ink = Ink {
@@ -115,7 +123,9 @@ fn plain_fill(text: &[u8]) -> Option<(Command, &[u8])>
     let (no, text) = natural_before(b' ', 0, 4294967295, text)?;
     let (kind, text) = kind_before(text)?;
     let (outline, text) = outline_before(text)?;
-    let (ink, behind) = last_ink(text)?;
+    let Some((ink, behind)) = last_ink(text) else {
+        return None;
+    };
     let job = fill_of(outline, ink).ok()?;
     Some((Command::Add { no, kind, job }, behind))
 }
@@ -129,7 +139,9 @@ fn plain_dab(text: &[u8]) -> Option<(Command, &[u8])>
     let (no, text) = natural_before(b' ', 0, 4294967295, text)?;
     let (kind, text) = kind_before(text)?;
     let (tip, text) = tip_before(text)?;
-    let (ink, behind) = last_ink(text)?;
+    let Some((ink, behind)) = last_ink(text) else {
+        return None;
+    };
     let job = dab_of(tip, ink).ok()?;
     Some((Command::Add { no, kind, job }, behind))
 }
@@ -141,9 +153,8 @@ pub fn plain_job(text: &[u8]) -> Option<(Command, &[u8])>
     ensures ranges { IfSome result (λ r. in_range r.0 ≡ true) }
     ensures sound { IfSome result (λ r. is_sound r.0 ≡ true) }
 {
-    match text {
-        [b'f', b'i', b'l', b'l', b' ', others @ ..] => plain_fill(others),
-        [b'd', b'a', b'b', b' ', others @ ..] => plain_dab(others),
-        _ => None,
+    if let Some(others) = behind_word(b' ', b"fill", text) {
+        return plain_fill(others);
     }
+    plain_dab(behind_word(b' ', b"dab", text)?)
 }

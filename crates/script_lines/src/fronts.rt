@@ -1,7 +1,7 @@
 //! The field at the front of a text, read in one pass with the byte that ends it. Only the usual
 //! spelling is read; for any other the answer is None, which says nothing of the text.
 
-ghost use Rattle.std.specs.Prelude.{◌≡◌, ◌<◌, ◌≤◌, ◌≤ℤ◌, ◌+◌, ◌∷◌, pos, true, IfSome};
+ghost use Rattle.std.specs.Prelude.{◌≡◌, ◌<◌, ◌≤◌, ◌≤ℤ◌, ◌+◌, ◌∷◌, ◌++◌, pos, true, IfSome};
 ghost use Rattle.script_lines.specs.Numbers.{number as number_of, number_in as in_range, natural as natural_of};
 ghost use Rattle.script_lines.specs.Colours.{rgba as rgba_of, is_pixel};
 ghost use Rattle.script_lines.specs.Fronts.{Begins};
@@ -42,6 +42,23 @@ fn behind_mark(mark: u8, text: &[u8]) -> Option<&[u8]>
             }
         }
     }
+}
+
+/// What stands behind the word and the mark, where the text begins with these.
+#[inline(always)]
+pub fn behind_word<'a>(mark: u8, word: &[u8], text: &'a [u8]) -> Option<&'a [u8]>
+    ensures { IfSome result (λ behind. text.now ≡ word.now ++ mark ∷ behind.now) }
+{
+    if text.len() < word.len() {
+        return None;
+    }
+    for i in 0..word.len() {
+        if text[i] != word[i] {
+            return None;
+        }
+    }
+    let (_, rest) = text.split_at(word.len());
+    behind_mark(mark, rest)
 }
 
 /// The number of one to five digits before the mark, and what stands behind the mark. Each digit

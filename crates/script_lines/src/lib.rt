@@ -9,6 +9,6 @@ mod numbers;
 
 pub use cause::Cause;
 pub use colours::{rgb, rgba};
-pub use fronts::{natural_before, number_in_before, rgba_before};
+pub use fronts::{behind_word, natural_before, number_in_before, rgba_before};
 pub use lines::{is_command, next_fields};
 pub use numbers::{natural, number_in};
