@@ -1,8 +1,6 @@
 -- What stands at the front of a text, field by field.
-use Rattle.std.proofs.Common.{◌≡◌, ◌∙◌, ℕ, suc, ◌+◌, ◌-◌, ◌≤◌, true, List, [], ◌∷◌, ◌++◌, length, get_or, take, drop, Result, Ok, refl, ap, sym, arith}
-use Rattle.std.specs.Prelude.{ℤ, pos, negsuc, ◌==◌}
-use Rattle.pixel_core.specs.Rgba.{Rgba}
-use Rattle.pixel_core.specs.declared.blending.Op.{Op}
+use Rattle.std.proofs.Common.{◌≡◌, ◌∙◌, ℕ, true, List, [], ◌∷◌, ◌++◌, length, Result, Ok, refl, ap}
+use Rattle.std.specs.Prelude.{ℤ, ◌==◌}
 use Rattle.doc_model.specs.declared.job.Kind.{Kind}
 use Rattle.doc_model.specs.declared.job.Job.{Job}
 use Rattle.doc_model.specs.declared.job.Job.TheVariants as job

@@ -101,11 +101,11 @@ digits_first mark n text behind d ds h few e v =
 
 -- a number in its range
 
-in_natural : (low high n : ℕ) (field : List ℕ) → number field ≡ Ok (pos n) → nat_le low n ≡ true → nat_le n high ≡ true → natural low high field ≡ Ok n
+pub in_natural : (low high n : ℕ) (field : List ℕ) → number field ≡ Ok (pos n) → nat_le low n ≡ true → nat_le n high ≡ true → natural low high field ≡ Ok n
 unfolding natural
 in_natural low high n field e a b = rw (e, a, b) refl
 
-in_number : (low high z : ℤ) (field : List ℕ) → number field ≡ Ok z → int_le low z ≡ true → int_le z high ≡ true → number_in low high field ≡ Ok z
+pub in_number : (low high z : ℤ) (field : List ℕ) → number field ≡ Ok z → int_le low z ≡ true → int_le z high ≡ true → number_in low high field ≡ Ok z
 unfolding number_in
 in_number low high z field e a b = rw (e, a, b) refl
 
