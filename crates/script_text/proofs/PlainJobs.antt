@@ -1,5 +1,5 @@
 -- What a job's plain line says.
-use Rattle.std.proofs.Common.{◌≡◌, ◌∙◌, ℕ, ◌≤◌, true, false, Option, Some, None, Ok, List, [], ◌∷◌, ◌++◌, length, drop, refl, sym, ap, arith}
+use Rattle.std.proofs.Common.{◌≡◌, ◌∙◌, ℕ, ◌≤◌, true, false, Option, Some, None, Ok, List, ◌∷◌, ◌++◌, length, drop, refl, sym, ap, arith}
 use Rattle.std.specs.Prelude.{IsSome, ◌==◌}
 use Rattle.std.specs.Option.{option_to_list}
 use Rattle.std.specs.List.{slice_split}
@@ -18,8 +18,8 @@ use Rattle.script_forms.specs.Forms.{command_of}
 use Rattle.script_forms.specs.Plain.{IsJobLine}
 use Rattle.script_text.specs.declared.reading.Reading.{Reading}
 use Rattle.script_text.specs.Following.{misfit}
-use Rattle.script_text.specs.Reading.{canvas_in, command_in, first_canvas, start_by, cause_by, word_cause, command_cause, command_by}
-use Rattle.script_text.specs.Read.{Takes, TakesCommand, Fits}
+use Rattle.script_text.specs.Reading.{canvas_in, command_in, first_canvas, start_by, cause_by}
+use Rattle.script_text.specs.Read.{Takes, TakesCommand}
 use Rattle.script_text.proofs.PrintedWords.{words}
 use Rattle.script_text.proofs.Scanning.{few_lines, count_all}
 
@@ -46,7 +46,7 @@ says_job work others c told =
   where
     go : bytes_eq (work_text work) canvas_text ≡ false → word_of (work_text work) ≡ Some (Paint work) → (o : Option Canvas) (commands : List Command) → IsSome o → cause_by o commands (work_text work ∷ others) ≡ misfit (entries commands) c
     go a b (Some k) commands h = rw (a, b, told) refl
-    go a b None commands h = absurd h
+    go a b None commands h = absurd (cc (h))
 
 pub job_said : (text behind : List ℕ) (c : Command) (is : IsJobLine text c behind) → SaysJob (job_fields text behind c is) c
 job_said text behind c is = says_job is.work is.others c is.told

@@ -1,5 +1,5 @@
 -- Numbers and colours read back as they were printed.
-use Rattle.std.proofs.Common.{◌≡◌, ℕ, ◌/◌, ◌%◌, ◌<◌, ◌≤◌, ◌^◌, suc, zero, Bool, true, false, ◌&&◌, nat_le, nat_lt, List, [], ◌∷◌, length, Ok, refl, sym, ap, ◌∙◌, arith, rules}
+use Rattle.std.proofs.Common.{◌≡◌, ℕ, ◌/◌, ◌%◌, ◌<◌, ◌≤◌, ◌^◌, suc, zero, true, false, ◌&&◌, nat_le, nat_lt, List, ◌∷◌, length, Ok, refl, sym, ap, ◌∙◌, arith, rules}
 use Rattle.std.specs.Prelude.{ℤ, pos, negsuc, neg_ℤ, int_le, ◌==◌, if◌then◌else◌}
 use Rattle.std.specs.List.{list_all}
 use Rattle.std.specs.Char.{is_ascii_digit, digit_char}
@@ -9,9 +9,8 @@ use Rattle.std.proofs.lemmas.Bool.Decides.{nat_tests}
 use Rattle.std.proofs.lemmas.Str.{digit_value-digit_char}
 use Rattle.std.proofs.lemmas.Str.Parse.{IsNumeralModel, numerals_by_value}
 use Rattle.std.proofs.lemmas.Fmt.{decimal_is_IsNumeral, digits_decimal, length-decimal-le, decimal_nonempty}
-use Rattle.std.proofs.lemmas.Grind.{common_steps}
 use Rattle.pixel_core.specs.Rgba.{Rgba, if_canonical, rgba as pixel}
-use Rattle.script_lines.specs.Numbers.{is_magnitude, magnitude, number, number_in, natural}
+use Rattle.script_lines.specs.Numbers.{is_magnitude, number, number_in, natural}
 use Rattle.script_lines.specs.Colours.{is_byte, is_pixel, hex_byte, hex_digit, rgb, rgba}
 use Rattle.script_lines.proofs.FieldLemmas.{first, second, magnitude_by, plain_number, in_natural, in_number}
 use Rattle.script_text.specs.Text.{rgb_text, rgba_text}
