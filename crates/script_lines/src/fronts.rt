@@ -34,13 +34,7 @@ fn behind_mark(mark: u8, text: &[u8]) -> Option<&[u8]>
 {
     match text {
         [] => None,
-        [b, behind @ ..] => {
-            if *b == mark {
-                Some(behind)
-            } else {
-                None
-            }
-        }
+        [b, behind @ ..] => { if *b == mark { Some(behind) } else { None } }
     }
 }
 

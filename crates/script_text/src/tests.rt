@@ -133,10 +133,7 @@ fn spellings_of_jobs(rt: HostRuntime) {
             b"dab 1 seq 3 4 5  hard ff000080 over 7",
             b"dab 1 seq 3 4 5 hard ff000080 over 7",
         ),
-        (
-            b"blur 1 seq 3 4 5 6 7",
-            b"blur 1 seq 3 4 5 6 7",
-        ),
+        (b"blur 1 seq 3 4 5 6 7", b"blur 1 seq 3 4 5 6 7"),
     ];
     for (line, canonical) in rows {
         let (Some(printed), Ok(text)) = (
