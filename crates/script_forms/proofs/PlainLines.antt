@@ -4,22 +4,21 @@ use Rattle.std.specs.Prelude.{ℤ, ◌==◌}
 use Rattle.doc_model.specs.declared.job.Kind.{Kind}
 use Rattle.doc_model.specs.declared.job.Job.{Job}
 use Rattle.doc_model.specs.declared.job.Job.TheVariants as job
-use Rattle.doc_model.specs.declared.command.Command.{Command}
 use Rattle.doc_model.specs.declared.command.Command.TheVariants.{Add}
 use Rattle.script_lines.specs.declared.cause.Cause.{Cause}
 use Rattle.script_lines.specs.Numbers.{natural}
 use Rattle.script_lines.specs.Colours.{rgba}
-use Rattle.script_lines.specs.Lines.{is_field, lines, with_field}
+use Rattle.script_lines.specs.Lines.{is_field, with_field}
 use Rattle.script_lines.specs.Fronts.{Begins}
-use Rattle.script_lines.proofs.FieldLemmas.{space_behind, space_lines, feed_lines}
+use Rattle.script_lines.proofs.FieldLemmas.{space_lines, feed_lines}
 use Rattle.script_forms.specs.declared.words.Work.{Work}
-use Rattle.script_forms.specs.declared.words.Work.TheVariants.{Fill, Dab, Move, Blur}
+use Rattle.script_forms.specs.declared.words.Work.TheVariants.{Fill, Dab}
 use Rattle.script_forms.specs.declared.jobs.Outline.{Outline}
 use Rattle.script_forms.specs.declared.jobs.Ink.{Ink}
 use Rattle.script_forms.specs.declared.jobs.Tip.{Tip}
-use Rattle.script_forms.specs.Words.{kind_of, op_of, edge_of, work_text}
+use Rattle.script_forms.specs.Words.{kind_of, op_of, edge_of}
 use Rattle.script_forms.specs.Jobs.{Fields, coordinate, outline, area_of, ink, tip, checked, fill, dab, job_fields, job_of, paint}
-use Rattle.script_forms.specs.Plain.{BeginsOutline, BeginsTip, IsInkLine, IsPaintLine, IsJobLine}
+use Rattle.script_forms.specs.Plain.{BeginsOutline, BeginsTip, IsInkLine, IsPaintLine}
 
 -- words
 
@@ -101,18 +100,3 @@ dab_line text t1 t2 t3 behind n k t i j a b c d is =
       told = paint_told Dab a.field b.field others n k j refl a.told b.told (dab_told _ _ _ _ _ _ _ t i j c.told d.told is);
       line = space_lines _ text n t1 a ∙ ap (with_field a.field) (space_lines _ t1 k t2 b ∙ ap (with_field b.field) (c.line ∙ ap (λ l. with_field c.left (with_field c.top (with_field c.radius (with_field c.edge l)))) d.line));
     }
-
-work_field : (work : Work) → is_field (work_text work) ≡ true
-work_field Fill = refl
-work_field Dab = refl
-work_field Move = refl
-work_field Blur = refl
-
--- a job's word and a space before the rest of its line
-pub job_line : (work : Work) (text others behind : List ℕ) (c : Command) → text ≡ work_text work ++ 32 ∷ others → IsPaintLine work others c behind → IsJobLine text c behind
-job_line work text others behind c front is = record {
-  work = work;
-  others = is.others;
-  told = is.told;
-  line = ap lines front ∙ (space_behind (work_text work) others (work_field work) ∙ ap (with_field (work_text work)) is.line);
-}

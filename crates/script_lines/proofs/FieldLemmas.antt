@@ -213,7 +213,7 @@ field_first : (f line : List ℕ) → is_field f ≡ true → fields (f ++ 32 �
 field_first f line h = ap (filter is_some_field) (cut is_blank f 32 line (no_blanks f (second _ _ h)) refl) ∙ kept f (slice_split is_blank line) (first _ _ h)
 
 -- the lines of a text that begins with a field and a space
-pub space_behind : (f text : List ℕ) → is_field f ≡ true → lines (f ++ 32 ∷ text) ≡ with_field f (lines text)
+space_behind : (f text : List ℕ) → is_field f ≡ true → lines (f ++ 32 ∷ text) ≡ with_field f (lines text)
 space_behind f text h = ap (map fields) (uncut (λ b. b == 10) f (32 ∷ text) (no_feeds f (second _ _ h)) ∙ ap (onto_front f) (slice_split-cons_no (λ b. b == 10) 32 text refl)) ∙ go (slice_split (λ b. b == 10) text)
   where
     go : (parts : List (List ℕ)) → map fields (onto_front f (onto_first 32 parts)) ≡ with_field f (map fields parts)
