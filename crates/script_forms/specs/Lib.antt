@@ -2,3 +2,4 @@ pub mod Words
 pub mod Jobs
 pub mod Ranges
 pub mod Forms
+pub mod Plain

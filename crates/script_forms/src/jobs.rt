@@ -19,27 +19,27 @@ use script_lines::{Cause, natural, number_in, rgba};
 /// A rectangle that may leave the world.
 #[derive(Clone, Copy)]
 pub struct Outline {
-    x: i32,
-    y: i32,
-    w: u32,
-    h: u32,
+    pub(crate) x: i32,
+    pub(crate) y: i32,
+    pub(crate) w: u32,
+    pub(crate) h: u32,
 }
 
 /// A colour, and how it is laid on.
 #[derive(Clone, Copy)]
 pub struct Ink {
-    colour: Pixel,
-    op: Op,
-    strength: u8,
+    pub(crate) colour: Pixel,
+    pub(crate) op: Op,
+    pub(crate) strength: u8,
 }
 
 /// A dab's centre, radius and edge.
 #[derive(Clone, Copy)]
 pub struct Tip {
-    x: i32,
-    y: i32,
-    r: u8,
-    soft: bool,
+    pub(crate) x: i32,
+    pub(crate) y: i32,
+    pub(crate) r: u8,
+    pub(crate) soft: bool,
 }
 
 #[tactic(auto, unfolding(crate::specs::Jobs::outline))]
@@ -146,7 +146,7 @@ fn grown_rect(inner: &Rect, r: u8) -> Result<Rect, Cause>
 }
 
 /// A fill, where the world holds its rectangle.
-fn fill_of(o: Outline, i: Ink) -> Result<Job, Cause>
+pub(crate) fn fill_of(o: Outline, i: Ink) -> Result<Job, Cause>
     requires o { IsOutline o }
     requires colour { is_pixel i.colour ≡ true }
     requires strength { is_byte i.strength ≡ true }
@@ -171,7 +171,7 @@ fn fill_of(o: Outline, i: Ink) -> Result<Job, Cause>
 }
 
 /// A dab, where the world holds its square.
-fn dab_of(t: Tip, i: Ink) -> Result<Job, Cause>
+pub(crate) fn dab_of(t: Tip, i: Ink) -> Result<Job, Cause>
     requires t { IsTip t }
     requires colour { is_pixel i.colour ≡ true }
     requires strength { is_byte i.strength ≡ true }

@@ -3,7 +3,9 @@
 
 mod forms;
 mod jobs;
+mod plain;
 mod words;
 
 pub use forms::{canvas, command_of};
+pub use plain::plain_job;
 pub use words::{Word, Work, is, word_of};

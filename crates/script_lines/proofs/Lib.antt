@@ -1,3 +1,4 @@
 pub mod DigitLemmas
 pub mod Pieces
 pub mod SpelledPixels
+pub mod FieldLemmas

@@ -28,11 +28,11 @@ worth digit low high =
     right_at 55 (digit - 48) (omega (arith, low, high)) refl ∙ ap digit_or_more same
 
 -- n items from place i on
-abbrev items : List ℕ → ℕ → ℕ → List ℕ
+abbrev pub items : List ℕ → ℕ → ℕ → List ℕ
 items xs i zero = []
 items xs i (suc n) = get_or xs i 0 ∷ items xs (suc i) n
 
-drop_is : (xs : List ℕ) (i n : ℕ) → i + n ≡ length xs → drop i xs ≡ items xs i n
+pub drop_is : (xs : List ℕ) (i n : ℕ) → i + n ≡ length xs → drop i xs ≡ items xs i n
 drop_is xs i zero h = drop_of_length-le xs {i = i} (omega (arith, h))
 drop_is xs i (suc n) h = drop-cons xs i 0 (omega (arith, h)) ∙ ap (λ l. get_or xs i 0 ∷ l) (drop_is xs (suc i) n (omega (arith, h)))
 

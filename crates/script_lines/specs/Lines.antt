@@ -1,6 +1,6 @@
 -- The lines of a script and their fields.
-use Rattle.std.specs.Prelude.{ℕ, Bool, false, not, ◌==◌, ◌||◌, List, [], ◌∷◌, length, map, filter, Option, None, Some}
-use Rattle.std.specs.List.{slice_split}
+use Rattle.std.specs.Prelude.{ℕ, Bool, false, not, ◌==◌, ◌||◌, ◌&&◌, List, [], ◌∷◌, length, map, filter, Option, None, Some}
+use Rattle.std.specs.List.{slice_split, list_all}
 use Rattle.std.specs.Borrow.{Bor}
 
 -- what a list of references points to
@@ -14,6 +14,14 @@ is_blank b = (b == 32) || (b == 9) || (b == 13)
 -- whether a piece between blanks is a field
 abbrev pub is_some_field : List ℕ → Bool
 is_some_field bytes = not (length bytes == 0)
+
+-- neither a blank nor a line feed
+abbrev pub is_plain : ℕ → Bool
+is_plain b = not (is_blank b) && not (b == 10)
+
+-- whether the bytes can stand as a field
+abbrev pub is_field : List ℕ → Bool
+is_field bytes = is_some_field bytes && list_all is_plain bytes
 
 -- the longest rows of bytes without blanks
 abbrev pub fields : List ℕ → List (List ℕ)
@@ -37,3 +45,8 @@ lines bytes = map fields (slice_split (λ b. b == 10) bytes)
 abbrev pub lines_behind : Option (Bor (List ℕ)) → List (List (List ℕ))
 lines_behind None = []
 lines_behind (Some behind) = lines behind.now
+
+-- a field before those of the first line
+abbrev pub with_field : List ℕ → List (List (List ℕ)) → List (List (List ℕ))
+with_field field [] = (field ∷ []) ∷ []
+with_field field (line ∷ others) = (field ∷ line) ∷ others

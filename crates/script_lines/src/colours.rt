@@ -70,6 +70,7 @@ pub fn rgb(field: &[u8]) -> Result<Pixel, Cause>
 
 /// Eight hexadecimal digits: a pixel, clear where the alpha is 0.
 #[tactic(auto, unfolding(crate::specs::Colours::rgba))]
+#[inline(always)]
 pub fn rgba(field: &[u8]) -> Result<Pixel, Cause>
     ensures value { result ≡ rgba_of field.now }
     ensures pixel { IfOk result (λ p. is_pixel p ≡ true) }

@@ -1,5 +1,5 @@
 -- Numbers and colours read back as they were printed.
-use Rattle.std.proofs.Common.{◌≡◌, ℕ, ◌/◌, ◌%◌, ◌<◌, ◌≤◌, ◌^◌, suc, zero, Bool, true, false, ◌&&◌, nat_le, nat_lt, List, [], ◌∷◌, length, Ok, refl, sym, ap, ◌∙◌, arith, rules}
+use Rattle.std.proofs.Common.{◌≡◌, ℕ, ◌/◌, ◌%◌, ◌<◌, ◌≤◌, ◌^◌, suc, zero, true, false, ◌&&◌, nat_le, nat_lt, List, ◌∷◌, length, Ok, refl, sym, ap, ◌∙◌, arith, rules}
 use Rattle.std.specs.Prelude.{ℤ, pos, negsuc, neg_ℤ, int_le, ◌==◌, if◌then◌else◌}
 use Rattle.std.specs.List.{list_all}
 use Rattle.std.specs.Char.{is_ascii_digit, digit_char}
@@ -9,19 +9,11 @@ use Rattle.std.proofs.lemmas.Bool.Decides.{nat_tests}
 use Rattle.std.proofs.lemmas.Str.{digit_value-digit_char}
 use Rattle.std.proofs.lemmas.Str.Parse.{IsNumeralModel, numerals_by_value}
 use Rattle.std.proofs.lemmas.Fmt.{decimal_is_IsNumeral, digits_decimal, length-decimal-le, decimal_nonempty}
-use Rattle.std.proofs.lemmas.Grind.{common_steps}
 use Rattle.pixel_core.specs.Rgba.{Rgba, if_canonical, rgba as pixel}
-use Rattle.script_lines.specs.Numbers.{is_magnitude, magnitude, number, number_in, natural}
+use Rattle.script_lines.specs.Numbers.{is_magnitude, number, number_in, natural}
 use Rattle.script_lines.specs.Colours.{is_byte, is_pixel, hex_byte, hex_digit, rgb, rgba}
+use Rattle.script_lines.proofs.FieldLemmas.{first, second, magnitude_by, plain_number, in_natural, in_number}
 use Rattle.script_text.specs.Text.{rgb_text, rgba_text}
-
-pub first : (a b : Bool) → (a && b) ≡ true → a ≡ true
-first true b k = refl
-first false b k = k
-
-pub second : (a b : Bool) → (a && b) ≡ true → b ≡ true
-second true b k = k
-second false b k = absurd (cc (k))
 
 own : IsNumeralModel (λ ds. list_all is_ascii_digit ds ≡ true) (digits_value 10)
 own = numerals_by_value _ (search rules)
@@ -41,20 +33,6 @@ magnitude_of n h = go (length (decimal n)) (decimal_nonempty n (omega arith)) (l
 value_of : (n : ℕ) → n < 10 ^ 10 → digits_value 10 (decimal n) ≡ n
 value_of n h = (decimal_is_IsNumeral n (omega arith)).1
 
-no_minus : (b : ℕ) → is_ascii_digit b ≡ true → (b == 45) ≡ false
-no_minus b h = grind (arith, nat_tests, common_steps)
-
-magnitude_by : (ds : List ℕ) → is_magnitude ds ≡ true → magnitude ds ≡ Ok (digits_value 10 ds)
-unfolding magnitude
-magnitude_by ds h = rw h refl
-
-plain_number : (ds : List ℕ) → is_magnitude ds ≡ true → number ds ≡ Ok (pos (digits_value 10 ds))
-unfolding number
-plain_number [] h = absurd (cc (h))
-plain_number (b ∷ bs) h =
-    let all = second (nat_le 1 (length (b ∷ bs)) && nat_le (length (b ∷ bs)) 10) (list_all is_ascii_digit (b ∷ bs)) h in
-    rw (no_minus b (first (is_ascii_digit b) (list_all is_ascii_digit bs) all), magnitude_by (b ∷ bs) h) refl
-
 minus_number : (ds : List ℕ) → is_magnitude ds ≡ true → number (45 ∷ ds) ≡ Ok (neg_ℤ (pos (digits_value 10 ds)))
 unfolding number
 minus_number ds h = rw (magnitude_by ds h) refl
@@ -64,19 +42,14 @@ number_of n h = plain_number (decimal n) (magnitude_of n h) ∙ ap (λ k. Ok (po
 
 -- a number in its range
 pub natural_back : (low high n : ℕ) → n < 10 ^ 10 → nat_le low n ≡ true → nat_le n high ≡ true → natural low high (decimal n) ≡ Ok n
-unfolding natural
-natural_back low high n h a b = rw (number_of n h, a, b) refl
-
-signed_of : (low high z : ℤ) → number (signed_decimal z) ≡ Ok z → int_le low z ≡ true → int_le z high ≡ true → number_in low high (signed_decimal z) ≡ Ok z
-unfolding number_in
-signed_of low high z e a b = rw (e, a, b) refl
+natural_back low high n h a b = in_natural low high n (decimal n) (number_of n h) a b
 
 -- a number that may be below 0, in its range
 pub signed_back : (k l : ℕ) (z : ℤ) → k < 10 ^ 9 → l < 10 ^ 9 → int_le (negsuc k) z ≡ true → int_le z (pos l) ≡ true → number_in (negsuc k) (pos l) (signed_decimal z) ≡ Ok z
-signed_back k l (pos n) h m a b = signed_of (negsuc k) (pos l) (pos n) (number_of n (let le : n ≤ l = grind (arith, nat_tests) in omega arith)) a b
+signed_back k l (pos n) h m a b = in_number (negsuc k) (pos l) (pos n) (signed_decimal (pos n)) (number_of n (let le : n ≤ l = grind (arith, nat_tests) in omega arith)) a b
 signed_back k l (negsuc n) h m a b =
     let le : n ≤ k = grind (arith, nat_tests) in
-    signed_of (negsuc k) (pos l) (negsuc n) (minus_number (decimal (suc n)) (magnitude_of (suc n) (omega arith)) ∙ ap (λ k. Ok (neg_ℤ (pos k))) (value_of (suc n) (omega arith))) a b
+    in_number (negsuc k) (pos l) (negsuc n) (signed_decimal (negsuc n)) (minus_number (decimal (suc n)) (magnitude_of (suc n) (omega arith)) ∙ ap (λ k. Ok (neg_ℤ (pos k))) (value_of (suc n) (omega arith))) a b
 
 digit_back : (d : ℕ) → d < 16 → hex_digit (digit_char d) ≡ Ok d
 digit_back d h =

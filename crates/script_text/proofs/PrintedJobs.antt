@@ -26,8 +26,9 @@ use Rattle.script_forms.specs.Words.{word_text, kind_text, op_text, edge_text}
 use Rattle.script_forms.specs.Forms.{command_of}
 use Rattle.script_forms.specs.Ranges.{job_in_range, is_number}
 use Rattle.script_text.specs.Text.{area_fields, ink_fields, job_text_fields, rgba_text, command_text, line}
-use Rattle.script_text.proofs.PrintedFields.{first, second, signed_back, rgba_back}
-use Rattle.script_text.proofs.PrintedLines.{is_field, both}
+use Rattle.script_text.proofs.PrintedFields.{signed_back, rgba_back}
+use Rattle.script_lines.specs.Lines.{is_field}
+use Rattle.script_lines.proofs.FieldLemmas.{first, second, both}
 use Rattle.script_text.proofs.PrintedWords.{kind_back, kind_field, op_back, op_field, edge_back, edge_field, natural_field, signed_field, rgba_field, upto_back, from_one_back}
 
 -- a command, told as a word and fields

@@ -16,7 +16,7 @@ use Rattle.script_text.specs.Script.{Contents, is_script, all_closed}
 use Rattle.script_text.specs.Reading.{NumberedLine, command_lines, canvas_in, command_in, canvas_of, commands_of, starts_of, cause_by, cause, first_canvas, end_by, left_open, left_fault, fault_after, fault, contents_by, unless, script}
 use Rattle.script_text.specs.Text.{canvas_fields, command_text, text}
 use Rattle.script_text.specs.Laws.{PrintedReadsBack}
-use Rattle.script_text.proofs.PrintedFields.{first, second}
+use Rattle.script_lines.proofs.FieldLemmas.{first, second}
 use Rattle.script_text.proofs.PrintedLines.{line_first}
 use Rattle.script_text.proofs.PrintedWords.{words}
 use Rattle.script_text.proofs.PrintedJobs.{Told}

@@ -13,15 +13,15 @@ use Rattle.pixel_core.specs.declared.blending.Op.{Op}
 use Rattle.pixel_core.specs.declared.blending.Op.TheVariants.{Over, Erase, Multiply, Screen, Addition}
 use Rattle.doc_model.specs.declared.job.Kind.{Kind}
 use Rattle.doc_model.specs.declared.job.Kind.TheVariants.{Con, Seq, Bar, Uni}
-use Rattle.script_lines.specs.Lines.{begins_command}
+use Rattle.script_lines.specs.Lines.{begins_command, is_plain, is_field}
 use Rattle.script_lines.specs.Numbers.{natural}
 use Rattle.script_forms.specs.declared.words.Work.TheVariants.{Fill, Dab, Move, Blur}
 use Rattle.script_forms.specs.declared.words.Word.{Word}
 use Rattle.script_forms.specs.declared.words.Word.TheVariants.{Layer, Group, Remove, Place, Look, Stroke, Paint, End, Cancel, Undo, Redo, Purge, Export}
 use Rattle.script_forms.specs.Words.{word_text, kind_text, op_text, edge_text, seen_text, canvas_text, exclusive_text, word_of, work_of, kind_of, op_of, edge_of, seen_of, exclusive_of}
 use Rattle.script_text.specs.Text.{rgb_text, rgba_text}
-use Rattle.script_text.proofs.PrintedFields.{first, second, digits_of, natural_back}
-use Rattle.script_text.proofs.PrintedLines.{is_plain, is_field, both}
+use Rattle.script_text.proofs.PrintedFields.{digits_of, natural_back}
+use Rattle.script_lines.proofs.FieldLemmas.{first, second, both}
 
 -- what is told of a word
 pub record IsWord (w : Word) : Type 0 where

@@ -149,12 +149,12 @@ starts_are (l ∷ before) = go (command_in l.fields) (starts_are before)
     go (Some (command.Purge keep)) h = h
     go (Some command.Export) h = h
 
-count_all : {A B : Type 0} (f : A → B) (xs : List A) → length (map f xs) ≡ length xs
+pub count_all : {A B : Type 0} (f : A → B) (xs : List A) → length (map f xs) ≡ length xs
 count_all f [] = refl
 count_all f (x ∷ xs) = ap suc (count_all f xs)
 
 -- there are not many more lines than bytes
-few_lines : (bytes : List ℕ) → length (lines bytes) ≤ length bytes + 1
+pub few_lines : (bytes : List ℕ) → length (lines bytes) ≤ length bytes + 1
 few_lines bytes = omega (arith, count_all fields (slice_split (λ b. b == 10) bytes), length-slice_split (λ b. b == 10) bytes, count_by-le-length (λ b. b == 10) bytes)
 
 -- a line by its fields, and those behind it

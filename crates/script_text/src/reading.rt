@@ -1,11 +1,12 @@
 //! Reading a script line by line.
 
-ghost use Rattle.std.specs.Prelude.{◌≡◌, ◌<◌, length, None, Some, ◌++◌, ◌∷◌, [], IfOk, OnOk, true};
+ghost use Rattle.std.specs.Prelude.{◌≡◌, ◌<◌, length, None, Some, ◌++◌, ◌∷◌, [], IfOk, OnOk, IfSome, IsSome, true};
 ghost use Rattle.std.specs.Option.{option_to_list};
 ghost use Rattle.script_lines.specs.Lines.{pointed};
 ghost use Rattle.doc_model.specs.Strokes.{entries};
 ghost use Rattle.script_forms.specs.Ranges.{in_range, is_sound};
 ghost use Rattle.script_forms.specs.Forms.{canvas as said_canvas};
+ghost use Rattle.script_forms.specs.Plain.{IsJobLine};
 ghost use Rattle.script_text.specs.Following.{misfit};
 ghost use Rattle.script_text.specs.Reading.{canvas_cause, word_cause, command_cause, cause_by, canvas_in, command_in, command_by, given, first_canvas, start_by, left_open, end_by, contents_by, fault, script};
 ghost use Rattle.script_text.specs.Read.{IsRefused, IsGathered, Fits, StartsAre, Answers, Takes, TakesCommand};
@@ -14,7 +15,7 @@ use crate::draft::{Draft, add_last};
 use crate::script::{ReadRefusal, Script, at};
 use doc_model::{Canvas, Command};
 use geom_core::NoMemory;
-use script_forms::{Word, canvas, command_of, is, word_of};
+use script_forms::{Word, canvas, command_of, is, plain_job, word_of};
 use script_lines::{Cause, is_command, next_fields};
 use std::alloc::Global;
 
@@ -107,6 +108,21 @@ impl Reading {
         Ok(())
     }
 
+    /// The command of the text's first line, where a canvas was read and the line is plain, and what
+    /// stands behind the line.
+    #[inline(always)]
+    fn plain_job<'a>(&self, text: &'a [u8]) -> Option<(Command, &'a [u8])>
+        ensures canvas { IsSome result → IsSome self.now.canvas }
+        ensures line { IfSome result (λ r. IsJobLine text.now r.0 r.1.now) }
+        ensures ranges { IfSome result (λ r. in_range r.0 ≡ true) }
+        ensures sound { IfSome result (λ r. is_sound r.0 ≡ true) }
+    {
+        if self.canvas.is_none() {
+            return None;
+        }
+        plain_job(text)
+    }
+
     /// A line other than a canvas, behind its word.
     fn take_word(
         &mut self,
@@ -192,8 +208,13 @@ pub fn read(alloc: Global, bytes: &[u8]) -> Result<Script, ReadRefusal>
     let mut number = 0;
     let mut left = Some(bytes);
     while let Some(rest) = left {
-        let behind = next_fields(rest, &mut fields)?;
         number += 1;
+        if let Some((command, behind)) = reading.plain_job(rest) {
+            reading.add(number, command)?;
+            left = Some(behind);
+            continue;
+        }
+        let behind = next_fields(rest, &mut fields)?;
         if is_command(&fields) {
             reading.take(number, &fields)?;
         }

@@ -2,7 +2,7 @@
 
 use crate::{Cause, MakeRefusal, ReadRefusal, Script, print, read};
 use doc_model::Command;
-use std::alloc::Global;
+use std::alloc::{AllocError, Global};
 
 /// The first fault of a script of up to 1,000 bytes.
 fn fault(alloc: Global, bytes: &[u8]) -> Option<(u32, Cause)> {
@@ -18,7 +18,7 @@ fn fault(alloc: Global, bytes: &[u8]) -> Option<(u32, Cause)> {
 
 #[test]
 fn faults(rt: HostRuntime) {
-    let rows: [(&[u8], Option<(u32, Cause)>); 20] = [
+    let rows: [(&[u8], Option<(u32, Cause)>); 22] = [
         (b"", Some((1, Cause::CanvasMissing))),
         (b"canvas 01 1", None),
         (b"canvas 1 +1", Some((1, Cause::Number))),
@@ -63,9 +63,110 @@ fn faults(rt: HostRuntime) {
             b"canvas 1 1\nstroke 2 1 exclusive\nstroke 1 1\nend 1",
             Some((2, Cause::StrokeLeft)),
         ),
+        (
+            b"fill 1 seq 0 0 1 1 ff0000ff over 255\n",
+            Some((1, Cause::CanvasMissing)),
+        ),
+        (
+            b"canvas 1 1\nstroke 1 1\nfill 1 seq 0 0 1 1 ff0000ff over 255",
+            Some((2, Cause::StrokeLeft)),
+        ),
     ];
     for (bytes, first) in rows {
         assert!(rt; fault(rt.alloc(), bytes) == first);
+    }
+}
+
+/// A script with that line in its one stroke.
+fn with_line(alloc: Global, line: &[u8]) -> Result<Vec<u8>, AllocError> {
+    let head = b"canvas 1 1 ffffff\nlayer 1 0 0\nstroke 1 1\n";
+    let mut text = Vec::from_slice(alloc, head.as_slice())?;
+    text.extend_from_slice(line)?;
+    text.extend_from_slice(b"\nend 1\n".as_slice())?;
+    Ok(text)
+}
+
+/// The canonical text of the script with that line.
+fn printed_with(alloc: Global, line: &[u8]) -> Option<Vec<u8>> {
+    let text = with_line(alloc, line).ok()?;
+    if text.len() > 1000 {
+        return None;
+    }
+    match read(alloc, &text) {
+        Ok(script) => print(alloc, &script).ok(),
+        Err(_) => None,
+    }
+}
+
+#[test]
+fn spellings_of_jobs(rt: HostRuntime) {
+    let seven = b"fill 1 con 3 4 5 6 ff000080 over 7".as_slice();
+    let rows: [(&[u8], &[u8]); 14] = [
+        (seven, seven),
+        (b"fill 1 con 3 4 5 6  ff000080 over 7", seven),
+        (b"fill\t1 con 3 4 5 6 ff000080 over 7", seven),
+        (b" fill 1 con 3 4 5 6 ff000080 over 7 ", seven),
+        (b"fill 1 con 3 4 5 6 ff000080 over 7\r", seven),
+        (b"fill 1 con 3 4 5 6 FF000080 over 7", seven),
+        (b"fill 00001 con 000003 00004 5 6 ff000080 over 7", seven),
+        (
+            b"fill 1 seq 0 -0 4096 1 00000000 erase 0",
+            b"fill 1 seq 0 0 4096 1 00000000 erase 0",
+        ),
+        (
+            b"fill 1 bar 16383 4 1 16 00ff0001 multiply 255",
+            b"fill 1 bar 16383 4 1 16 00ff0001 multiply 255",
+        ),
+        (
+            b"dab 1 uni 3 4 128 soft 0000ff80 screen 7",
+            b"dab 1 uni 3 4 128 soft 0000ff80 screen 7",
+        ),
+        (
+            b"dab 1 seq 3 4 0 hard ff000080 addition 7",
+            b"dab 1 seq 3 4 0 hard ff000080 addition 7",
+        ),
+        (
+            b"dab 1 seq -3 -4 5 hard ff000080 over 7",
+            b"dab 1 seq -3 -4 5 hard ff000080 over 7",
+        ),
+        (
+            b"dab 1 seq 3 4 5  hard ff000080 over 7",
+            b"dab 1 seq 3 4 5 hard ff000080 over 7",
+        ),
+        (b"blur 1 seq 3 4 5 6 7", b"blur 1 seq 3 4 5 6 7"),
+    ];
+    for (line, canonical) in rows {
+        let (Some(printed), Ok(text)) = (
+            printed_with(rt.alloc(), line),
+            with_line(rt.alloc(), canonical),
+        ) else {
+            panic!(rt; "not read");
+        };
+        assert!(rt; printed.as_slice() == text.as_slice());
+    }
+}
+
+#[test]
+fn causes_of_jobs(rt: HostRuntime) {
+    let rows: [(&[u8], Cause); 12] = [
+        (b"fill 1 con 3 4 5 6 ff000080 over", Cause::FieldCount),
+        (b"fill 1 con 3 4 5 6 ff000080 over 7 8", Cause::FieldCount),
+        (b"fill", Cause::FieldCount),
+        (b"fill 1 con 3 4 0 6 ff000080 over 7", Cause::Range),
+        (b"fill 1 con 3 4 5 4097 ff000080 over 7", Cause::Range),
+        (b"fill 1 con 3 4 5 6 ff000080 over 256", Cause::Range),
+        (b"fill 1 con 3 4 5 6 ff00008g over 7", Cause::Number),
+        (b"fill 1 con 3 x 5 6 ff000080 over 7", Cause::Number),
+        (b"fill 1 con 16380 4 5 6 ff000080 over 7", Cause::OutOfWorld),
+        (b"dab 1 con 3 4 5 blunt ff000080 over 7", Cause::UnknownWord),
+        (b"fills 1 con 3 4 5 6 ff000080 over 7", Cause::UnknownWord),
+        (b"fill 2 con 3 4 5 6 ff000080 over 7", Cause::UnknownStroke),
+    ];
+    for (line, cause) in rows {
+        let Ok(text) = with_line(rt.alloc(), line) else {
+            panic!(rt; "no memory");
+        };
+        assert!(rt; fault(rt.alloc(), &text) == Some((4, cause)));
     }
 }
 

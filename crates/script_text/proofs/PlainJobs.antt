@@ -1,0 +1,69 @@
+-- What a job's plain line says.
+use Rattle.std.proofs.Common.{◌≡◌, ◌∙◌, ℕ, ◌≤◌, true, false, Option, Some, None, Ok, List, ◌∷◌, ◌++◌, length, drop, refl, sym, ap, arith}
+use Rattle.std.specs.Prelude.{IsSome, ◌==◌}
+use Rattle.std.specs.Option.{option_to_list}
+use Rattle.std.specs.List.{slice_split}
+use Rattle.std.specs.Str.{bytes_eq}
+use Rattle.std.proofs.lemmas.List.{length-drop}
+use Rattle.std.proofs.lemmas.List.Splits.{length-slice_split}
+use Rattle.doc_model.specs.declared.canvas.Canvas.{Canvas}
+use Rattle.doc_model.specs.declared.command.Command.{Command}
+use Rattle.doc_model.specs.Strokes.{entries}
+use Rattle.script_lines.specs.Lines.{lines, fields, is_command}
+use Rattle.script_forms.specs.declared.words.Work.{Work}
+use Rattle.script_forms.specs.declared.words.Word.TheVariants.{Paint}
+use Rattle.script_forms.specs.Words.{work_text, word_of, canvas_text}
+use Rattle.script_forms.specs.Jobs.{Fields, paint}
+use Rattle.script_forms.specs.Forms.{command_of}
+use Rattle.script_forms.specs.Plain.{IsJobLine}
+use Rattle.script_text.specs.declared.reading.Reading.{Reading}
+use Rattle.script_text.specs.Following.{misfit}
+use Rattle.script_text.specs.Reading.{canvas_in, command_in, first_canvas, start_by, cause_by}
+use Rattle.script_text.specs.Read.{Takes, TakesCommand}
+use Rattle.script_text.proofs.PrintedWords.{words}
+use Rattle.script_text.proofs.Scanning.{few_lines, count_all}
+
+-- the fields say that job
+pub record SaysJob (f : Fields) (c : Command) : Type 0 where
+  pub is_command : is_command f ≡ true
+  pub canvas : canvas_in f ≡ None
+  pub command : command_in f ≡ Some c
+  pub cause : (o : Option Canvas) (commands : List Command) → IsSome o → cause_by o commands f ≡ misfit (entries commands) c
+
+abbrev pub job_fields : (text behind : List ℕ) (c : Command) → IsJobLine text c behind → Fields
+job_fields text behind c is = work_text is.work ∷ is.others
+
+says_job : (work : Work) (others : Fields) (c : Command) → paint work others ≡ Ok c → SaysJob (work_text work ∷ others) c
+unfolding cause_by command_of
+says_job work others c told =
+    let w = words (Paint work) in
+    record {
+      is_command = w.begins;
+      canvas = rw w.no_canvas refl;
+      command = rw (w.no_canvas, w.back, told) refl;
+      cause = go w.no_canvas w.back;
+    }
+  where
+    go : bytes_eq (work_text work) canvas_text ≡ false → word_of (work_text work) ≡ Some (Paint work) → (o : Option Canvas) (commands : List Command) → IsSome o → cause_by o commands (work_text work ∷ others) ≡ misfit (entries commands) c
+    go a b (Some k) commands h = rw (a, b, told) refl
+    go a b None commands h = absurd (cc (h))
+
+pub job_said : (text behind : List ℕ) (c : Command) (is : IsJobLine text c behind) → SaysJob (job_fields text behind c is) c
+job_said text behind c is = says_job is.work is.others c is.told
+
+pub takes_job : (r new : Reading) (n : ℕ) (f : Fields) (c : Command) → SaysJob f c → TakesCommand r new n (Some c) → Takes r new n f
+takes_job r new n f c says t = record {
+  canvas = t.canvas ∙ (go r.canvas ∙ ap (first_canvas r.canvas) (sym says.canvas));
+  draft = t.draft ∙ ap (λ o. r.draft ++ option_to_list o) (sym says.command);
+  starts = t.starts ∙ ap (λ o. r.starts.items ++ option_to_list (start_by n o)) (sym says.command);
+}
+  where
+    go : (o : Option Canvas) → o ≡ first_canvas o None
+    go None = refl
+    go (Some k) = refl
+
+-- where a text is left, not all lines are done
+pub some_left : (bytes text : List ℕ) (i : ℕ) → drop i (lines bytes) ≡ lines text → i ≤ length bytes
+some_left bytes text i e =
+    let some = count_all fields (slice_split (λ b. b == 10) text) in
+    omega (arith, length-drop i (lines bytes), ap length e, some, length-slice_split (λ b. b == 10) text, few_lines bytes)
