@@ -6,8 +6,8 @@ use borrow.Author.Differences.{ints}
 use Rattle.std.proofs.lemmas.Bool.Decides.{nat_tests}
 use Rattle.pixel_core.specs.Rgba.{Rgba, clear}
 use Rattle.geom_core.specs.Points.{Point, same_point}
-use Rattle.geom_core.specs.Areas.{Area, holds, right, bottom, lies_in, meets, place_in, points_of, world, IsWithin, IsShared}
-use Rattle.geom_core.specs.Grid.{Key, tile, IsWorldKey}
+use Rattle.geom_core.specs.Areas.{Area, holds, right, bottom, lies_in, place_in, points_of, world, IsWithin, IsShared}
+use Rattle.geom_core.specs.Grid.{Key, tile}
 use Rattle.geom_core.proofs.Members.{any-points_of}
 use Rattle.geom_core.proofs.Tests.{and_left, and_right, both_true, or_left, or_right}
 use Rattle.tile_core.specs.Blocks.{Piece, piece_at}
@@ -18,7 +18,8 @@ use Rattle.doc_model.specs.Layers.{at}
 use Rattle.blur_core.specs.Blur.{blurred}
 use Rattle.job_core.specs.Paints.{paint, layer_of, IsPainted}
 use Rattle.job_core.specs.Due.{IsDue}
-use Rattle.job_core.proofs.Values.{one_met, world_key, some_of_limits, seen_at, painted_once}
+use Rattle.job_core.proofs.Values.{seen_at, painted_once}
+use Rattle.job_core.proofs.Keys.{due_key}
 
 -- the points near one of a rectangle lie in the grown rectangle
 near_axis : (a p q : ℤ) (n r : ℕ) → (int_le a p && int_lt p (a +ℤ pos n)) ≡ true → (int_le (p -ℤ pos r) q && int_lt q ((p -ℤ pos r) +ℤ pos (2 * r + 1))) ≡ true
@@ -44,21 +45,12 @@ same_pixels f g (p ∷ ps) same = cons (same p (or_left _ _ (itself p))) (same_p
 grown_axis : (b e x y : ℤ) (n m r : ℕ) → y ≤ℤ x → (x +ℤ pos n) ≤ℤ (y +ℤ pos m) → (int_le b (y -ℤ pos r) && int_le ((y -ℤ pos r) +ℤ pos (m + 2 * r)) e) ≡ true → (int_le b (x -ℤ pos r) && int_le ((x -ℤ pos r) +ℤ pos (n + 2 * r)) e) ≡ true
 grown_axis b e x y n m r p q h = grind (arith, ints)
 
-inner_axis : (b e x : ℤ) (n r : ℕ) → (int_le b (x -ℤ pos r) && int_le ((x -ℤ pos r) +ℤ pos (n + 2 * r)) e) ≡ true → (int_le b x && int_le (x +ℤ pos n) e) ≡ true
-inner_axis b e x n r h = grind (arith, ints)
-
 module _ (rect : Area) (r : ℕ) (s : Sight) (key : Key) where
-  pub blur_met : IsDue (Blur rect r) s key → meets rect (tile key) ≡ true
-  blur_met due = one_met rect key (some_of_limits rect (and_left _ _ due.limits)) due.met
-
   around : IsDue (Blur rect r) s key → lies_in (grown rect r) world ≡ true
   around due = and_left _ _ due.checked
 
   second : IsDue (Blur rect r) s key → (int_le world.y (grown rect r).y && int_le (bottom (grown rect r)) (bottom world)) ≡ true
   second due = and_right (int_le world.x (grown rect r).x && int_le (right (grown rect r)) (right world)) _ (around due)
-
-  pub blur_key : IsDue (Blur rect r) s key → IsWorldKey key
-  blur_key due = world_key rect key (both_true _ _ (inner_axis world.x (right world) rect.x rect.w r (and_left _ _ (around due))) (inner_axis world.y (bottom world) rect.y rect.h r (second due))) (blur_met due)
 
   pub blur_around : (part : Area) → IsWithin part rect → IsDue (Blur rect r) s key → lies_in (grown part r) world ≡ true
   blur_around part is due = both_true _ _
@@ -67,7 +59,7 @@ module _ (rect : Area) (r : ℕ) (s : Sight) (key : Key) where
 
   blur_painted : (part : Area) (b : Piece) → IsDue (Blur rect r) s key → IsShared rect (tile key) part → b.key ≡ key → b.rect ≡ part → ((p : Point) → holds part p ≡ true → piece_at b p ≡ blurred s r p)
       → IsPainted (paint (Blur rect r) s key (b ∷ []))
-  blur_painted part b due shared ek er has = painted_once (Blur rect r) s key rect part (blurred s r) b refl (blur_key due) shared
+  blur_painted part b due shared ek er has = painted_once (Blur rect r) s key rect part (blurred s r) b refl (due_key _ _ _ due) shared
       (record { key_is = ek; rect_is = er; pixels = λ p h. ap (λ (a : Area). get_or b.pixels (place_in a p) clear) (sym er) ∙ has p h })
       (λ p h. ap (mean ((2 * r + 1) * (2 * r + 1))) (same_pixels (sight_at s) (at (layer_of s)) (points_of (square p.x p.y r))
       (λ q k. sym (seen_at s (grown rect r) q (and_left _ _ due.seen) (near rect r p q h (sym (any-points_of (square p.x p.y r) q) ∙ k))))))

@@ -1,19 +1,15 @@
 -- What a dab leaves.
-use Rattle.std.proofs.Common.{◌≡◌, ℕ, ◌+◌, ◌-◌, ◌*◌, ◌<◌, ◌≤◌, Bool, true, ◌&&◌, List, [], ◌∷◌, get_or, refl, sym, ap, ◌∙◌, subst, arith}
+use Rattle.std.proofs.Common.{◌≡◌, ℕ, ◌-◌, ◌<◌, true, ◌&&◌, List, [], ◌∷◌, get_or, refl, sym, ap, ◌∙◌, subst, arith}
 use Rattle.std.specs.Prelude.{ℤ, pos, ◌+ℤ◌, ◌-ℤ◌, ◌≤ℤ◌, int_le, int_lt, nat_abs}
 use borrow.Author.Differences.{ints}
-use Rattle.pixel_core.specs.declared.blending.Op.{Op}
 use Rattle.pixel_core.specs.Rgba.{Rgba, clear}
-use Rattle.pixel_core.specs.Bytes.{mul}
 use Rattle.pixel_core.specs.Compose.{compose}
-use Rattle.brush_mask.specs.Mask.{mask}
-use Rattle.geom_core.specs.Areas.{Area, right, lies_in, meets, place_in, world, IsWithin, IsShared}
-use Rattle.geom_core.specs.Grid.{Key, tile, IsWorldKey}
+use Rattle.geom_core.specs.Areas.{Area, right, lies_in, place_in, world, IsWithin, IsShared}
+use Rattle.geom_core.specs.Grid.{Key, tile}
 use Rattle.geom_core.proofs.Tests.{and_left, and_right, taken}
 use Rattle.tile_core.specs.Blocks.{Piece}
 use Rattle.tile_core.specs.Shots.{Sight, sight_at}
 use Rattle.tile_core.specs.Pixels.{HasPixels}
-use Rattle.doc_model.specs.declared.job.Job.TheVariants.{Dab}
 use Rattle.doc_model.specs.Jobs.{square}
 use Rattle.job_core.specs.declared.ink.Ink.{Ink}
 use Rattle.job_core.specs.declared.dabs.Brush.{Brush}
@@ -23,8 +19,11 @@ use Rattle.job_core.specs.Dabs.{brushed, brushed_from}
 use Rattle.job_core.specs.Laid.{ChangesRows}
 use Rattle.tile_core.specs.Parts.{in_part}
 use Rattle.std.proofs.lemmas.Bool.Decides.{nat_tests}
-use Rattle.job_core.specs.Made.{IsBlock, dabbed}
-use Rattle.job_core.proofs.Values.{one_met, world_key, seen_at, painted_once}
+use Rattle.job_core.specs.Made.{IsBlock, dabbed, strength_at}
+use Rattle.job_core.specs.Tasks.{dab_of}
+use Rattle.doc_model.specs.Lawful.{checks}
+use Rattle.job_core.proofs.Keys.{due_key}
+use Rattle.job_core.proofs.Values.{seen_at, painted_once}
 
 -- a point of a rectangle by its column or row
 pub record Steps (a x b d : ℤ) (n : ℕ) : Type 0 where
@@ -66,12 +65,6 @@ dabbed_pixels brush ink a s w h old old' new eo ew eh has laid p held =
     ∙ (λ k. brushed_from brush ink (a.x -ℤ brush.x) (a.y -ℤ brush.y) (from_first col k) (from_first row k) ((ap (λ ps. get_or ps (place_in a p) clear) eo ∙ has p held) k))
     ∙ (λ k. brushed brush ink (i.at k) (j.at k) (sight_at s p))
 
-pub square_some : (x y : ℤ) (r : ℕ) → (1 ≤ (square x y r).w) × (1 ≤ (square x y r).h)
-square_some x y r = (some r, some r)
-  where
-    some : (r : ℕ) → 1 ≤ 2 * r + 1
-    some r = omega arith
-
 low : (b x : ℤ) → int_le b x ≡ true → b ≤ℤ x
 low b x h = grind (arith, ints)
 
@@ -85,17 +78,12 @@ lying a b h =
       bottom = low _ _ (and_right (int_le b.y a.y) _ down);
     }
 
-module _ (x y : ℤ) (r : ℕ) (soft : Bool) (colour : Rgba) (op : Op) (m : ℕ) (s : Sight) (key : Key) where
-  pub dab_met : (a : Area) → a ≡ square x y r → IsDue (Dab x y r soft colour op m) s key → meets a (tile key) ≡ true
-  dab_met a e due = ap (λ (b : Area). meets b (tile key)) e ∙ one_met (square x y r) key (square_some x y r) due.met
+-- the square of a dab that checks
+pub square_lies : (brush : Brush) (ink : Ink) → checks (dab_of brush ink) ≡ true → IsWithin (square brush.x brush.y brush.r) world
+square_lies brush ink h = lying (square brush.x brush.y brush.r) world (and_left _ _ h)
 
-  pub dab_key : IsDue (Dab x y r soft colour op m) s key → IsWorldKey key
-  dab_key due = world_key (square x y r) key (and_left _ _ due.checked) (dab_met (square x y r) refl due)
-
-  pub dab_in_world : IsDue (Dab x y r soft colour op m) s key → IsWithin (square x y r) world
-  dab_in_world due = lying (square x y r) world (and_left _ _ due.checked)
-
-  pub dab_painted : (a part : Area) (b : Piece) → a ≡ square x y r → IsDue (Dab x y r soft colour op m) s key → IsShared a (tile key) part
-      → IsBlock key part (λ p. compose op colour (sight_at s p) (mul (mask r soft (p.x -ℤ x) (p.y -ℤ y)) m)) b → IsPainted (paint (Dab x y r soft colour op m) s key (b ∷ []))
-  dab_painted a part b e due shared is = painted_once (Dab x y r soft colour op m) s key (square x y r) part _ b refl (dab_key due) (subst (λ (c : Area). IsShared c (tile key) part) e shared) is
-      (λ p h. ap (λ q. compose op colour q (mul (mask r soft (p.x -ℤ x) (p.y -ℤ y)) m)) (sym (seen_at s (square x y r) p (and_left _ _ due.seen) h)))
+pub dab_painted : (brush : Brush) (ink : Ink) (s : Sight) (key : Key) (a part : Area) (b : Piece) → a ≡ square brush.x brush.y brush.r → IsDue (dab_of brush ink) s key → IsShared a (tile key) part
+    → IsBlock key part (dabbed s brush ink) b → IsPainted (paint (dab_of brush ink) s key (b ∷ []))
+dab_painted brush ink s key a part b e due shared is =
+    painted_once (dab_of brush ink) s key (square brush.x brush.y brush.r) part _ b refl (due_key _ _ _ due) (subst (λ (c : Area). IsShared c (tile key) part) e shared) is
+    (λ p h. ap (λ q. compose ink.op ink.colour q (strength_at brush ink (p.x -ℤ brush.x) (p.y -ℤ brush.y))) (sym (seen_at s (square brush.x brush.y brush.r) p (and_left _ _ due.seen) h)))

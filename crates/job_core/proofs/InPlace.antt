@@ -2,13 +2,12 @@
 use borrow.Author.Differences.{ints}
 use Rattle.std.proofs.Common.{◌≡◌, ℕ, ◌+◌, ◌*◌, ◌%◌, ◌<◌, replicate, Bool, true, false, ◌&&◌, cond, [], ◌∷◌, get_or, refl, sym, ap, subst, ◌∙◌, arith}
 use Rattle.std.specs.Prelude.{IfSome, Option, Some, None, int_le, int_lt, ◌≤ℤ◌, ℤ, pos, ◌+ℤ◌, ◌-ℤ◌, ◌*ℤ◌, nat_abs}
-use Rattle.pixel_core.specs.declared.blending.Op.{Op}
 use Rattle.pixel_core.specs.Rgba.{Rgba, clear}
 use Rattle.pixel_core.specs.Compose.{compose}
 use Rattle.std.proofs.lemmas.List.{get_or-replicate}
 use Rattle.geom_core.specs.Points.{Point}
 use Rattle.geom_core.specs.Place.{across, down}
-use Rattle.geom_core.specs.Areas.{Area, holds, any_holds, meets, world, IsWithin, IsShared}
+use Rattle.geom_core.specs.Areas.{Area, holds, any_holds, world, IsWithin, IsShared}
 use Rattle.geom_core.proofs.Tests.{and_left, and_right, both_true, or_left, taken}
 use Rattle.geom_core.specs.Grid.{Key, tile, IsWorldKey}
 use Rattle.geom_core.proofs.Spots.{TileSpot, tile_spot}
@@ -17,7 +16,6 @@ use Rattle.tile_core.specs.Pixels.{Pixels, pixel_of, pixel_at}
 use Rattle.tile_core.specs.Parts.{in_part, IsPartOf}
 use Rattle.tile_core.proofs.LaidBlocks.{Axis, axis, rest_of}
 use Rattle.doc_model.specs.declared.job.Job.{Job}
-use Rattle.doc_model.specs.declared.job.Job.TheVariants.{Fill, Dab}
 use Rattle.doc_model.specs.Jobs.{square, writes, value, in_tile}
 use Rattle.doc_model.specs.Layers.{Layer, at}
 use Rattle.doc_model.proofs.JobLaws.{at-apply}
@@ -26,8 +24,10 @@ use Rattle.job_core.specs.declared.dabs.Brush.{Brush}
 use Rattle.job_core.specs.Laid.{Change, ChangesRows, inked, LeavesAll}
 use Rattle.job_core.specs.Dabs.{brushed, brushed_from}
 use Rattle.job_core.specs.Points.{spot, IsPointWork, LaysPoints}
-use Rattle.job_core.proofs.Values.{one_met, world_key, some_of_limits, tile_held, or-false}
-use Rattle.job_core.proofs.DabValues.{Steps, steps, square_some, lying}
+use Rattle.job_core.specs.Tasks.{fill_of, dab_of}
+use Rattle.job_core.proofs.Values.{tile_held, or-false}
+use Rattle.job_core.proofs.Keys.{work_key}
+use Rattle.job_core.proofs.DabValues.{Steps, steps}
 
 chosen : (t u : Bool) (x y o o' : Rgba) → t ≡ u → o ≡ o' → (u ≡ true → x ≡ y) → cond t x o ≡ cond u y o'
 chosen t true x y o o' e same h = rw e (h refl)
@@ -82,18 +82,11 @@ lays_points job key rect part g old new wr each shared changed layer has p insid
 
 -- ---- fills
 
-module _ (rect : Area) (colour : Rgba) (op : Op) (m : ℕ) (key : Key) where
-  pub fill_meets : IsPointWork (spot (Fill rect colour op m) key) → meets rect (tile key) ≡ true
-  fill_meets work = one_met rect key (some_of_limits rect work.limits) work.met
-
-  pub fill_known : IsPointWork (spot (Fill rect colour op m) key) → IsWorldKey key
-  fill_known work = world_key rect key (and_left _ _ work.checked) (fill_meets work)
-
-pub fill_laid : (rect part : Area) (place : Part) (ink : Ink) (key : Key) (old new : Pixels) → IsPointWork (spot (Fill rect ink.colour ink.op ink.strength) key) → IsShared rect (tile key) part → IsPartOf part place
-    → ChangesRows (inked ink) 64 place.left place.top place.w place.h old new → LaysPoints (spot (Fill rect ink.colour ink.op ink.strength) key) old new
+pub fill_laid : (rect part : Area) (place : Part) (ink : Ink) (key : Key) (old new : Pixels) → IsPointWork (spot (fill_of rect ink) key) → IsShared rect (tile key) part → IsPartOf part place
+    → ChangesRows (inked ink) 64 place.left place.top place.w place.h old new → LaysPoints (spot (fill_of rect ink) key) old new
 fill_laid rect part place ink key old new work shared is laid =
-    lays_points (Fill rect ink.colour ink.op ink.strength) key rect part (λ _ d. compose ink.op ink.colour d ink.strength) old new refl (λ _ _. refl) shared
-    (tile_changed (inked ink) (λ _ d. compose ink.op ink.colour d ink.strength) key part place old new (fill_known rect ink.colour ink.op ink.strength key work) shared.in_b is (λ _ _ _. refl) laid)
+    lays_points (fill_of rect ink) key rect part (λ _ d. compose ink.op ink.colour d ink.strength) old new refl (λ _ _. refl) shared
+    (tile_changed (inked ink) (λ _ d. compose ink.op ink.colour d ink.strength) key part place old new (work_key _ work) shared.in_b is (λ _ _ _. refl) laid)
 
 -- what a tile's whole rectangle has in common with another is all of it
 axis_whole : (t a x : ℤ) (n : ℕ) → n ≡ 64 → t ≤ℤ a → (a +ℤ pos n) ≤ℤ (t +ℤ pos 64) → (int_le t x && int_lt x (t +ℤ pos 64)) ≡ true → (int_le a x && int_lt x (a +ℤ pos n)) ≡ true
@@ -109,10 +102,10 @@ small_place : (x y : ℕ) → 64 * (y % 64) + x % 64 < 4096
 small_place x y = omega arith
 
 -- a fill that covers its tile, and leaves one pixel of each there
-pub fill_plain : (rect : Area) (ink : Ink) (key : Key) (old : Pixels) (c : Rgba) → ((p : Point) → in_tile key p ≡ true → holds rect p ≡ true) → LeavesAll ink old c → LaysPoints (spot (Fill rect ink.colour ink.op ink.strength) key) old (replicate 4096 c)
+pub fill_plain : (rect : Area) (ink : Ink) (key : Key) (old : Pixels) (c : Rgba) → ((p : Point) → in_tile key p ≡ true → holds rect p ≡ true) → LeavesAll ink old c → LaysPoints (spot (fill_of rect ink) key) old (replicate 4096 c)
 fill_plain rect ink key old c covers leaves layer has p inside =
     let small : 64 * (down p % 64) + across p % 64 < 4096 = small_place (across p) (down p) in
-    at-apply (Fill rect ink.colour ink.op ink.strength) layer p
+    at-apply (fill_of rect ink) layer p
     ∙ taken (any_holds (rect ∷ []) p) _ _ (or_left (holds rect p) false (covers p inside))
     ∙ ap (λ d. compose ink.op ink.colour d ink.strength) (has p inside)
     ∙ leaves (64 * (down p % 64) + across p % 64) small
@@ -125,21 +118,11 @@ more_some P Q (Some c) f h = f c h
 
 -- ---- dabs
 
-module _ (x y : ℤ) (r : ℕ) (soft : Bool) (colour : Rgba) (op : Op) (m : ℕ) (key : Key) where
-  pub dab_meets : (a : Area) → a ≡ square x y r → IsPointWork (spot (Dab x y r soft colour op m) key) → meets a (tile key) ≡ true
-  dab_meets a e work = ap (λ (b : Area). meets b (tile key)) e ∙ one_met (square x y r) key (square_some x y r) work.met
-
-  pub dab_known : IsPointWork (spot (Dab x y r soft colour op m) key) → IsWorldKey key
-  dab_known work = world_key (square x y r) key (and_left _ _ work.checked) (dab_meets (square x y r) refl work)
-
-  pub dab_lies : IsPointWork (spot (Dab x y r soft colour op m) key) → IsWithin (square x y r) world
-  dab_lies work = lying (square x y r) world (and_left _ _ work.checked)
-
-pub dab_laid : (a part : Area) (place : Part) (brush : Brush) (ink : Ink) (key : Key) (old new : Pixels) → a ≡ square brush.x brush.y brush.r → IsPointWork (spot (Dab brush.x brush.y brush.r brush.soft ink.colour ink.op ink.strength) key) → IsShared a (tile key) part → IsPartOf part place
-    → ChangesRows (brushed_from brush ink (part.x -ℤ brush.x) (part.y -ℤ brush.y)) 64 place.left place.top place.w place.h old new → LaysPoints (spot (Dab brush.x brush.y brush.r brush.soft ink.colour ink.op ink.strength) key) old new
+pub dab_laid : (a part : Area) (place : Part) (brush : Brush) (ink : Ink) (key : Key) (old new : Pixels) → a ≡ square brush.x brush.y brush.r → IsPointWork (spot (dab_of brush ink) key) → IsShared a (tile key) part → IsPartOf part place
+    → ChangesRows (brushed_from brush ink (part.x -ℤ brush.x) (part.y -ℤ brush.y)) 64 place.left place.top place.w place.h old new → LaysPoints (spot (dab_of brush ink) key) old new
 dab_laid a part place brush ink key old new e work shared is laid =
-    lays_points (Dab brush.x brush.y brush.r brush.soft ink.colour ink.op ink.strength) key (square brush.x brush.y brush.r) part (brushed_at brush ink) old new refl (λ _ _. refl) (subst (λ (b : Area). IsShared b (tile key) part) e shared)
-    (tile_changed (brushed_from brush ink (part.x -ℤ brush.x) (part.y -ℤ brush.y)) (brushed_at brush ink) key part place old new (dab_known _ _ _ _ _ _ _ _ work) shared.in_b is
+    lays_points (dab_of brush ink) key (square brush.x brush.y brush.r) part (brushed_at brush ink) old new refl (λ _ _. refl) (subst (λ (b : Area). IsShared b (tile key) part) e shared)
+    (tile_changed (brushed_from brush ink (part.x -ℤ brush.x) (part.y -ℤ brush.y)) (brushed_at brush ink) key part place old new (work_key _ work) shared.in_b is
     (λ p d h. let i : Steps part.x p.x brush.x (part.x -ℤ brush.x) part.w = steps part.x p.x brush.x (part.x -ℤ brush.x) part.w refl (and_left _ _ h) in
     let j : Steps part.y p.y brush.y (part.y -ℤ brush.y) part.h = steps part.y p.y brush.y (part.y -ℤ brush.y) part.h refl (and_right _ _ h) in
     λ k. brushed brush ink (i.at k) (j.at k) d) laid)

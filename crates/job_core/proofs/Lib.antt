@@ -1,4 +1,5 @@
 pub mod Values
+pub mod Keys
 pub mod FillValues
 pub mod RowLaws
 pub mod RowChanges

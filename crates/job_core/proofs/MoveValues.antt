@@ -9,7 +9,7 @@ use Rattle.std.proofs.lemmas.List.Elements.{All-from_recursion}
 use Rattle.pixel_core.specs.Rgba.{Rgba, clear}
 use Rattle.geom_core.specs.Points.{Point, point}
 use Rattle.geom_core.specs.Areas.{Area, holds, any_holds, right, bottom, lies_in, meets, moved, place_in, clipped, common, world, IsWithin, IsShared}
-use Rattle.geom_core.specs.Grid.{Key, same_key, tile, keys_of, IsWorldKey}
+use Rattle.geom_core.specs.Grid.{Key, same_key, tile, keys_of}
 use Rattle.geom_core.proofs.Tests.{and_left, and_right, both_true, or_left, or_right, or_cases, taken}
 use Rattle.tile_core.specs.Blocks.{Piece}
 use Rattle.tile_core.specs.Shots.{Sight, sight_at}
@@ -22,7 +22,8 @@ use Rattle.job_core.specs.Paints.{layer_of, paint, HasValue, IsPainted}
 use Rattle.job_core.specs.Due.{IsDue}
 use Rattle.job_core.specs.Laid.{LaysOver}
 use Rattle.job_core.specs.Made.{IsBlock, IsStep, brought, left_at}
-use Rattle.job_core.proofs.Values.{HasPoints, some_of_limits, key_met, world_key, seen_at, value_at, has_value, tile_held}
+use Rattle.job_core.proofs.Values.{HasPoints, some_of_limits, key_met, seen_at, value_at, has_value, tile_held}
+use Rattle.job_core.proofs.Keys.{due_key}
 
 -- ---- rectangles moved
 
@@ -185,12 +186,6 @@ module _ (rect : Area) (dx dy : ℤ) (s : Sight) (key : Key) where
         | inr e ↦ inr (key_met (moved rect dx dy) key some e)
       ]
 
-  pub move_key : IsDue (Move rect dx dy) s key → IsWorldKey key
-  move_key due = elim (move_met due) [
-    | inl e ↦ world_key rect key (in_world due) e
-    | inr e ↦ world_key (moved rect dx dy) key (moved_in_world due) e
-  ]
-
   -- where the moved rectangle doesn't meet the tile, the other one does
   pub source_met : (to t : Area) → IsDue (Move rect dx dy) s key → to ≡ moved rect dx dy → t ≡ tile key → None ≡ clipped to t → meets rect (tile key) ≡ true
   source_met to t due e et none = elim (move_met due) [
@@ -260,7 +255,7 @@ module _ (rect : Area) (dx dy : ℤ) (s : Sight) (key : Key) where
   pub painted_source : (to t part : Area) (b : Piece) → IsDue (Move rect dx dy) s key → to ≡ moved rect dx dy → t ≡ tile key → ((p : Point) → holds to p ≡ true → holds t p ≡ false) → IsShared rect (tile key) part
       → IsBlock key part (left_at s to dx dy) b → IsPainted (paint (Move rect dx dy) s key (b ∷ []))
   painted_source to t part b due e et apart shared is = record {
-    key_is = move_key due;
+    key_is = due_key _ _ _ due;
     values = All-from_recursion (HasValue (Move rect dx dy) s key) (b ∷ []) (source_value part b due shared (subst (λ (a : Area). IsBlock key part (left_at s a dx dy) b) e is), tt);
     covers = λ p. in_the_tile p _ (ap (λ (a : Area). holds a p || false) is.rect_is ∙ ap (λ u. u || false) (shared.held p)
         ∙ source_only (holds rect p) (holds (moved rect dx dy) p) (holds (tile key) p) (λ h. ap (λ (a : Area). holds a p) (sym et) ∙ apart p (ap (λ (a : Area). holds a p) e ∙ h)));
@@ -274,7 +269,7 @@ module _ (rect : Area) (dx dy : ℤ) (s : Sight) (key : Key) where
   painted_both to t part dx' dy' b None ex ey due e et shared is none some =
       let there : IsShared (moved rect dx dy) (tile key) part = subst (λ (a : Area). IsShared a (tile key) part) e (subst (λ (a : Area). IsShared to a part) et shared) in
       record {
-        key_is = move_key due;
+        key_is = due_key _ _ _ due;
         values = All-from_recursion (HasValue (Move rect dx dy) s key) (b ∷ []) (target_value part b due there is, tt);
         covers = λ p. in_the_tile p _ (ap (λ (a : Area). holds a p || false) is.rect_is ∙ ap (λ u. u || false) (there.held p)
             ∙ target_only (holds rect p) (holds (moved rect dx dy) p) (holds (tile key) p) (λ h k. ap (λ (a : Area). holds a p) (sym e) ∙ none p h k));
@@ -282,7 +277,7 @@ module _ (rect : Area) (dx dy : ℤ) (s : Sight) (key : Key) where
   painted_both to t part dx' dy' b (Some c) ex ey due e et shared is none some =
       let there : IsShared (moved rect dx dy) (tile key) part = subst (λ (a : Area). IsShared a (tile key) part) e (subst (λ (a : Area). IsShared to a part) et shared) in
       record {
-        key_is = move_key due;
+        key_is = due_key _ _ _ due;
         values = All-from_recursion (HasValue (Move rect dx dy) s key) (b ∷ c ∷ []) (target_value part b due there is, (source_value c.rect c due some.0 (subst (λ (a : Area). IsBlock key c.rect (left_at s a dx dy) c) e (block_left_as key c.rect s to dx dy dx' dy' c ex ey some.1)), tt));
         covers = λ p. in_the_tile p _ (ap (λ (a : Area). holds a p || (holds c.rect p || false)) is.rect_is ∙ (λ i. there.held p i || (some.0.held p i || false))
             ∙ both_there (holds rect p) (holds (moved rect dx dy) p) (holds (tile key) p));

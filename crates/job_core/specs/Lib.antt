@@ -4,3 +4,4 @@ pub mod Laid
 pub mod Made
 pub mod Dabs
 pub mod Points
+pub mod Tasks

@@ -4,7 +4,7 @@ ghost use Rattle.std.specs.Prelude.{◌≡◌, [], ◌∷◌, ◌+◌, ◌*◌, 
 ghost use Rattle.geom_core.specs.Areas.{IsWithin, lies_in, world};
 ghost use Rattle.geom_core.specs.Grid.{IsWorldKey, tile};
 ghost use Rattle.tile_core.specs.Pixels.{HasPixels};
-ghost use Rattle.doc_model.specs.declared.job.Job.TheVariants.{Dab};
+ghost use Rattle.job_core.specs.Tasks.{dab_of};
 ghost use Rattle.doc_model.specs.Jobs.{square as square_of};
 ghost use Rattle.job_core.specs.Paints.{paint, IsPainted};
 ghost use Rattle.job_core.specs.Due.{IsDue};
@@ -49,8 +49,8 @@ pub fn dabbed(
     brush: &Brush,
     ink: &Ink,
 ) -> Result<Block, NoMemory>
-    requires { IsDue (Dab brush.now.x brush.now.y brush.now.r brush.now.soft ink.now.colour ink.now.op ink.now.strength) shot.now key }
-    ensures { IfOk result (λ b. IsPainted (paint (Dab brush.now.x brush.now.y brush.now.r brush.now.soft ink.now.colour ink.now.op ink.now.strength) shot.now key (b ∷ []))) }
+    requires { IsDue (dab_of brush.now ink.now) shot.now key }
+    ensures { IfOk result (λ b. IsPainted (paint (dab_of brush.now ink.now) shot.now key (b ∷ []))) }
 {
     let part = part_in(key, &brush.square());
     let pixels = brushed(alloc, shot, key, &part, brush, ink)?;

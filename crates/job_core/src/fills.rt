@@ -6,7 +6,7 @@ ghost use Rattle.geom_core.specs.Grid.{IsWorldKey, tile};
 ghost use Rattle.pixel_core.specs.Compose.{compose};
 ghost use Rattle.tile_core.specs.Pixels.{HasPixels};
 ghost use Rattle.tile_core.specs.Shots.{sight_at};
-ghost use Rattle.doc_model.specs.declared.job.Job.TheVariants.{Fill};
+ghost use Rattle.job_core.specs.Tasks.{fill_of};
 ghost use Rattle.job_core.specs.Paints.{paint, IsPainted};
 ghost use Rattle.job_core.specs.Due.{IsDue};
 ghost use Rattle.job_core.specs.Laid.{ChangesRows, inked as inked_pixel};
@@ -27,8 +27,8 @@ pub fn filled(
     rect: &Rect,
     ink: &Ink,
 ) -> Result<Block, NoMemory>
-    requires { IsDue (Fill rect.now ink.now.colour ink.now.op ink.now.strength) shot.now key }
-    ensures { IfOk result (λ b. IsPainted (paint (Fill rect.now ink.now.colour ink.now.op ink.now.strength) shot.now key (b ∷ []))) }
+    requires { IsDue (fill_of rect.now ink.now) shot.now key }
+    ensures { IfOk result (λ b. IsPainted (paint (fill_of rect.now ink.now) shot.now key (b ∷ []))) }
 {
     let part = part_in(key, rect);
     let pixels = inked(alloc, shot, key, &part, ink)?;

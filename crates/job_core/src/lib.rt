@@ -12,6 +12,7 @@ mod painted;
 mod part;
 mod points;
 mod rows;
+mod task;
 
 pub use made::Made;
 pub use painted::{Painted, paint_tile};

@@ -11,11 +11,11 @@ ghost use Rattle.job_core.specs.Due.{IsDue};
 
 use crate::blocks::{Blocks, alone};
 use crate::blurs::blurred;
-use crate::dabs::{Brush, dabbed};
+use crate::dabs::dabbed;
 use crate::fills::filled;
-use crate::ink::Ink;
 use crate::made::Made;
 use crate::moves::moved;
+use crate::task::{Task, task_of};
 use doc_model::Job;
 use geom_core::{NoMemory, Rect, TileKey};
 use std::alloc::Global;
@@ -123,44 +123,11 @@ fn blocks_of(alloc: Global, job: &Job, shot: &Shot, key: TileKey) -> Result<Bloc
     requires { IsDue job.now shot.now key }
     ensures { IfOk result (λ bs. IsPainted (paint job.now shot.now key (bs.first ∷ option_to_list bs.second))) }
 {
-    match *job {
-        Job::Fill {
-            rect,
-            colour,
-            op,
-            strength,
-        } => {
-            let ink = Ink {
-                colour,
-                op,
-                strength,
-            };
-            let block = filled(alloc, shot, key, &rect, &ink)?;
-            Ok(alone(block))
-        }
-        Job::Dab {
-            x,
-            y,
-            r,
-            soft,
-            colour,
-            op,
-            strength,
-        } => {
-            let brush = Brush { x, y, r, soft };
-            let ink = Ink {
-                colour,
-                op,
-                strength,
-            };
-            let block = dabbed(alloc, shot, key, &brush, &ink)?;
-            Ok(alone(block))
-        }
-        Job::Move { rect, dx, dy } => moved(alloc, shot, key, &rect, &written(job, 1), dx, dy),
-        Job::Blur { rect, r } => {
-            let block = blurred(alloc, shot, key, &rect, r)?;
-            Ok(alone(block))
-        }
+    match task_of(job) {
+        Task::Fill { rect, ink } => Ok(alone(filled(alloc, shot, key, &rect, &ink)?)),
+        Task::Dab { brush, ink } => Ok(alone(dabbed(alloc, shot, key, &brush, &ink)?)),
+        Task::Move { rect, dx, dy } => moved(alloc, shot, key, &rect, &written(job, 1), dx, dy),
+        Task::Blur { rect, r } => Ok(alone(blurred(alloc, shot, key, &rect, r)?)),
     }
 }
 

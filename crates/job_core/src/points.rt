@@ -7,16 +7,17 @@ ghost use Rattle.geom_core.specs.Points.{Point};
 ghost use Rattle.geom_core.specs.Areas.{IsInWorld, holds, meets};
 ghost use Rattle.geom_core.specs.Grid.{IsWorldKey, same_key, all_keys_of, tile};
 ghost use Rattle.tile_core.specs.Pixels.{Pixels};
-ghost use Rattle.doc_model.specs.declared.job.Job.TheVariants.{Fill, Dab};
 ghost use Rattle.doc_model.specs.Jobs.{writes, in_tile, square as square_of};
 ghost use Rattle.doc_model.specs.Lawful.{checks, within_limits};
 ghost use Rattle.job_core.specs.Points.{is_point_op as is_point_op_of, spot, IsPointWork, LaysPoints};
 ghost use Rattle.job_core.specs.Laid.{LeavesAll};
+ghost use Rattle.job_core.specs.Tasks.{fill_of, dab_of};
 
 use crate::dabs::{Brush, lay_dab};
 use crate::fills::lay_ink;
 use crate::ink::Ink;
 use crate::part::part_in;
+use crate::task::{Task, task_of};
 use doc_model::Job;
 use geom_core::{Rect, TileKey};
 use pixel_core::Pixel;
@@ -91,22 +92,8 @@ impl<'a> PointWork<'a> {
     fn covering_ink(&self) -> Option<Ink>
         ensures { IfSome result (λ ink. (old : Pixels) (c : Rgba) → LeavesAll ink old c → LaysPoints self.now old (replicate 4096 c)) }
     {
-        match *self.job {
-            Job::Fill {
-                rect,
-                colour,
-                op,
-                strength,
-            } => {
-                if !covers(self.key, &rect) {
-                    return None;
-                }
-                Some(Ink {
-                    colour,
-                    op,
-                    strength,
-                })
-            }
+        match task_of(self.job) {
+            Task::Fill { rect, ink } => covers(self.key, &rect).then_some(ink),
             _ => None,
         }
     }
@@ -119,38 +106,10 @@ impl Lays for PointWork<'_> {
 
     /// Lays the job's pixels on those of its writes in the tile.
     fn lay(&self, tile: &mut [Pixel]) {
-        match *self.job {
-            Job::Fill {
-                rect,
-                colour,
-                op,
-                strength,
-            } => {
-                let ink = Ink {
-                    colour,
-                    op,
-                    strength,
-                };
-                fill_in(self.key, &rect, &ink, tile);
-            }
-            Job::Dab {
-                x,
-                y,
-                r,
-                soft,
-                colour,
-                op,
-                strength,
-            } => {
-                let brush = Brush { x, y, r, soft };
-                let ink = Ink {
-                    colour,
-                    op,
-                    strength,
-                };
-                dab_in(self.key, &brush, &ink, tile);
-            }
-            Job::Move { .. } | Job::Blur { .. } => unreachable!(),
+        match task_of(self.job) {
+            Task::Fill { rect, ink } => fill_in(self.key, &rect, &ink, tile),
+            Task::Dab { brush, ink } => dab_in(self.key, &brush, &ink, tile),
+            Task::Move { .. } | Task::Blur { .. } => unreachable!(),
         }
     }
 }
@@ -167,9 +126,9 @@ fn covers(key: TileKey, rect: &Rect) -> bool
 
 /// Lays a fill on the key's tile.
 fn fill_in(key: TileKey, rect: &Rect, ink: &Ink, tile: &mut [Pixel])
-    requires work { IsPointWork (spot (Fill rect.now ink.now.colour ink.now.op ink.now.strength) key) }
+    requires work { IsPointWork (spot (fill_of rect.now ink.now) key) }
     requires whole { length tile.old ≡ 4096 }
-    ensures { LaysPoints (spot (Fill rect.now ink.now.colour ink.now.op ink.now.strength) key) tile.old tile.new }
+    ensures { LaysPoints (spot (fill_of rect.now ink.now) key) tile.old tile.new }
 {
     let part = part_in(key, rect);
     lay_ink(tile, part_in_tile(&part), ink);
@@ -177,9 +136,9 @@ fn fill_in(key: TileKey, rect: &Rect, ink: &Ink, tile: &mut [Pixel])
 
 /// Lays a dab on the key's tile.
 fn dab_in(key: TileKey, brush: &Brush, ink: &Ink, tile: &mut [Pixel])
-    requires work { IsPointWork (spot (Dab brush.now.x brush.now.y brush.now.r brush.now.soft ink.now.colour ink.now.op ink.now.strength) key) }
+    requires work { IsPointWork (spot (dab_of brush.now ink.now) key) }
     requires whole { length tile.old ≡ 4096 }
-    ensures { LaysPoints (spot (Dab brush.now.x brush.now.y brush.now.r brush.now.soft ink.now.colour ink.now.op ink.now.strength) key) tile.old tile.new }
+    ensures { LaysPoints (spot (dab_of brush.now ink.now) key) tile.old tile.new }
 {
     let part = part_in(key, &brush.square());
     lay_dab(tile, 64, part_in_tile(&part), &part, brush, ink);

@@ -1,18 +1,17 @@
 -- A point operation that is painted in one tile after another, each from what then stands, leaves what it leaves of the whole layer.
-use Rattle.std.proofs.Common.{◌≡◌, ℕ, ◌≤◌, Bool, true, false, ◌&&◌, ◌||◌, cond, List, [], ◌∷◌, length, take, refl, sym, ap, ◌∙◌, subst, arith}
+use Rattle.std.proofs.Common.{◌≡◌, ℕ, ◌≤◌, Bool, true, false, ◌&&◌, ◌||◌, cond, List, [], ◌∷◌, length, take, refl, sym, ap, ◌∙◌, subst}
 use Rattle.std.specs.List.{list_any, IsDistinct, AllByRecursion}
 use Rattle.std.proofs.lemmas.List.{append-nil}
 use Rattle.std.proofs.lemmas.Map.Keys.{IsDistinct-head, IsDistinct-tail}
-use Rattle.std.proofs.lemmas.Bool.Decides.{nat_tests}
 use Rattle.pixel_core.specs.Rgba.{Rgba}
 use Rattle.pixel_core.specs.Bytes.{mul}
 use Rattle.pixel_core.specs.Compose.{compose}
 use Rattle.brush_mask.specs.Mask.{mask}
-use Rattle.std.specs.Prelude.{◌-ℤ◌, nat_le}
+use Rattle.std.specs.Prelude.{◌-ℤ◌}
 use Rattle.geom_core.specs.Points.{Point}
 use Rattle.geom_core.specs.Areas.{Area, any_holds}
 use Rattle.geom_core.specs.Grid.{Key, key_of, same_key, keys_of, all_keys_of}
-use Rattle.geom_core.proofs.Tests.{taken, and_left, and_right}
+use Rattle.geom_core.proofs.Tests.{taken}
 use Rattle.geom_core.proofs.Keys.{key_of_any_held}
 use Rattle.geom_core.proofs.Tiles.{key_same}
 use Rattle.geom_core.proofs.Axes.{tiles_met}
@@ -24,6 +23,8 @@ use Rattle.doc_model.specs.Lawful.{within_limits}
 use Rattle.doc_model.proofs.JobLaws.{at-apply, laws_of_jobs}
 use Rattle.doc_model.proofs.Shots.{at-published, default-published}
 use Rattle.job_core.specs.Points.{is_point_op, painted_in}
+use Rattle.job_core.proofs.Values.{HasPoints, some_of_limits}
+use Rattle.job_core.proofs.Keys.{square_some}
 use Rattle.desk_steps.specs.Archives.{Archive}
 use Rattle.solo_run.specs.Painting.{PaintsOn, in_tiles}
 use Rattle.solo_run.proofs.Fronts.{take_all}
@@ -82,20 +83,17 @@ painted_everywhere job layer h d = layer_ext _ _
     go p true w = taken _ _ _ (key_of_any_held (writes job) p w)
     go p false w = sym (laws_of_jobs.outside job layer p w)
 
-at_least : (n : ℕ) (t : Bool) → (nat_le 1 n && t) ≡ true → 1 ≤ n
-at_least n t e = grind (arith, nat_tests)
-
 -- the rectangle that a point operation writes has points
-some_written : (job : Job) (r : Area) → is_point_op job ≡ true → within_limits job ≡ true → writes job ≡ r ∷ [] → (1 ≤ r.w) × (1 ≤ r.h)
-some_written (Fill rect colour op strength) r h l e = let same : rect ≡ r = cc in subst (λ (a : Area). (1 ≤ a.w) × (1 ≤ a.h)) same (at_least rect.w (nat_le rect.w 4096) (and_left (nat_le 1 rect.w && nat_le rect.w 4096) _ l), at_least rect.h (nat_le rect.h 4096) (and_right (nat_le 1 rect.w && nat_le rect.w 4096) _ l))
-some_written (Dab x y n soft colour op strength) r h l e = let same : square x y n ≡ r = cc in subst (λ (a : Area). (1 ≤ a.w) × (1 ≤ a.h)) same (omega arith, omega arith)
+some_written : (job : Job) (r : Area) → is_point_op job ≡ true → within_limits job ≡ true → writes job ≡ r ∷ [] → HasPoints r
+some_written (Fill rect colour op strength) r h l e = let same : rect ≡ r = cc in subst HasPoints same (some_of_limits rect l)
+some_written (Dab x y n soft colour op strength) r h l e = let same : square x y n ≡ r = cc in subst HasPoints same (square_some x y n)
 some_written (Move rect dx dy) r h l e = cc
 some_written (Blur rect n) r h l e = cc
 
 -- the whole job
 pub points_done : (job : Job) (r : Area) (n : ℕ) (a b : Archive) → is_point_op job ≡ true → within_limits job ≡ true → writes job ≡ r ∷ [] → length (keys_of r) ≤ n → PaintsOn (in_tiles (painted_in job) (take n (keys_of r))) a b → PaintsOn (apply job) a b
 points_done job r n a b h l e many on =
-    let some : (1 ≤ r.w) × (1 ≤ r.h) = some_written job r h l e in
+    let some : HasPoints r = some_written job r h l e in
     let keys : all_keys_of (writes job) ≡ keys_of r = ap all_keys_of e ∙ append-nil (keys_of r) in
     paints_as (in_tiles (painted_in job) (take n (keys_of r))) (apply job) a b
     (λ id layer p. ap (λ ks. in_tiles (painted_in job) ks layer) (take_all (keys_of r) n many ∙ sym keys)

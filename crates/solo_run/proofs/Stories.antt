@@ -3,8 +3,9 @@ use Rattle.std.proofs.Common.{◌≡◌, ℕ, suc, zero, ◌+◌, ◌-◌, ◌<�
 use Rattle.std.proofs.lemmas.List.{length-append, map-append}
 use Rattle.std.proofs.lemmas.List.Elements.{All-append, All-cons, All-nil}
 use Rattle.std.proofs.lemmas.Option.{slice_get_read}
+use Rattle.std.proofs.lemmas.Result.{IfOk-weaker}
 use Rattle.std.proofs.Math.Seq.{get_or-append_seam}
-use Rattle.std.specs.Prelude.{pos, slice_get, All, Result, Ok, Err, IfOk}
+use Rattle.std.specs.Prelude.{pos, slice_get, All, Result, IfOk}
 use Rattle.std.specs.List.{list_all, AllByRecursion}
 use Rattle.std.specs.FinSet as set
 use Rattle.std.specs.FinSet.{FinSet}
@@ -81,7 +82,7 @@ same_told story s f (Some pair) c e n = refl
 same_told story s f None c e n = same_closed story s (doc.kept s.jobs) f e n (sym (ap (doc.up_to s.jobs) c))
 
 -- what a closed stroke means
-pub told_whole : (canvas : Canvas) (story : Story) (e : doc.Entry) (c : Closed) → queued e ≡ Whole c → told canvas story e ≡ told_stroke story (as_stroke c) c.stroke.overlap
+told_whole : (canvas : Canvas) (story : Story) (e : doc.Entry) (c : Closed) → queued e ≡ Whole c → told canvas story e ≡ told_stroke story (as_stroke c) c.stroke.overlap
 told_whole canvas story (doc.Strokes s) c h = go s.fate refl h
   where
     go : (f : Fate) → s.fate ≡ f → stroke_of f (kept_of s) ≡ Whole c → told_stroke story s (conflict s.jobs) ≡ told_stroke story (as_stroke c) c.stroke.overlap
@@ -94,18 +95,15 @@ told_whole canvas story doc.Redoes c h = cc
 told_whole canvas story (doc.Purges k) c h = cc
 told_whole canvas story doc.Exports c h = cc
 
-goes_as : (one other : Story → Story) (old new : Solo) (o : Outcome) → ((story : Story) → one story ≡ other story) → GoesOn one old new o → GoesOn other old new o
-goes_as one other old new o same g = record { rests = g.rests; canvas = g.canvas; story = λ outcomes. g.story outcomes ∙ same (story_of old outcomes); undamaged = g.undamaged }
-
-if_goes : {E : Type 0} (one other : Story → Story) (old new : Solo) (r : Result Outcome E) → ((story : Story) → one story ≡ other story) → IfOk r (GoesOn one old new) → IfOk r (GoesOn other old new)
-if_goes one other old new (Ok o) same g = goes_as one other old new o same g
-if_goes one other old new (Err e) same g = tt
+-- a closed stroke without a conflict that wasn't cancelled is laid
+pub told_laid : (canvas : Canvas) (story : Story) (e : doc.Entry) (c : Closed) → queued e ≡ Whole c → c.stroke.overlap ≡ None → c.cancelled ≡ false → told canvas story e ≡ laid_stroke story (as_stroke c) (content c.stroke.layer story.document)
+told_laid canvas story e c h o k = told_whole canvas story e c h ∙ ap (told_stroke story (as_stroke c)) o ∙ ap (λ b. closed_stroke story (record (as_stroke c) { fate = fate_of b }) (fate_of b)) k
 
 -- a stroke that was laid
 pub laid_goes : {E : Type 0} (old new : Solo) (e : doc.Entry) (c : Closed) (r : Result Outcome E) → queued e ≡ Whole c → c.stroke.overlap ≡ None → c.cancelled ≡ false
     → ((s : Stroke) → s.layer ≡ c.stroke.layer → s.jobs ≡ c.stroke.jobs → IfOk r (GoesOn (λ story. laid_stroke story s (content s.layer story.document)) old new)) → IfOk r (Ends e old new)
-laid_goes old new e c r h o k g = if_goes (λ story. laid_stroke story (as_stroke c) (content c.stroke.layer story.document)) (λ story. told old.canvas story e) old new r
-    (λ story. sym (told_whole old.canvas story e c h ∙ ap (told_stroke story (as_stroke c)) o ∙ ap (λ b. closed_stroke story (record (as_stroke c) { fate = fate_of b }) (fate_of b)) k))
+laid_goes old new e c r h n k g = IfOk-weaker r _ _
+    (λ o on. record { rests = on.rests; canvas = on.canvas; story = λ outcomes. on.story outcomes ∙ sym (told_laid old.canvas (story_of old outcomes) e c h n k); undamaged = on.undamaged })
     (g (as_stroke c) refl refl)
 
 pub absent : (id : ℕ) (doc : Doc) → there id doc ≡ false → content id doc ≡ None
@@ -228,41 +226,45 @@ unseen_changed s change new r k c h = change_goes s change new s.stale r c (reco
       ∙ ap (λ (a : Archive). seen (picture a.present p)) (sym c.new_is);
 })
 
+-- a step along the history, by the side that it takes from: to the first document there, or nowhere
+walk_goes : (step : List (Doc × Reach) → Archive → Archive) (nothing : Outcome) (e : doc.Entry) (side : List (Doc × Reach)) (s : Solo) (new : Archive) (stale : Parts) (o : Outcome)
+    → step [] s.store ≡ s.store → ((x : Doc × Reach) (rest : List (Doc × Reach)) → ((step (x ∷ rest) s.store).way ≡ s.store.way) × ((step (x ∷ rest) s.store).present ≡ (step (x ∷ rest) s.store).base))
+    → ((outcomes : List Outcome) → story_of (record s { store = step side s.store; stale = stale }) (outcomes ++ done_or nothing side ∷ []) ≡ told s.canvas (story_of s outcomes) e)
+    → Rests s → new ≡ step side s.store → o ≡ done_or nothing side → DamagesChanges s.store.present new.present s.stale stale → (side ≡ [] → stale ≡ s.stale)
+    → Ends e s (record s { store = new; stale = stale }) o
+walk_goes step nothing entry side s new stale o nowhere somewhere tells r e h m u = record {
+  rests = rests_on s new stale r (rests_there side e).0 (rests_there side e).1 m;
+  canvas = refl;
+  story = λ outcomes. (λ i. story_of (record s { store = e i; stale = stale }) (outcomes ++ h i ∷ [])) ∙ tells outcomes;
+  undamaged = λ n. u (empty side (λ d. n (h ∙ d)));
+}
+  where
+    at : (a : Archive) → new ≡ a → (a.way ≡ s.store.way) × (a.present ≡ a.base) → (new.way ≡ None) × (new.present ≡ new.base)
+    at a e h = (ap (λ (b : Archive). b.way) e ∙ h.0 ∙ r.no_way, ap (λ (b : Archive). b.present) e ∙ h.1 ∙ ap (λ (b : Archive). b.base) (sym e))
+
+    rests_there : (side : List (Doc × Reach)) → new ≡ step side s.store → (new.way ≡ None) × (new.present ≡ new.base)
+    rests_there [] e = at s.store (e ∙ nowhere) (refl, r.present)
+    rests_there (x ∷ rest) e = at (step (x ∷ rest) s.store) e (somewhere x rest)
+
+    empty : (side : List (Doc × Reach)) → (done_or nothing side ≡ outcome.Done → ⊥) → side ≡ []
+    empty [] n = refl
+    empty (x ∷ rest) n = absurd (n refl)
+
 -- an undo
 pub undo_goes : (s : Solo) (new : Archive) (stale : Parts) (o : Outcome) → Rests s → new ≡ archives.undone s.store.past s.store → o ≡ done_or outcome.NothingToUndo s.store.past → DamagesChanges s.store.present new.present s.stale stale → (s.store.past ≡ [] → stale ≡ s.stale) → Ends doc.Undoes s (record s { store = new; stale = stale }) o
-undo_goes s new stale o r e h m u = let g : GoesOn (λ t. undone t (docs s.store.past)) s (record s { store = new; stale = stale }) o = go s.store.past refl e h in record { rests = g.rests; canvas = g.canvas; story = g.story; undamaged = g.undamaged }
+undo_goes s new stale o = walk_goes archives.undone outcome.NothingToUndo doc.Undoes s.store.past s new stale o refl (λ _ _. (refl, refl)) (go s.store.past)
   where
-    go : (past : List (Doc × Reach)) → s.store.past ≡ past → new ≡ archives.undone past s.store → o ≡ done_or outcome.NothingToUndo past → GoesOn (λ t. undone t (docs past)) s (record s { store = new; stale = stale }) o
-    go [] p e h = record {
-      rests = rests_on s new stale r (ap (λ (a : Archive). a.way) e ∙ r.no_way) (ap (λ (a : Archive). a.present) e ∙ r.present ∙ ap (λ (a : Archive). a.base) (sym e)) m;
-      canvas = refl;
-      story = λ outcomes i. story_of (record s { store = e i; stale = stale }) (outcomes ++ h i ∷ []);
-      undamaged = λ _. u p;
-    }
-    go (x ∷ past) p e h = record {
-      rests = rests_on s new stale r (ap (λ (a : Archive). a.way) e ∙ r.no_way) (ap (λ (a : Archive). a.present) e ∙ ap (λ (a : Archive). a.base) (sym e)) m;
-      canvas = refl;
-      story = λ outcomes i. story_of (record s { store = e i; stale = stale }) (outcomes ++ h i ∷ []);
-      undamaged = λ n. absurd (n h);
-    }
+    go : (past : List (Doc × Reach)) (outcomes : List Outcome) → story_of (record s { store = archives.undone past s.store; stale = stale }) (outcomes ++ done_or outcome.NothingToUndo past ∷ []) ≡ undone (story_of s outcomes) (docs past)
+    go [] outcomes = refl
+    go (x ∷ past) outcomes = refl
 
 -- a redo
 pub redo_goes : (s : Solo) (new : Archive) (stale : Parts) (o : Outcome) → Rests s → new ≡ archives.redone s.store.future s.store → o ≡ done_or outcome.NothingToRedo s.store.future → DamagesChanges s.store.present new.present s.stale stale → (s.store.future ≡ [] → stale ≡ s.stale) → Ends doc.Redoes s (record s { store = new; stale = stale }) o
-redo_goes s new stale o r e h m u = let g : GoesOn (λ t. redone t (docs s.store.future)) s (record s { store = new; stale = stale }) o = go s.store.future refl e h in record { rests = g.rests; canvas = g.canvas; story = g.story; undamaged = g.undamaged }
+redo_goes s new stale o = walk_goes archives.redone outcome.NothingToRedo doc.Redoes s.store.future s new stale o refl (λ _ _. (refl, refl)) (go s.store.future)
   where
-    go : (future : List (Doc × Reach)) → s.store.future ≡ future → new ≡ archives.redone future s.store → o ≡ done_or outcome.NothingToRedo future → GoesOn (λ t. redone t (docs future)) s (record s { store = new; stale = stale }) o
-    go [] p e h = record {
-      rests = rests_on s new stale r (ap (λ (a : Archive). a.way) e ∙ r.no_way) (ap (λ (a : Archive). a.present) e ∙ r.present ∙ ap (λ (a : Archive). a.base) (sym e)) m;
-      canvas = refl;
-      story = λ outcomes i. story_of (record s { store = e i; stale = stale }) (outcomes ++ h i ∷ []);
-      undamaged = λ _. u p;
-    }
-    go (x ∷ future) p e h = record {
-      rests = rests_on s new stale r (ap (λ (a : Archive). a.way) e ∙ r.no_way) (ap (λ (a : Archive). a.present) e ∙ ap (λ (a : Archive). a.base) (sym e)) m;
-      canvas = refl;
-      story = λ outcomes i. story_of (record s { store = e i; stale = stale }) (outcomes ++ h i ∷ []);
-      undamaged = λ n. absurd (n h);
-    }
+    go : (future : List (Doc × Reach)) (outcomes : List Outcome) → story_of (record s { store = archives.redone future s.store; stale = stale }) (outcomes ++ done_or outcome.NothingToRedo future ∷ []) ≡ redone (story_of s outcomes) (docs future)
+    go [] outcomes = refl
+    go (x ∷ future) outcomes = refl
 
 newest_last : (scenes : List Scene) (f : Scene) → newest (scenes ++ f ∷ []) ≡ Some f
 newest_last scenes f =
@@ -288,7 +290,7 @@ export_goes s film stale f r shows everywhere e none = subst (λ g. Ends doc.Exp
   undamaged = λ n. absurd (n refl);
 }))
 
-pub told_all-last : (canvas : Canvas) (s : Story) (es : List doc.Entry) (e : doc.Entry) → told_all canvas s (es ++ e ∷ []) ≡ told canvas (told_all canvas s es) e
+told_all-last : (canvas : Canvas) (s : Story) (es : List doc.Entry) (e : doc.Entry) → told_all canvas s (es ++ e ∷ []) ≡ told canvas (told_all canvas s es) e
 told_all-last canvas s [] e = refl
 told_all-last canvas s (x ∷ es) e = told_all-last canvas (told canvas s x) es e
 
@@ -298,23 +300,19 @@ pub record IsNext (es : List doc.Entry) (n : ℕ) (x : Entry) : Type 0 where
   pub at : slice_get es n ≡ Some entry
   pub is : queued entry ≡ x
 
-pub next_left : (es : List doc.Entry) (n : ℕ) (x : Entry) → slice_get (map queued (drop n es)) 0 ≡ Some x → IsNext es n x
+next_left : (es : List doc.Entry) (n : ℕ) (x : Entry) → slice_get (map queued (drop n es)) 0 ≡ Some x → IsNext es n x
 next_left [] zero x h = cc
 next_left (e ∷ es) zero x h = record { entry = e; at = refl; is = (let same : queued e ≡ x = cc in same) }
 next_left [] (suc n) x h = cc
 next_left (e ∷ es) (suc n) x h = let more : IsNext es n x = next_left es n x h in record { entry = more.entry; at = more.at; is = more.is }
 
-pub closed_at : (es : List doc.Entry) (n : ℕ) (e : doc.Entry) → slice_get es n ≡ Some e → list_all is_closed_entry es ≡ true → is_closed_entry e ≡ true
-closed_at [] n e h all = cc
-closed_at (x ∷ es) zero e h all = let same : x ≡ e = cc in ap is_closed_entry (sym same) ∙ and_left (is_closed_entry x) _ all
-closed_at (x ∷ es) (suc n) e h all = closed_at es n e h (and_right (is_closed_entry x) _ all)
+-- what holds of all entries holds of each
+pub holds_at : (P : doc.Entry → Type 0) (es : List doc.Entry) (n : ℕ) (e : doc.Entry) → slice_get es n ≡ Some e → AllByRecursion P es → P e
+holds_at P [] n e h all = cc
+holds_at P (x ∷ es) zero e h all = let same : x ≡ e = cc in subst P same all.0
+holds_at P (x ∷ es) (suc n) e h all = holds_at P es n e h all.1
 
-pub fits_at : (es : List doc.Entry) (n : ℕ) (e : doc.Entry) → slice_get es n ≡ Some e → AllByRecursion Fits es → Fits e
-fits_at [] n e h all = cc
-fits_at (x ∷ es) zero e h all = let same : x ≡ e = cc in subst Fits same all.0
-fits_at (x ∷ es) (suc n) e h all = fits_at es n e h all.1
-
-pub queued_fits : (e : doc.Entry) → Fits e → fits (queued e) ≡ true
+queued_fits : (e : doc.Entry) → Fits e → fits (queued e) ≡ true
 queued_fits (doc.Strokes s) h = go s.fate
   where
     go : (f : Fate) → fits (stroke_of f (kept_of s)) ≡ true
@@ -327,8 +325,18 @@ queued_fits doc.Redoes h = refl
 queued_fits (doc.Purges k) h = refl
 queued_fits doc.Exports h = refl
 
-next_entry : (commands : List Command) (s : Solo) (q : Pending) (x : Entry) → HasCome commands s q → Some x ≡ slice_get q.left 0 → IsNext (entries commands) (length q.outcomes) x
-next_entry commands s q x h e = next_left (entries commands) (length q.outcomes) x (ap (λ left. slice_get left 0) (sym h.queue.left_is) ∙ sym e)
+-- the first entry of the queue
+pub next_entry : (commands : List Command) (q : Pending) (x : Entry) → StandsFor commands q → Some x ≡ slice_get q.left 0 → IsNext (entries commands) (length q.outcomes) x
+next_entry commands q x stands e = next_left (entries commands) (length q.outcomes) x (ap (λ left. slice_get left 0) (sym stands.left_is) ∙ sym e)
+
+-- it is ready, if it is closed
+pub ready_next : (commands : List Command) (n : ℕ) (x : Entry) → lawful commands ≡ true → (next : IsNext (entries commands) n x) → is_closed_entry next.entry ≡ true → IsReady x
+ready_next commands n x l next closed = record {
+  entry = next.entry;
+  is = next.is;
+  closed = closed;
+  fit = ap fits (sym next.is) ∙ queued_fits next.entry (holds_at Fits (entries commands) n next.entry next.at (lawful_fits commands l));
+}
 
 closed_leaves : (e : doc.Entry) (es : List Entry) → is_closed_entry e ≡ true → may_leave (queued e ∷ es) ≡ true
 closed_leaves (doc.Strokes s) es h = go s.fate h
@@ -356,13 +364,8 @@ first_leaves (y ∷ left) x e = let same : x ≡ y = cc in alone y left ∙ ap (
 -- the first entry is ready, where it may leave
 pub next_ready : (commands : List Command) (s : Solo) (q : Pending) (x : Entry) → lawful commands ≡ true → may_leave q.left ≡ true → HasCome commands s q → Some x ≡ slice_get q.left 0 → IsReady x
 next_ready commands s q x l m h e =
-    let next : IsNext (entries commands) (length q.outcomes) x = next_entry commands s q x h e in
-    record {
-      entry = next.entry;
-      is = next.is;
-      closed = leaves_closed next.entry [] (ap (λ y. may_leave (y ∷ [])) next.is ∙ sym (first_leaves q.left x e) ∙ m);
-      fit = ap fits (sym next.is) ∙ queued_fits next.entry (fits_at (entries commands) (length q.outcomes) next.entry next.at (lawful_fits commands l));
-    }
+    let next : IsNext (entries commands) (length q.outcomes) x = next_entry commands q x h.queue e in
+    ready_next commands (length q.outcomes) x l next (leaves_closed next.entry [] (ap (λ y. may_leave (y ∷ [])) next.is ∙ sym (first_leaves q.left x e) ∙ m))
 
 -- and may leave
 pub ready_leaves : (q : Pending) (x : Entry) → Some x ≡ slice_get q.left 0 → IsReady x → may_leave q.left ≡ true
@@ -381,40 +384,46 @@ document_right commands s q h =
     let each : EachDoc (IsDocument {A = Layer}) (meaning s.canvas (take (length q.outcomes) (entries commands))) = meaning_keeps_limits s.canvas (take (length q.outcomes) (entries commands)) in
     subst (λ (t : Story). IsDocument t.document) (sym h.story) each.document
 
+-- one entry more is told
+pub told_next : (canvas now : Canvas) (es : List doc.Entry) (e : doc.Entry) (outcomes more : List Outcome) (o : Outcome) → slice_get es (length outcomes) ≡ Some e → more ≡ outcomes ++ o ∷ [] → now ≡ canvas
+    → told canvas (meaning canvas (take (length outcomes) es)) e ≡ meaning now (take (length more) es)
+told_next canvas now es e outcomes more o at is same =
+    sym (told_all-last canvas start (take (length outcomes) es) e)
+    ∙ ap (told_all canvas start) (sym (take_more es (length outcomes) e at) ∙ ap (λ n. take n es) (sym (ap length is ∙ length-append outcomes (o ∷ []))))
+    ∙ ap (λ c. meaning c (take (length more) es)) (sym same)
+
 -- one entry more
 pub come_further : (commands : List Command) (old new : Solo) (q r : Pending) (x : Entry) (o : Outcome) → HasCome commands old q → Some x ≡ slice_get q.left 0
     → ((e : doc.Entry) → queued e ≡ x → Ends e old new o) → r.outcomes ≡ q.outcomes ++ o ∷ [] → StandsFor commands r → HasCome commands new r
 come_further commands old new q r x o h e ends outcomes stands =
-    let next : IsNext (entries commands) (length q.outcomes) x = next_entry commands old q x h e in
+    let next : IsNext (entries commands) (length q.outcomes) x = next_entry commands q x h.queue e in
     let on : Ends next.entry old new o = ends next.entry next.is in
     record {
       rests = on.rests;
       queue = stands;
-      story =
-          ap (story_of new) outcomes
-          ∙ on.story q.outcomes
-          ∙ ap (λ t. told old.canvas t next.entry) h.story
-          ∙ sym (told_all-last old.canvas start (take (length q.outcomes) (entries commands)) next.entry)
-          ∙ ap (told_all old.canvas start) (sym (take_more (entries commands) (length q.outcomes) next.entry next.at) ∙ ap (λ n. take n (entries commands)) (sym (ap length outcomes ∙ length-append q.outcomes (o ∷ []))))
-          ∙ ap (λ c. meaning c (take (length r.outcomes) (entries commands))) (sym on.canvas);
+      story = ap (story_of new) outcomes ∙ on.story q.outcomes ∙ ap (λ t. told old.canvas t next.entry) h.story ∙ told_next old.canvas new.canvas (entries commands) next.entry q.outcomes r.outcomes o next.at outcomes on.canvas;
     }
 
-pub none_left_over : (n : ℕ) (es : List doc.Entry) → map queued (drop n es) ≡ [] → take n es ≡ es
+none_left_over : (n : ℕ) (es : List doc.Entry) → map queued (drop n es) ≡ [] → take n es ≡ es
 none_left_over zero [] h = refl
 none_left_over zero (e ∷ es) h = cc
 none_left_over (suc n) [] h = refl
 none_left_over (suc n) (e ∷ es) h = ap (λ ds. e ∷ ds) (none_left_over n es h)
 
--- all entries
-pub come_all : (commands : List Command) (s : Solo) (q : Pending) → HasCome commands s q → q.left ≡ [] → story_of s q.outcomes ≡ meaning s.canvas (entries commands)
-come_all commands s q h e = h.story ∙ ap (meaning s.canvas) (none_left_over (length q.outcomes) (entries commands) (sym h.queue.left_is ∙ e))
+-- all entries were told
+pub told_all_left : (canvas : Canvas) (commands : List Command) (q : Pending) → StandsFor commands q → q.left ≡ [] → meaning canvas (take (length q.outcomes) (entries commands)) ≡ meaning canvas (entries commands)
+told_all_left canvas commands q stands e = ap (meaning canvas) (none_left_over (length q.outcomes) (entries commands) (sym stands.left_is ∙ e))
+
+-- no entry was told yet
+pub told_none : (canvas : Canvas) (es : List doc.Entry) (outcomes : List Outcome) → outcomes ≡ [] → start ≡ meaning canvas (take (length outcomes) es)
+told_none canvas es outcomes none = sym (ap (λ os. meaning canvas (take (length os) es)) none)
 
 -- no command yet
 pub come_none : (s : Solo) (q : Pending) → Rests s → StandsFor [] q → q.outcomes ≡ [] → story_of s [] ≡ start → HasCome [] s q
 come_none s q r stands none begins = record {
   rests = r;
   queue = stands;
-  story = ap (story_of s) none ∙ begins ∙ sym (ap (λ os. meaning s.canvas (take (length os) (entries []))) none);
+  story = ap (story_of s) none ∙ begins ∙ told_none s.canvas (entries []) q.outcomes none;
 }
 
 -- one command more is fed
@@ -435,7 +444,7 @@ come_fed before c s q r h same stands come =
 pub come_shows : (script : Contents) (s : Solo) (q : Pending) → HasCome script.commands s q → s.canvas ≡ script.canvas → list_all is_closed_entry (entries script.commands) ≡ true → may_leave q.left ≡ false → Shows script s.film q.outcomes
 come_shows script s q h c closed m =
     let e : q.left ≡ [] = h.queue.left_is ∙ none_left (entries script.commands) (length q.outcomes) closed (sym (ap may_leave h.queue.left_is) ∙ m) in
-    let told : story_of s q.outcomes ≡ meaning script.canvas (entries script.commands) = come_all script.commands s q h e ∙ ap (λ d. meaning d (entries script.commands)) c in
+    let told : story_of s q.outcomes ≡ meaning script.canvas (entries script.commands) = h.story ∙ told_all_left s.canvas script.commands q h.queue e ∙ ap (λ d. meaning d (entries script.commands)) c in
     record {
       sides = subst (λ d. All (HasSides d) s.film) c h.rests.sides;
       colours = ap (λ (t : Story). t.frames) told;
