@@ -1,5 +1,5 @@
 -- A store's invariant through its calls.
-use Rattle.std.proofs.Common.{◌≡◌, ℕ, suc, ◌≤◌, Bool, true, false, ◌&&◌, ◌||◌, cond, max, Option, Some, None, is_some, Result, Ok, Err, List, [], ◌∷◌, take, drop, refl, sym, ap, ◌∙◌, subst, arith, eqb}
+use Rattle.std.proofs.Common.{◌≡◌, ℕ, suc, ◌≤◌, Bool, true, false, ◌&&◌, ◌||◌, cond, max, Option, Some, None, is_some, Result, Ok, Err, List, [], ◌∷◌, take, drop, refl, sym, ap, ◌∙◌, subst, arith}
 use Rattle.std.specs.Prelude.{◌≢◌, OnOk, OnErr, OnSome, IfOk, IfSome, IfNone}
 use Rattle.std.specs.Borrow.{Bor}
 use Rattle.std.specs.Option.{option_copied, unwrap_or}
@@ -40,7 +40,7 @@ use Rattle.history_core.specs.Stacks.{Stack, IsUndone, IsRedone}
 use Rattle.desk_steps.specs.declared.entry.Entry.{Entry}
 use Rattle.desk_steps.specs.declared.entry.Entry.TheVariants as entry
 use Rattle.desk_steps.specs.declared.entry.Way.{Way}
-use Rattle.desk_steps.specs.Archives.{Archive, IsUnderWay, layer_under_way, reverted, undone, redone, tiles_in, tiles_in_first}
+use Rattle.desk_steps.specs.Archives.{Archive, IsUnderWay, layer_under_way, reverted, undone, redone}
 use Rattle.desk_steps.specs.Documents.{Tiled, doc_in, key_stands}
 use Rattle.desk_steps.specs.Founds.{keys_in, patched}
 use Rattle.desk_steps.specs.Entries.{doc_of, reach_in, FitsOn, laid, base_of, way_of, archive_of, IsKept, Standing, FitsKeys, AllFit, TradesKeys, WayFits, KeysStand}
@@ -64,10 +64,6 @@ is_document_with {A = A} q x f d = record {
 
 reached_some : (id : ℕ) (keys : FinSet key_cmp) (old new : Doc) → ReachesOneLayer id keys old new → is_some (content id new) ≡ true
 reached_some id keys old new r = ap (λ d. is_some (content id d)) r.changed ∙ ap is_some (content-with_content id r.after r.before old r.was)
-
--- the layer that was noted of gives back one
-adjusted_is : (id : ℕ) (f : Layer → Layer) (l : Layer) (doc : Doc) → IsDocument doc → content id doc ≡ Some l → adjusted id f doc ≡ with_content id (f l) doc
-adjusted_is id f l doc limits is = ap (adjusted id f) (sym (with_same id l doc (tree_distinct doc limits.tree) is)) ∙ adjusted-with_content id f l doc
 
 module _ (doc : Doc) (history : Stack Entry) (room : Bool) where
   -- the layer of the stroke under way is there
@@ -428,7 +424,3 @@ module _ (old new : Tiled) (history after : Stack Entry) (way : Option Way) (was
     future = subst (AllFit (key_stands new)) (sym u.future) (next_fit old new was is trades (drop 1 history.future) (subst (AllFit (key_stands old)) (first_is history.future was first) s.future));
     under_way = no_way way free (λ e. subst (WayFits (key_stands new)) (sym e) tt);
   }
-
--- the tiles of the first entry
-pub first_tiles : (now : Doc) (es : List Entry) (was : Entry) → take 1 es ≡ was ∷ [] → tiles_in (reach_in was) ≡ tiles_in_first (laid now es)
-first_tiles now es was first = ap (λ es. tiles_in_first (laid now es)) (sym (first_is es was first))

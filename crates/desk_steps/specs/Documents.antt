@@ -10,7 +10,6 @@ use Rattle.pixel_core.specs.Rgba.{clear}
 use Rattle.geom_core.specs.Grid.{Key}
 use Rattle.memento_core.specs.Planes.{Keyed}
 use Rattle.tile_core.specs.Pixels.{Pixels}
-use Rattle.doc_model.specs.Layers.{Layer}
 use Rattle.doc_model.specs.Forest.{Forest, each, content, adjusted}
 use Rattle.doc_model.specs.Codes.{forest_code}
 use Rattle.doc_model.specs.Picture.{Doc}

@@ -11,7 +11,7 @@ exchange-requires g c = next_there c.args.device.now c.args.notes.now c.loop-not
 pub loop-note-preserved : goal.loop-note-preserved
 loop-note-preserved g c = (
   step_up c.args.device.now c.args.notes.now c.loop-note.device c.exchange.new.self c.loop-note.notes c.loop-note.note-index c.note-item.result c.exchange.result c.replace-tile.result
-    (omega (arith, c.loop-note-test.true, c.loop-note.auto.notes)) c.exchange.ensures.old c.replace-tile.ensures.value c.exchange.ensures.new c.loop-note.invariant.0,
+      (omega (arith, c.loop-note-test.true, c.loop-note.auto.notes)) c.exchange.ensures.old c.replace-tile.ensures.value c.exchange.ensures.new c.loop-note.invariant.0,
   omega (arith, c.exchange.ensures.counts, c.loop-note.invariant.1),
 )
 

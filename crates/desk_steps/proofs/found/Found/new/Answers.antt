@@ -1,4 +1,4 @@
-use Rattle.std.proofs.Common.{◌≡◌, [], refl, sym, ap, subst, ◌∙◌}
+use Rattle.std.proofs.Common.{sym, subst}
 use Rattle.std.specs.FinSet as set
 use Rattle.geom_core.specs.Grid.{key_cmp}
 use Rattle.desk_steps.specs.Founds.{IsFound}

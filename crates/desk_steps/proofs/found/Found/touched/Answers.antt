@@ -1,4 +1,4 @@
-use Rattle.std.proofs.Common.{◌≡◌, sym, ap, ◌∙◌, subst}
+use Rattle.std.proofs.Common.{sym, ap, ◌∙◌, subst}
 use Rattle.desk_steps.specs.Archives.{HasTouched}
 use Rattle.desk_steps.specs.Founds.{keys_in}
 use Rattle.desk_steps.proofs.Traded.{keys_in-noted}

@@ -11,6 +11,6 @@ invariant_of-self-2 c =
     let past : c.commit.new.self.past ≡ entry.Whole c.self.inside.doc ∷ c.self.inside.history.past = c.commit.ensures.past ∙ (λ i. entry.Whole (c.replace-before.ensures.value i) ∷ c.in_ok-reserve.ensures.past i) in
     record {
       kept = change_kept c.self.inside.doc (doc_in c.replace-before.new.dest) c.self.inside.history c.commit.new.self c.self.inside.way c.self.inside.room c.args.change.now free
-        (c.in_ok-next.ensures.ok ∙ ap (λ d. Ok (doc_in d)) (sym c.replace-before.ensures.after)) past c.commit.ensures.future c.self.invariant.kept;
+          (c.in_ok-next.ensures.ok ∙ ap (λ d. Ok (doc_in d)) (sym c.replace-before.ensures.after)) past c.commit.ensures.future c.self.invariant.kept;
       stand = change_stands c.self.inside.doc c.replace-before.new.dest c.self.inside.history c.commit.new.self c.self.inside.way free past c.commit.ensures.future c.self.invariant.stand;
     }

@@ -17,7 +17,7 @@ invariant_of-self c =
     let w = c.args.work.now in
     record {
       kept = put_kept (doc_in c.self.inside.doc) (doc_in c.paint.new.self) c.self.inside.history c.self.inside.room c.in-Some.way c.paint.new.found w.key (painted_in w.job w.key) c.paint.ensures.back.same
-    (λ l. published_changes w.job l w.key l) c.self.inside.way c.paint.result c.in-Some.is c.paint.ensures.ok c.paint.ensures.keys c.paint.ensures.err c.paint.ensures.no_note c.self.invariant.kept;
+          (λ l. published_changes w.job l w.key l) c.self.inside.way c.paint.result c.in-Some.is c.paint.ensures.ok c.paint.ensures.keys c.paint.ensures.err c.paint.ensures.no_note c.self.invariant.kept;
       stand = put_stands (key_stands c.self.inside.doc) (key_stands c.paint.new.self) c.self.inside.history c.self.inside.way c.in-Some.way.id c.paint.new.found c.paint.ensures.back.keys c.paint.ensures.back.stand c.self.invariant.stand;
     }
 

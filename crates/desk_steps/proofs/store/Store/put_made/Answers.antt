@@ -21,8 +21,8 @@ invariant_of-self c =
     let made = c.key-key.ensures.known in
     record {
       kept = put_kept (doc_in c.self.inside.doc) (doc_in c.put.new.self) c.self.inside.history c.self.inside.room c.in-Some.way c.put.new.found made.work.key (published made.work.job (layer_of made.work.shot) made.work.key) c.put.ensures.back.same
-    (published_changes made.work.job (layer_of made.work.shot) made.work.key) c.self.inside.way c.put.result c.in-Some.is (c.put.ensures.ok made.work made.makes)
-    (more_ok c.put.result (λ e. e ∙ ap (set.insert (keys_in c.in-Some.way.found)) (key_made made.work c.args.made.now made.makes)) c.put.ensures.keys) c.put.ensures.err c.put.ensures.no_note c.self.invariant.kept;
+          (published_changes made.work.job (layer_of made.work.shot) made.work.key) c.self.inside.way c.put.result c.in-Some.is (c.put.ensures.ok made.work made.makes)
+          (more_ok c.put.result (λ e. e ∙ ap (set.insert (keys_in c.in-Some.way.found)) (key_made made.work c.args.made.now made.makes)) c.put.ensures.keys) c.put.ensures.err c.put.ensures.no_note c.self.invariant.kept;
       stand = put_stands (key_stands c.self.inside.doc) (key_stands c.put.new.self) c.self.inside.history c.self.inside.way c.in-Some.way.id c.put.new.found c.put.ensures.back.keys c.put.ensures.back.stand c.self.invariant.stand;
     }
 

@@ -24,7 +24,7 @@ invariant_of-self-2 g c =
     let lent : IsRedone c.self.inside.history (c.redo.follows.lender c.exchange.new.self) c.exchange.new.self = lent_holds c.redo.result c.in_ok-entry.entry c.in_ok-entry.was (c.redo.follows.holds c.exchange.new.self) in
     record {
       kept = redo_kept (doc_in c.self.inside.doc) (doc_in c.exchange.new.doc) c.self.inside.history (c.redo.follows.lender c.exchange.new.self) c.self.inside.way c.self.inside.room c.in_ok-entry.entry.now c.exchange.new.self
-    (ap (λ (a : Archive). a.way) c.self.view_is ∙ c.requires) c.in_ok-entry.ensures.entry lent c.exchange.ensures.doc c.exchange.ensures.back c.exchange.ensures.same c.exchange.ensures.known c.self.invariant.kept;
+          (ap (λ (a : Archive). a.way) c.self.view_is ∙ c.requires) c.in_ok-entry.ensures.entry lent c.exchange.ensures.doc c.exchange.ensures.back c.exchange.ensures.same c.exchange.ensures.known c.self.invariant.kept;
       stand = redo_stands c.self.inside.doc c.exchange.new.doc c.self.inside.history (c.redo.follows.lender c.exchange.new.self) c.self.inside.way c.in_ok-entry.entry.now c.exchange.new.self (ap (λ (a : Archive). a.way) c.self.view_is ∙ c.requires) c.exchange.ensures.keys c.self.invariant.stand c.in_ok-entry.ensures.entry lent;
     }
 
