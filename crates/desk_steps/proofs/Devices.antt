@@ -130,7 +130,7 @@ module _ (t : Forest (Unit {0})) (m n : Devices) (id : ℕ) (R : Sheet → Sheet
     | inr h ↦ kept (eqb id q) _ _ h.0 ∙ ap (λ o. layer_of (sheet_or o)) h.1 ∙ sym (kept (eqb id q) _ _ h.0)
   ]
 
-  -- what makes one of its layer and of that before makes one of the documents
+  -- where F makes of its layer what G makes of the one before, they make one document of both
   pub both_adjusted : (F G : Layer → Layer) → F (layer_of c.device) ≡ G (layer_of c.before) → adjusted id F (doc_in (filled t n)) ≡ adjusted id G (doc_in (filled t m))
   both_adjusted F G e =
       ap (adjusted id F) (doc_in-filled t n)

@@ -9,7 +9,7 @@ use Rattle.doc_model.specs.declared.tree.Change.{Change}
 use Rattle.doc_model.specs.declared.tree.Change.TheVariants as change
 use Rattle.doc_model.specs.declared.tree.TreeFault.{TreeFault}
 use Rattle.doc_model.specs.declared.tree.TreeFault.TheVariants.{Taken, NoNode, NotGroup, IntoItself, TreeFull, TooDeep, BadPlace}
-use Rattle.doc_model.specs.Forest.{Forest, none, paint, group, count, width, height, has, is_group, join, lower, upper, inserted, within, without, only, children, depth, with_look, content, adjusted, parent, or_else, each}
+use Rattle.doc_model.specs.Forest.{Forest, none, paint, group, count, width, height, has, is_group, join, lower, upper, inserted, within, without, only, children, depth, with_look, content, with_content, adjusted, parent, or_else, each}
 use Rattle.doc_model.specs.Changes.{changed, answer, first_of_faults, no_new, no_place, no_node, child_count, set_in, new_look}
 use Rattle.doc_model.proofs.SameContent.{content_has}
 use Rattle.doc_model.proofs.TreeChanges.{new_may}
@@ -103,6 +103,12 @@ content_each {A = A} g q (paint id look x rest) = go (eqb q id) refl (content_ea
     go false t e = e
 content_each g q (group id look nodes rest) = (λ i. or_else (content_each g q nodes i) (content_each g q rest i)) ∙ by_or_else (g q) (content q nodes) (content q rest)
 
+-- to set the content of one id is to have it there
+pub with_content_each : {A B : Type 0} (g h : ℕ → B) (q : ℕ) (y : B) (f : Forest A) → ((p : ℕ) → h p ≡ cond (eqb q p) y (g p)) → each (λ p x. h p) f ≡ with_content q y (each (λ p x. g p) f)
+with_content_each g h q y none e = refl
+with_content_each g h q y (paint id look x rest) e = same_paint id look (e id) (with_content_each g h q y rest e)
+with_content_each g h q y (group id look nodes rest) e = same_group id look (with_content_each g h q y nodes e) (with_content_each g h q y rest e)
+
 -- to change nothing of a content leaves the forest
 pub adjusted_nothing : {A : Type 0} (q : ℕ) (f : Forest A) → adjusted q (λ x. x) f ≡ f
 adjusted_nothing q none = refl
@@ -113,7 +119,7 @@ adjusted_nothing {A = A} q (paint id look x rest) = same_paint id look (go (eqb 
     go false = refl
 adjusted_nothing q (group id look nodes rest) = same_group id look (adjusted_nothing q nodes) (adjusted_nothing q rest)
 
--- it is there as before
+-- a content that is changed is there as before
 pub some_adjusted : {A : Type 0} (q : ℕ) (change : A → A) (f : Forest A) → is_some (content q (adjusted q change f)) ≡ is_some (content q f)
 some_adjusted q change none = refl
 some_adjusted {A = A} q change (paint id look x rest) = go (eqb q id) (some_adjusted q change rest)

@@ -9,7 +9,7 @@ use Rattle.pixel_core.specs.Rgba.{Rgba}
 use Rattle.geom_core.specs.Points.{Point}
 use Rattle.geom_core.specs.Areas.{holds, any_holds}
 use Rattle.geom_core.specs.Grid.{Key, key_cmp, key_of, same_key, tile, key_cmp_total, key_cmp-IsAntisymmetric}
-use Rattle.geom_core.proofs.Tests.{taken, kept}
+use Rattle.geom_core.proofs.Tests.{taken, kept, or_right}
 use Rattle.geom_core.proofs.Tiles.{own_tile, key_of_holder, key_same, key_is}
 use Rattle.memento_core.specs.Planes.{Keyed, tile_under}
 use Rattle.tile_core.specs.Pixels.{Pixels, pixel_or}
@@ -101,22 +101,26 @@ exchange_notes found after old new e = set.same_set key_cmp_total key_cmp-IsAnti
 pub keys_in-empty : keys_in fin.empty ≡ set.empty
 keys_in-empty = set.same_set key_cmp_total key_cmp-IsAntisymmetric _ _ (λ k. contains-keys_in fin.empty k ∙ ap is_some (fin.get-empty key_cmp k) ∙ sym (set.contains-empty key_cmp k))
 
+some_or : {A : Type 0} (b : Bool) (x : A) (o : Option A) → is_some (cond b (Some x) o) ≡ (b || is_some o)
+some_or true x o = refl
+some_or false x o = refl
+
+-- a key that comes in is there, and so are the others
+pub has-insert : (found : Keyed Pixels) (k : Key) (t : Option Pixels) (q : Key) → fin.contains_key (fin.insert found k t) q ≡ (same_key q k || fin.contains_key found q)
+has-insert found k t q = ap is_some (fin.get-insert key_cmp_total found k t q) ∙ some_or (same_key q k) t (fin.get found q)
+
 -- something is noted of a key
 module _ (found : Keyed Pixels) (k : Key) (t : Option Pixels) where
   pub has-noted_under : (q : Key) → fin.contains_key (noted_under found k t) q ≡ (same_key q k || fin.contains_key found q)
   has-noted_under q = go (fin.contains_key found k) refl
     where
-      some_or : (b : Bool) (o : Option (Option Pixels)) → is_some (cond b (Some t) o) ≡ (b || is_some o)
-      some_or true o = refl
-      some_or false o = refl
-
       own : (b : Bool) → same_key q k ≡ b → fin.contains_key found k ≡ true → fin.contains_key found q ≡ (b || fin.contains_key found q)
       own true e h = ap (fin.contains_key found) (key_same q k e) ∙ h
       own false e h = refl
 
       go : (b : Bool) → fin.contains_key found k ≡ b → fin.contains_key (cond b found (fin.insert found k t)) q ≡ (same_key q k || fin.contains_key found q)
       go true h = own (same_key q k) refl h
-      go false h = ap is_some (fin.get-insert key_cmp_total found k t q) ∙ some_or (same_key q k) (fin.get found q)
+      go false h = has-insert found k t q
 
   pub keys_in-noted_under : keys_in (noted_under found k t) ≡ set.insert (keys_in found) k
   keys_in-noted_under = set.same_set key_cmp_total key_cmp-IsAntisymmetric _ _ (λ q. contains-keys_in (noted_under found k t) q ∙ has-noted_under q
@@ -147,24 +151,13 @@ module _ (found : Keyed Pixels) (s : Sheet) (k : Key) (t : Pixels) where
       (default-patched-layer_of (noted_under found k (tile_under s.tiles k)) (with_under s k (Some t)) ∙ sym (default-patched-layer_of found s))
       (λ p. at-patched-layer_of (noted_under found k (tile_under s.tiles k)) (with_under s k (Some t)) p ∙ seen_same p ∙ sym (at-patched-layer_of found s p))
 
-  has-with_under : (q : Key) → fin.contains_key (with_under s k (Some t)).tiles q ≡ (same_key q k || fin.contains_key s.tiles q)
-  has-with_under q = ap is_some (fin.get-insert key_cmp_total s.tiles k (Some t) q) ∙ some_or (same_key q k) (fin.get s.tiles q)
-    where
-      some_or : (b : Bool) (o : Option (Option Pixels)) → is_some (cond b (Some (Some t)) o) ≡ (b || is_some o)
-      some_or true o = refl
-      some_or false o = refl
-
   pub put_back : (after : Keyed Pixels) (new : Sheet) → StandIn found (Some s) → new ≡ with_under s k (Some t) → after ≡ noted_under found k (tile_under s.tiles k) → GivesBack found after s new
   put_back after new stand is more = record {
     same = (λ i. patched (more i) (layer_of (is i))) ∙ patched_same;
-    keys = λ q h. ap (λ (s : Sheet). fin.contains_key s.tiles q) is ∙ has-with_under q ∙ right (same_key q k) _ h;
-    stand = λ q h. ap (λ (s : Sheet). fin.contains_key s.tiles q) is ∙ has-with_under q ∙ either (same_key q k) _ _ (stand q) (sym (has-noted_under found k (tile_under s.tiles k) q) ∙ ap (λ f. fin.contains_key f q) (sym more) ∙ h);
+    keys = λ q h. ap (λ (s : Sheet). fin.contains_key s.tiles q) is ∙ has-insert s.tiles k (Some t) q ∙ or_right (same_key q k) _ h;
+    stand = λ q h. ap (λ (s : Sheet). fin.contains_key s.tiles q) is ∙ has-insert s.tiles k (Some t) q ∙ either (same_key q k) _ _ (stand q) (sym (has-noted_under found k (tile_under s.tiles k) q) ∙ ap (λ f. fin.contains_key f q) (sym more) ∙ h);
   }
     where
-      right : (a b : Bool) → b ≡ true → (a || b) ≡ true
-      right true b h = refl
-      right false b h = h
-
       either : (a b c : Bool) → (b ≡ true → c ≡ true) → (a || b) ≡ true → (a || c) ≡ true
       either true b c f h = refl
       either false b c f h = f h
@@ -176,13 +169,9 @@ same_back found old new stand e keys = record { same = ap (patched found) e; key
 has-readied : (s : Sheet) (k q : Key) → fin.contains_key s.tiles q ≡ true → fin.contains_key (readied s k).tiles q ≡ true
 has-readied s k q h = go (fin.contains_key s.tiles k)
   where
-    some_either : (b : Bool) (o : Option (Option Pixels)) → is_some o ≡ true → is_some (cond b (Some None) o) ≡ true
-    some_either true o e = refl
-    some_either false o e = e
-
     go : (b : Bool) → fin.contains_key (cond b s (with_under s k None)).tiles q ≡ true
     go true = h
-    go false = ap is_some (fin.get-insert key_cmp_total s.tiles k None q) ∙ some_either (same_key q k) (fin.get s.tiles q) h
+    go false = has-insert s.tiles k None q ∙ or_right (same_key q k) _ h
 
 -- a key comes in
 pub ready_back : (found : Keyed Pixels) (s new : Sheet) (k : Key) → StandIn found (Some s) → new ≡ readied s k → GivesBack found found s new

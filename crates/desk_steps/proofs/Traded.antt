@@ -1,12 +1,12 @@
 -- Notes, and their exchange with what stands under their keys.
 use Rattle.std.proofs.Common.{◌≡◌, ℕ, suc, ◌+◌, ◌≤◌, ◌<◌, Bool, true, false, ◌||◌, cond, Option, Some, None, is_some, List, [], ◌∷◌, ◌++◌, length, take, drop, refl, sym, ap, ◌∙◌, subst, arith, length-append, get_or, set}
 use Rattle.std.specs.Prelude.{map}
-use Rattle.std.proofs.lemmas.List.{drop_more, drop-set-lt, take_more_set, drop_all, take_all}
+use Rattle.std.proofs.lemmas.List.{drop_more, drop-set-lt, take_more_set, drop_all, take_all, append_assoc, append-nil}
 use Rattle.std.specs.Option.{unwrap_or}
 use Rattle.std.specs.FinMap as fin
 use Rattle.std.specs.FinSet as set
 use Rattle.geom_core.specs.Grid.{Key, key_cmp, same_key, key_cmp_total, key_cmp-IsAntisymmetric}
-use Rattle.geom_core.proofs.Tests.{taken, kept, none_left, none_right, is_some-None}
+use Rattle.geom_core.proofs.Tests.{taken, kept, none_left, none_right, or_left, or_right, is_some-None}
 use Rattle.geom_core.proofs.Tiles.{key_same, key_is}
 use Rattle.memento_core.specs.Planes.{Keyed, tile_under}
 use Rattle.tile_core.specs.Pixels.{Pixels}
@@ -14,14 +14,7 @@ use Rattle.paint_device.specs.Sheets.{Sheet, with_under}
 use Rattle.desk_steps.specs.declared.found.Note.{Note}
 use Rattle.desk_steps.specs.Founds.{Exchanges, IsEachOnce, IsFound, StandIn, keys_in, keys_noted, noted}
 use Rattle.desk_steps.proofs.Devices.{false-true}
-use Rattle.desk_steps.proofs.Patched.{contains-keys_in}
-
-some_or : {A : Type 0} (b : Bool) (x : A) (o : Option A) → is_some (cond b (Some x) o) ≡ (b || is_some o)
-some_or true x o = refl
-some_or false x o = refl
-
-has-insert : (found : Keyed Pixels) (k : Key) (t : Option Pixels) (q : Key) → fin.contains_key (fin.insert found k t) q ≡ (same_key q k || fin.contains_key found q)
-has-insert found k t q = ap is_some (fin.get-insert key_cmp_total found k t q) ∙ some_or (same_key q k) t (fin.get found q)
+use Rattle.desk_steps.proofs.Patched.{contains-keys_in, has-insert}
 
 -- the keys of notes are those of which something was noted
 pub has-noted : (ns : List Note) (q : Key) → fin.contains_key (noted ns) q ≡ set.contains {R = key_cmp} (set.from_list (keys_noted ns)) q
@@ -90,23 +83,11 @@ AllThere s (n ∷ ns) = (fin.contains_key s.tiles n.key ≡ true) × AllThere s 
 
 pub all_there : (ns : List Note) (s : Sheet) → StandIn (noted ns) (Some s) → AllThere s ns
 all_there [] s stand = tt
-all_there (n ∷ ns) s stand = (stand n.key (has-insert (noted ns) n.key n.tile n.key ∙ left _ _ (key_is n.key n.key refl)), all_there ns s (λ q h. stand q (has-insert (noted ns) n.key n.tile q ∙ right (same_key q n.key) _ h)))
-  where
-    left : (a b : Bool) → a ≡ true → (a || b) ≡ true
-    left true b h = refl
-    left false b h = false-true h
-
-    right : (a b : Bool) → b ≡ true → (a || b) ≡ true
-    right true b h = refl
-    right false b h = h
+all_there (n ∷ ns) s stand = (stand n.key (has-insert (noted ns) n.key n.tile n.key ∙ or_left _ _ (key_is n.key n.key refl)), all_there ns s (λ q h. stand q (has-insert (noted ns) n.key n.tile q ∙ or_right (same_key q n.key) _ h)))
 
 still_there : (ns : List Note) (s : Sheet) (k : Key) (t : Option Pixels) → AllThere s ns → AllThere (with_under s k t) ns
 still_there [] s k t h = tt
-still_there (n ∷ ns) s k t h = (has-insert s.tiles k t n.key ∙ right (same_key n.key k) _ h.0, still_there ns s k t h.1)
-  where
-    right : (a b : Bool) → b ≡ true → (a || b) ≡ true
-    right true b h = refl
-    right false b h = h
+still_there (n ∷ ns) s k t h = (has-insert s.tiles k t n.key ∙ or_right (same_key n.key k) _ h.0, still_there ns s k t h.1)
 
 some_under : (o : Option (Option Pixels)) → is_some o ≡ true → Some (unwrap_or o None) ≡ o
 some_under None h = false-true h
@@ -168,26 +149,18 @@ pub record LaidUpTo (old : Sheet) (all : List Note) (now : Sheet) (front rest : 
 pub none_yet : (old : Sheet) (all : List Note) → StandIn (noted all) (Some old) → LaidUpTo old all old [] all
 none_yet old all stand = record { device = refl; notes = refl; there = all_there all old stand }
 
-append_again : {A : Type 0} (xs ys zs : List A) → (xs ++ ys) ++ zs ≡ xs ++ (ys ++ zs)
-append_again [] ys zs = refl
-append_again (x ∷ xs) ys zs = ap (λ l. x ∷ l) (append_again xs ys zs)
-
 pub one_up : (old : Sheet) (all : List Note) (now : Sheet) (front rest : List Note) (n : Note) → LaidUpTo old all now front (n ∷ rest)
     → LaidUpTo old all (with_under now n.key n.tile) (front ++ (record { key = n.key; tile = tile_under now.tiles n.key }) ∷ []) rest
 unfolding put_all lifted
 one_up old all now front rest n so = record {
   device = so.device;
-  notes = append_again front _ _ ∙ so.notes;
+  notes = append_assoc front _ _ ∙ so.notes;
   there = still_there rest now n.key n.tile so.there.1;
 }
 
-append_none : {A : Type 0} (xs : List A) → xs ≡ xs ++ []
-append_none [] = refl
-append_none (x ∷ xs) = ap (λ l. x ∷ l) (append_none xs)
-
 pub all_up : (old : Sheet) (all : List Note) (now : Sheet) (front rest : List Note) → rest ≡ [] → LaidUpTo old all now front rest → (now ≡ put_all old all) × (front ≡ lifted old all)
 unfolding put_all lifted
-all_up old all now front [] e so = (so.device, append_none front ∙ so.notes)
+all_up old all now front [] e so = (so.device, sym (append-nil front) ∙ so.notes)
 all_up old all now front (n ∷ rest) e so = absurd (no e)
   where
     no : {A : Type 0} {x : A} {xs : List A} → x ∷ xs ≡ [] → ⊥

@@ -85,7 +85,8 @@ impl Store {
         Ok(())
     }
 
-    /// Begins a stroke on a paint layer. Where the id is none, nothing begins.
+    /// Begins a stroke on a paint layer. Where the id is none, nothing begins. It takes no memory yet,
+    /// however many tiles the layer has.
     pub fn begin(&mut self, layer: u16) -> Result<Begun, NoMemory>
         requires { self.old.way ≡ None }
         ensures ready { result ≡ Ok Ready → (is_some (content layer self.old.present) ≡ true) × (self.new ≡ record self.old { way = Some (layer, set.empty) }) }
