@@ -1,8 +1,9 @@
 -- A store's invariant through its calls.
-use Rattle.std.proofs.Common.{◌≡◌, ℕ, suc, ◌≤◌, Bool, true, false, ◌&&◌, ◌||◌, cond, max, Option, Some, None, is_some, Result, Ok, Err, List, [], ◌∷◌, take, drop, refl, sym, ap, ◌∙◌, subst, arith, eqb}
+use Rattle.std.proofs.Common.{◌≡◌, ℕ, suc, ◌≤◌, Bool, true, false, ◌&&◌, ◌||◌, cond, max, Option, Some, None, is_some, Result, Ok, Err, List, [], ◌∷◌, take, drop, refl, sym, ap, ◌∙◌, subst, arith}
 use Rattle.std.specs.Prelude.{◌≢◌, OnOk, OnErr, OnSome, IfOk, IfSome, IfNone}
 use Rattle.std.specs.Borrow.{Bor}
 use Rattle.std.specs.Option.{option_copied, unwrap_or}
+use Rattle.std.specs.FinMap as map
 use Rattle.std.specs.FinSet as set
 use Rattle.std.specs.FinSet.{FinSet}
 use Rattle.pixel_core.specs.Rgba.{clear}
@@ -14,7 +15,7 @@ use Rattle.geom_core.proofs.Tests.{none_left, none_right, kept}
 use Rattle.geom_core.proofs.Tiles.{key_same}
 use Rattle.tile_core.specs.Pixels.{Pixels, pixel_at, pixel_or}
 use Rattle.tile_core.specs.Shots.{Sight, sight_at}
-use Rattle.memento_core.specs.Planes.{tile_under}
+use Rattle.memento_core.specs.Planes.{Keyed, tile_under}
 use Rattle.doc_model.specs.declared.tree.Change.{Change}
 use Rattle.doc_model.specs.Layers.{Layer, at, plain, layer_ext, at-painted, default-painted, at-plain, default-plain}
 use Rattle.doc_model.specs.declared.job.Job.{Job}
@@ -39,10 +40,14 @@ use Rattle.history_core.specs.Stacks.{Stack, IsUndone, IsRedone}
 use Rattle.desk_steps.specs.declared.entry.Entry.{Entry}
 use Rattle.desk_steps.specs.declared.entry.Entry.TheVariants as entry
 use Rattle.desk_steps.specs.declared.entry.Way.{Way}
-use Rattle.desk_steps.specs.Archives.{Archive, IsUnderWay, layer_under_way, undone, redone}
-use Rattle.desk_steps.specs.Entries.{doc_of, reach_in, FitsOn, laid, base_of, way_of, archive_of, IsKept}
+use Rattle.desk_steps.specs.Archives.{Archive, IsUnderWay, layer_under_way, reverted, undone, redone}
+use Rattle.desk_steps.specs.Documents.{Tiled, doc_in, key_stands}
+use Rattle.desk_steps.specs.Founds.{keys_in, patched}
+use Rattle.desk_steps.specs.Entries.{doc_of, reach_in, FitsOn, laid, base_of, way_of, archive_of, IsKept, Standing, FitsKeys, AllFit, TradesKeys, WayFits, KeysStand}
+use Rattle.desk_steps.proofs.Filled.{adjusted_nothing}
 use Rattle.desk_steps.proofs.Devices.{false-true}
-use Rattle.desk_steps.proofs.Exchanged.{fits_new, fits_old, laid_back, laid_take, past_take}
+use Rattle.desk_steps.proofs.Patched.{patched-empty, keys_in-empty}
+use Rattle.desk_steps.proofs.Exchanged.{fits_new, fits_old, laid_back, laid_take, past_take, more_fit, same_fit, take_fit, next_fit, back_fit}
 
 -- another content keeps a document within the limits
 pub is_document_with : {A : Type 0} (q : ℕ) (x : A) (f : Forest A) → IsDocument f → IsDocument (with_content q x f)
@@ -63,15 +68,15 @@ reached_some id keys old new r = ap (λ d. is_some (content id d)) r.changed ∙
 module _ (doc : Doc) (history : Stack Entry) (room : Bool) where
   -- the layer of the stroke under way is there
   pub way_there : (way : Option Way) (w : Way) → way ≡ Some w → IsKept doc history way room → is_some (content w.id doc) ≡ true
-  way_there way w e k = reached_some w.id w.keys (with_content w.id (layer_of w.before) doc) doc (subst (λ v. IsUnderWay (way_of v) (base_of v doc) doc) e k.archive.under_way)
+  way_there way w e k = reached_some w.id (keys_in w.found) (adjusted w.id (patched w.found) doc) doc (subst (λ v. IsUnderWay (way_of v) (base_of v doc) doc) e k.archive.under_way)
 
   present_document : (w : Way) → IsKept doc history (Some w) room → IsDocument doc
   present_document w k =
       let r = k.archive.under_way in
-      subst IsDocument (sym r.changed) (is_document_with w.id r.after (with_content w.id (layer_of w.before) doc) k.archive.limits)
+      subst IsDocument (sym r.changed) (is_document_with w.id r.after (adjusted w.id (patched w.found) doc) k.archive.limits)
 
   -- a finished stroke is the newest change
-  pub finish_kept : (way after : Option Way) (w : Way) (new : Stack Entry) → way ≡ Some w → after ≡ None → new.past ≡ entry.Layer w.id w.keys w.before ∷ history.past → new.future ≡ []
+  pub finish_kept : (way after : Option Way) (w : Way) (new : Stack Entry) → way ≡ Some w → after ≡ None → new.past ≡ entry.Layer w.id w.found ∷ history.past → new.future ≡ []
       → IsKept doc history way room → IsKept doc new after false
   finish_kept way after w new is gone past future k =
       let s : IsKept doc history (Some w) room = subst (λ v. IsKept doc history v room) is k in
@@ -103,23 +108,26 @@ module _ (doc : Doc) (history : Stack Entry) (room : Bool) where
       ∙ ap (λ (a : Archive). record a { past = take n a.past }) view
 
   -- a stroke begins on a layer
-  pub begin_kept : (way : Option Way) (id : ℕ) (keys : FinSet key_cmp) (device before : Sheet) → way_of way ≡ None → content id doc ≡ Some (layer_of device) → keys ≡ set.empty → before ≡ device
-      → IsKept doc history way room → IsKept doc history (Some (record { id = id; keys = keys; before = before })) room
-  begin_kept (Some w) id keys device before free is empty same k = absurd (no_way free)
+  begun_base : (id : ℕ) (found : Keyed Pixels) → found ≡ map.empty → adjusted id (patched found) doc ≡ doc
+  begun_base id found empty = (λ i. adjusted id (λ l. (ap (λ f. patched f l) empty ∙ patched-empty l) i) doc) ∙ adjusted_nothing id doc
+
+  pub begin_kept : (way : Option Way) (id : ℕ) (found : Keyed Pixels) (l : Layer) → way_of way ≡ None → content id doc ≡ Some l → found ≡ map.empty
+      → IsKept doc history way room → IsKept doc history (Some (record { id = id; found = found })) room
+  begin_kept (Some w) id found l free is empty k = absurd (no_way free)
     where
       no_way : {A : Type 0} {x : A} → Some x ≡ None → ⊥
       no_way e = cc
-  begin_kept None id keys device before free is empty same k =
-      let base : with_content id (layer_of before) doc ≡ doc = ap (λ s. with_content id (layer_of s) doc) same ∙ with_same id (layer_of device) doc (tree_distinct doc k.archive.limits.tree) is in
+  begin_kept None id found l free is empty k =
+      let base : adjusted id (patched found) doc ≡ doc = begun_base id found empty in
       record {
         archive = record {
           past_reaches = subst (λ d. PastReaches (laid d history.past) d) (sym base) k.archive.past_reaches;
           future_reaches = subst (λ d. FutureReaches d (laid d history.future)) (sym base) k.archive.future_reaches;
-          under_way = subst (λ d. ReachesOneLayer id keys d doc) (sym base) (record {
-            before = layer_of device;
-            after = layer_of device;
+          under_way = subst (λ d. ReachesOneLayer id (keys_in found) d doc) (sym base) (record {
+            before = l;
+            after = l;
             was = is;
-            changed = sym (with_same id (layer_of device) doc (tree_distinct doc k.archive.limits.tree) is);
+            changed = sym (with_same id l doc (tree_distinct doc k.archive.limits.tree) is);
             within = record { default_pixel = refl; pixels = λ p e. refl };
           });
           limits = subst IsDocument (sym base) k.archive.limits;
@@ -127,9 +135,9 @@ module _ (doc : Doc) (history : Stack Entry) (room : Bool) where
         spare = k.spare;
       }
 
-  pub begun_is : (way : Option Way) (id : ℕ) (keys : FinSet key_cmp) (device before : Sheet) (old : Archive) → old.way ≡ None → content id doc ≡ Some (layer_of device) → keys ≡ set.empty → before ≡ device
-      → IsKept doc history way room → archive_of doc history way room ≡ old → archive_of doc history (Some (record { id = id; keys = keys; before = before })) room ≡ record old { way = Some (id, set.empty) }
-  begun_is way id keys device before old free is empty same k view = go way k view (ap (λ (a : Archive). a.way) view ∙ free)
+  pub begun_is : (way : Option Way) (id : ℕ) (found : Keyed Pixels) (old : Archive) → old.way ≡ None → found ≡ map.empty
+      → archive_of doc history way room ≡ old → archive_of doc history (Some (record { id = id; found = found })) room ≡ record old { way = Some (id, set.empty) }
+  begun_is way id found old free empty view = go way view (ap (λ (a : Archive). a.way) view ∙ free)
     where
       no_way : {A B : Type 0} {x : A} → Some x ≡ None → B
       no_way e = absurd (never e)
@@ -137,22 +145,24 @@ module _ (doc : Doc) (history : Stack Entry) (room : Bool) where
           never : {A : Type 0} {x : A} → Some x ≡ None → ⊥
           never e = cc
 
-      go : (way : Option Way) → IsKept doc history way room → archive_of doc history way room ≡ old → way_of way ≡ None → archive_of doc history (Some (record { id = id; keys = keys; before = before })) room ≡ record old { way = Some (id, set.empty) }
-      go (Some w) k view e = no_way e
-      go None k view e =
-          let base : with_content id (layer_of before) doc ≡ doc = ap (λ s. with_content id (layer_of s) doc) same ∙ with_same id (layer_of device) doc (tree_distinct doc k.archive.limits.tree) is in
-          (λ i. record { past = laid (base i) history.past; base = base i; present = doc; future = laid (base i) history.future; way = Some (id, empty i); room = room })
+      go : (way : Option Way) → archive_of doc history way room ≡ old → way_of way ≡ None → archive_of doc history (Some (record { id = id; found = found })) room ≡ record old { way = Some (id, set.empty) }
+      go (Some w) view e = no_way e
+      go None view e =
+          let base : adjusted id (patched found) doc ≡ doc = begun_base id found empty in
+          (λ i. record { past = laid (base i) history.past; base = base i; present = doc; future = laid (base i) history.future; way = Some (id, (ap keys_in empty ∙ keys_in-empty) i); room = room })
           ∙ ap (λ (a : Archive). record a { way = Some (id, set.empty) }) view
 
--- what was put of the stroke under way is not in the document from before it
-with_adjusted : {A : Type 0} (q : ℕ) (x : A) (f : A → A) (t : Forest A) → with_content q x (adjusted q f t) ≡ with_content q x t
-with_adjusted q x f none = refl
-with_adjusted {A = A} q x f (paint id look y rest) = λ i. paint id look (again (eqb q id) (f y) i) (with_adjusted q x f rest i)
-  where
-    again : (b : Bool) (z : A) → cond b x (cond b z y) ≡ cond b x y
-    again true z = refl
-    again false z = refl
-with_adjusted q x f (group id look nodes rest) = λ i. group id look (with_adjusted q x f nodes i) (with_adjusted q x f rest i)
+  -- a stroke is taken back
+  pub revert_kept : (way after : Option Way) (w : Way) (new : Doc) → way ≡ Some w → after ≡ None → new ≡ adjusted w.id (patched w.found) doc → IsKept doc history way room → IsKept new history after room
+  revert_kept way after w new is gone back k =
+      let s : IsKept doc history (Some w) room = subst (λ v. IsKept doc history v room) is k in
+      subst (λ v. IsKept new history v room) (sym gone) (subst (λ d. IsKept d history None room) (sym back) (record {
+        archive = record { past_reaches = s.archive.past_reaches; future_reaches = s.archive.future_reaches; under_way = refl; limits = s.archive.limits };
+        spare = s.spare;
+      }))
+
+  pub reverted_is : (way after : Option Way) (w : Way) (new : Doc) (old : Archive) → way ≡ Some w → after ≡ None → new ≡ adjusted w.id (patched w.found) doc → archive_of doc history way room ≡ old → archive_of new history after room ≡ reverted old
+  reverted_is way after w new old is gone back view = (λ i. archive_of (back i) history (gone i) room) ∙ ap reverted (ap (λ v. archive_of doc history v room) (sym is) ∙ view)
 
 -- only pixels of one tile change
 pub record ChangesTile (key : Key) (old new : Layer) : Type 0 where
@@ -178,22 +188,21 @@ put_within keys key before after new c d = record {
       d.pixels p (none_right (same_key (key_of p) key) _ e) ∙ sym (c.pixels p (none_left (same_key (key_of p) key) _ e));
 }
 
--- a tile of the stroke's layer is changed
-module _ (doc new : Doc) (history : Stack Entry) (room : Bool) (w : Way) (keys : FinSet key_cmp) (key : Key) (f : Layer → Layer) where
-  put_done : ((l : Layer) → ChangesTile key l (f l)) → new ≡ adjusted w.id f doc → keys ≡ set.insert w.keys key → IsKept doc history (Some w) room → IsKept new history (Some (record { id = w.id; keys = keys; before = w.before })) room
+-- a tile of the stroke's layer is changed, and what was noted gives back the same document
+module _ (doc new : Doc) (history : Stack Entry) (room : Bool) (w : Way) (found : Keyed Pixels) (key : Key) (f : Layer → Layer) (base : adjusted w.id (patched found) new ≡ adjusted w.id (patched w.found) doc) where
+  put_done : ((l : Layer) → ChangesTile key l (f l)) → new ≡ adjusted w.id f doc → keys_in found ≡ set.insert (keys_in w.found) key → IsKept doc history (Some w) room → IsKept new history (Some (record { id = w.id; found = found })) room
   put_done changes is more k =
-      let base : with_content w.id (layer_of w.before) new ≡ with_content w.id (layer_of w.before) doc = ap (with_content w.id (layer_of w.before)) is ∙ with_adjusted w.id (layer_of w.before) _ doc in
       let r = k.archive.under_way in
       record {
         archive = record {
           past_reaches = subst (λ d. PastReaches (laid d history.past) d) (sym base) k.archive.past_reaches;
           future_reaches = subst (λ d. FutureReaches d (laid d history.future)) (sym base) k.archive.future_reaches;
-          under_way = subst (λ d. ReachesOneLayer w.id keys d new) (sym base) (record {
+          under_way = subst (λ d. ReachesOneLayer w.id (keys_in found) d new) (sym base) (record {
             before = r.before;
             after = f r.after;
             was = r.was;
             changed = is ∙ ap (adjusted w.id f) r.changed ∙ adjusted-with_content w.id f r.after _;
-            within = subst (λ ks. DifferWithin ks r.before (f r.after)) (sym more) (put_within w.keys key r.before r.after (f r.after) (changes r.after) r.within);
+            within = subst (λ ks. DifferWithin ks r.before (f r.after)) (sym more) (put_within (keys_in w.found) key r.before r.after (f r.after) (changes r.after) r.within);
           });
           limits = subst IsDocument (sym base) k.archive.limits;
         };
@@ -201,20 +210,19 @@ module _ (doc new : Doc) (history : Stack Entry) (room : Bool) (w : Way) (keys :
       }
 
   -- whether it was changed or not
-  pub put_kept : ((l : Layer) → ChangesTile key l (f l)) → (way : Option Way) (r : Result (Unit {0}) NoMemory) → way ≡ Some w → OnOk r (new ≡ adjusted w.id f doc) → OnOk r (keys ≡ set.insert w.keys key) → OnErr r (new ≡ doc) → OnErr r (keys ≡ w.keys)
-      → IsKept doc history way room → IsKept new history (Some (record { id = w.id; keys = keys; before = w.before })) room
+  pub put_kept : ((l : Layer) → ChangesTile key l (f l)) → (way : Option Way) (r : Result (Unit {0}) NoMemory) → way ≡ Some w → OnOk r (new ≡ adjusted w.id f doc) → OnOk r (keys_in found ≡ set.insert (keys_in w.found) key) → OnErr r (new ≡ doc) → OnErr r (found ≡ w.found)
+      → IsKept doc history way room → IsKept new history (Some (record { id = w.id; found = found })) room
   put_kept changes way (Ok x) is ok more err same k = put_done changes ok more (subst (λ v. IsKept doc history v room) is k)
   put_kept changes way (Err x) is ok more err same k =
-      subst (λ d. IsKept d history (Some (record { id = w.id; keys = keys; before = w.before })) room) (sym err)
-      (subst (λ ks. IsKept doc history (Some (record { id = w.id; keys = ks; before = w.before })) room) (sym same) (subst (λ v. IsKept doc history v room) is k))
+      subst (λ d. IsKept d history (Some (record { id = w.id; found = found })) room) (sym err)
+      (subst (λ f. IsKept doc history (Some (record { id = w.id; found = f })) room) (sym same) (subst (λ v. IsKept doc history v room) is k))
 
   -- and the store is what g says, which puts the tile on the layer under way
   pub put_is : (g : Archive → Archive) (way : Option Way) (old : Archive)
-      → g (archive_of doc history (Some w) room) ≡ record (archive_of doc history (Some w) room) { present = adjusted w.id f doc; way = Some (w.id, set.insert w.keys key) }
-      → way ≡ Some w → new ≡ adjusted w.id f doc → keys ≡ set.insert w.keys key → archive_of doc history way room ≡ old
-      → archive_of new history (Some (record { id = w.id; keys = keys; before = w.before })) room ≡ g old
+      → g (archive_of doc history (Some w) room) ≡ record (archive_of doc history (Some w) room) { present = adjusted w.id f doc; way = Some (w.id, set.insert (keys_in w.found) key) }
+      → way ≡ Some w → new ≡ adjusted w.id f doc → keys_in found ≡ set.insert (keys_in w.found) key → archive_of doc history way room ≡ old
+      → archive_of new history (Some (record { id = w.id; found = found })) room ≡ g old
   put_is g way old here e is more view =
-      let base : with_content w.id (layer_of w.before) new ≡ with_content w.id (layer_of w.before) doc = ap (with_content w.id (layer_of w.before)) is ∙ with_adjusted w.id (layer_of w.before) _ doc in
       (λ i. record { past = laid (base i) history.past; base = base i; present = is i; future = laid (base i) history.future; way = Some (w.id, more i); room = room })
       ∙ sym here ∙ ap g (ap (λ v. archive_of doc history v room) (sym e) ∙ view)
 
@@ -226,17 +234,17 @@ no_way (Some w) e f = absurd (never e)
     never e = cc
 
 -- a change of the tree is the newest one
-pub change_kept : (doc next : Doc) (history new : Stack Entry) (way : Option Way) (room : Bool) (change : Change) → way_of way ≡ None → changed plain change doc ≡ Ok next → new.past ≡ entry.Whole doc ∷ history.past → new.future ≡ []
-    → IsKept doc history way room → IsKept next new way false
-change_kept doc next history new way room change free made past future k = no_way way free (λ e. subst (λ v. IsKept next new v false) (sym e) (go (subst (λ v. IsKept doc history v room) e k)))
+pub change_kept : (doc : Tiled) (next : Doc) (history new : Stack Entry) (way : Option Way) (room : Bool) (change : Change) → way_of way ≡ None → changed plain change (doc_in doc) ≡ Ok next → new.past ≡ entry.Whole doc ∷ history.past → new.future ≡ []
+    → IsKept (doc_in doc) history way room → IsKept next new way false
+change_kept doc next history new way room change free made past future k = no_way way free (λ e. subst (λ v. IsKept next new v false) (sym e) (go (subst (λ v. IsKept (doc_in doc) history v room) e k)))
   where
-    go : IsKept doc history None room → IsKept next new None false
+    go : IsKept (doc_in doc) history None room → IsKept next new None false
     go s = record {
       archive = record {
         past_reaches = subst (λ es. PastReaches (laid next es) next) (sym past) (tt, s.archive.past_reaches);
         future_reaches = subst (λ es. FutureReaches next (laid next es)) (sym future) tt;
         under_way = refl;
-        limits = changes_keep_limits change doc next made s.archive.limits;
+        limits = changes_keep_limits change (doc_in doc) next made s.archive.limits;
       };
       spare = λ e. false-true e;
     }
@@ -359,3 +367,60 @@ pub shot_told : (r : Result Sight NoMemory) (d : Sheet) (rects : List Area) (l :
     → IfOk r (λ s. (p : Point) → any_holds rects p ≡ true → sight_at s p ≡ sheet_at d p) → IfOk r (λ s. paints.layer_of s ≡ shot_of rects l)
 shot_told (Ok s) d rects l e default rects_are pixels = shot_is s d rects default rects_are pixels ∙ ap (shot_of rects) (sym e)
 shot_told (Err x) d rects l e default rects_are pixels = tt
+
+-- the keys that were noted stand: of a stroke that begins
+pub begin_stands : (ks : Standing) (history : Stack Entry) (way : Option Way) (id : ℕ) (found : Keyed Pixels) → found ≡ map.empty → KeysStand ks history way → KeysStand ks history (Some (record { id = id; found = found }))
+begin_stands ks history way id found empty s = record { past = s.past; future = s.future; under_way = λ k h. false-true (sym (ap (λ f. map.contains_key f k) empty ∙ ap is_some (map.get-empty key_cmp k)) ∙ h) }
+
+-- of the stroke under way
+pub way_stands : (ks : Standing) (history : Stack Entry) (way : Option Way) (w : Way) → way ≡ Some w → KeysStand ks history way → (k : Key) → map.contains_key w.found k ≡ true → ks w.id k ≡ true
+way_stands ks history way w is s = subst (WayFits ks) is s.under_way
+
+-- once more keys stand
+pub put_stands : (ks more : Standing) (history : Stack Entry) (way : Option Way) (id : ℕ) (found : Keyed Pixels) → ((q : ℕ) (k : Key) → ks q k ≡ true → more q k ≡ true) → ((k : Key) → map.contains_key found k ≡ true → more id k ≡ true)
+    → KeysStand ks history way → KeysStand more history (Some (record { id = id; found = found }))
+put_stands ks more history way id found grows own s = record { past = more_fit ks more grows history.past s.past; future = more_fit ks more grows history.future s.future; under_way = own }
+
+-- once the stroke is finished
+pub finish_stands : (ks : Standing) (history new : Stack Entry) (way after : Option Way) (w : Way) → way ≡ Some w → after ≡ None → new.past ≡ entry.Layer w.id w.found ∷ history.past → new.future ≡ [] → KeysStand ks history way → KeysStand ks new after
+finish_stands ks history new way after w is gone past future s = record {
+  past = subst (AllFit ks) (sym past) (way_stands ks history way w is s, s.past);
+  future = subst (AllFit ks) (sym future) tt;
+  under_way = subst (WayFits ks) (sym gone) tt;
+}
+
+-- or taken back
+pub revert_stands : (ks others : Standing) (history : Stack Entry) (way after : Option Way) → after ≡ None → ((q : ℕ) (k : Key) → others q k ≡ ks q k) → KeysStand ks history way → KeysStand others history after
+revert_stands ks others history way after gone same s = record { past = same_fit ks others same history.past s.past; future = same_fit ks others same history.future s.future; under_way = subst (WayFits others) (sym gone) tt }
+
+-- after a change of the tree
+pub change_stands : (doc next : Tiled) (history new : Stack Entry) (way : Option Way) → way_of way ≡ None → new.past ≡ entry.Whole doc ∷ history.past → new.future ≡ [] → KeysStand (key_stands doc) history way → KeysStand (key_stands next) new way
+change_stands doc next history new way free past future s = record {
+  past = subst (AllFit (key_stands next)) (sym past) (tt, s.past);
+  future = subst (AllFit (key_stands next)) (sym future) tt;
+  under_way = no_way way free (λ e. subst (WayFits (key_stands next)) (sym e) tt);
+}
+
+-- after a purge
+pub purge_stands : (ks : Standing) (history new : Stack Entry) (way : Option Way) (n : ℕ) → new.past ≡ take n history.past → new.future ≡ history.future → KeysStand ks history way → KeysStand ks new way
+purge_stands ks history new way n past future s = record { past = subst (AllFit ks) (sym past) (take_fit n ks history.past s.past); future = subst (AllFit ks) (sym future) s.future; under_way = s.under_way }
+
+-- of the entry that is to be exchanged
+pub first_stands : (ks : Standing) (es : List Entry) (was : Entry) → take 1 es ≡ was ∷ [] → AllFit ks es → FitsKeys ks was
+first_stands ks es was first h = (subst (AllFit ks) (first_is es was first) h).0
+
+-- and after it was
+module _ (old new : Tiled) (history after : Stack Entry) (way : Option Way) (was is : Entry) (free : way_of way ≡ None) (trades : TradesKeys old new was is) (s : KeysStand (key_stands old) history way) where
+  pub undo_stands : take 1 history.past ≡ was ∷ [] → IsUndone history after is → KeysStand (key_stands new) after way
+  undo_stands first u = record {
+    past = subst (AllFit (key_stands new)) (sym u.past) (next_fit old new was is trades (drop 1 history.past) (subst (AllFit (key_stands old)) (first_is history.past was first) s.past));
+    future = subst (AllFit (key_stands new)) (sym u.future) (back_fit old new was is trades history.future s.future);
+    under_way = no_way way free (λ e. subst (WayFits (key_stands new)) (sym e) tt);
+  }
+
+  pub redo_stands : take 1 history.future ≡ was ∷ [] → IsRedone history after is → KeysStand (key_stands new) after way
+  redo_stands first u = record {
+    past = subst (AllFit (key_stands new)) (sym u.past) (back_fit old new was is trades history.past s.past);
+    future = subst (AllFit (key_stands new)) (sym u.future) (next_fit old new was is trades (drop 1 history.future) (subst (AllFit (key_stands old)) (first_is history.future was first) s.future));
+    under_way = no_way way free (λ e. subst (WayFits (key_stands new)) (sym e) tt);
+  }

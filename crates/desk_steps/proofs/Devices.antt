@@ -1,9 +1,9 @@
 -- A document as its tree and devices.
-use Rattle.std.proofs.Common.{◌≡◌, ℕ, ◌+◌, List, [], ◌∷◌, Bool, true, false, ◌||◌, ◌&&◌, not, cond, Option, Some, None, is_some, Result, Ok, Err, refl, sym, ap, ◌∙◌, arith, eqb}
+use Rattle.std.proofs.Common.{◌≡◌, ℕ, ◌+◌, List, [], ◌∷◌, Bool, true, false, ◌||◌, ◌&&◌, not, cond, Option, Some, None, is_some, Result, Ok, Err, refl, sym, ap, ◌∙◌, subst, arith, eqb, ◌⊎◌, inl, inr}
 use Rattle.std.proofs.lemmas.Bool.Decides.{nat_tests}
 use Rattle.std.specs.Prelude.{IsSome, IfSome, IfNone, OnOk, OnErr}
 use Rattle.std.specs.Borrow.{Bor}
-use Rattle.std.specs.Option.{option_copied, unwrap_or}
+use Rattle.std.specs.Option.{option_copied, option_map, unwrap_or}
 use Rattle.std.specs.Ordering.{nat_cmp}
 use Rattle.std.specs.FinMap as map
 use Rattle.std.specs.BTreeMap as btree
@@ -11,17 +11,16 @@ use Rattle.std.specs.BTreeMap.{is_at}
 use Rattle.std.specs.Map.{lookup}
 use Rattle.std.specs.Cmp.{unsigned_tied}
 use Rattle.pixel_core.specs.Rgba.{Rgba}
-use Rattle.geom_core.specs.declared.NoMemory.{NoMemory}
-use Rattle.geom_core.specs.Grid.{key_cmp, key_of}
-use Rattle.tile_core.specs.Pixels.{pixel_or}
+use Rattle.geom_core.specs.Grid.{Key, key_cmp, key_of}
+use Rattle.memento_core.specs.Planes.{Keyed}
+use Rattle.tile_core.specs.Pixels.{Pixels, pixel_or}
 use Rattle.geom_core.proofs.Tests.{taken, kept}
 use Rattle.doc_model.specs.Layers.{Layer, plain, layer_ext, at-plain, default-plain}
 use Rattle.doc_model.specs.declared.tree.Change.{Change}
 use Rattle.doc_model.specs.declared.tree.Change.TheVariants as change
 use Rattle.doc_model.specs.declared.tree.TreeFault.{TreeFault}
-use Rattle.doc_model.specs.Forest.{Forest, none, paint, group, has, is_group, content, with_content, adjusted, each, or_else, count, height}
+use Rattle.doc_model.specs.Forest.{Forest, none, paint, group, has, is_group, content, adjusted, each, or_else, count, height}
 use Rattle.doc_model.specs.Changes.{changed, there, takes}
-use Rattle.doc_model.specs.Picture.{Doc}
 use Rattle.doc_model.specs.Ids.{IsTree, weight, mark, times}
 use Rattle.doc_model.specs.Laws.{IsDocument}
 use Rattle.doc_model.proofs.Parents.{Distinct}
@@ -31,10 +30,11 @@ use Rattle.doc_model.proofs.SameContent.{content_has}
 use Rattle.paint_device.specs.Sheets.{Sheet, sheet}
 use Rattle.paint_device.specs.Seen.{layer_of}
 use Rattle.paint_device.proofs.Shown.{at-layer_of, default-layer_of}
-use Rattle.desk_steps.specs.Documents.{Devices, layer_or, layer_under, filled, HasDevices, PutsDevice, AdjustsDevice, new_device}
+use Rattle.desk_steps.specs.Documents.{Tiled, doc_in, key_stands, Regains, Devices, sheet_or, sheet_under, filled, HasDevices, PutsDevice, ChangesDevice, new_device}
+use Rattle.desk_steps.specs.Founds.{GivesBack, StandIn, has_key, patched}
 use Rattle.desk_steps.specs.declared.reach.TreeRefusal.{TreeRefusal}
 use Rattle.desk_steps.specs.declared.reach.TreeRefusal.TheVariants.{Tree}
-use Rattle.desk_steps.proofs.Filled.{each_same, count_each, height_each, content_by, content_each, with_content_each, adjusted_each, after, with_contents, changed_each, sets_in, content_before}
+use Rattle.desk_steps.proofs.Filled.{each_same, each_each, count_each, height_each, content_by, content_each, content_through, adjusted_each, adjusted_nothing, after, with_contents, changed_each, sets_in, content_before}
 
 pub false-true : {P : Type 0} → false ≡ true → P
 false-true e = absurd (no e)
@@ -54,34 +54,50 @@ by_some : {A B : Type 0} (y : B) (o : Option A) → is_some o ≡ true → conte
 by_some y None e = false-true e
 by_some y (Some x) e = refl
 
-is_some-by : {A B : Type 0} (y : B) (o : Option A) → is_some (content_by y o) ≡ is_some o
-is_some-by y None = refl
-is_some-by y (Some x) = refl
+-- the layer of the device under an id
+abbrev pub layer_under : Devices → ℕ → Layer
+layer_under m q = layer_of (sheet_under m q)
 
-module _ (t : Forest (Unit {0})) (m : Devices) (doc : Doc) (view : filled t m ≡ doc) (has : HasDevices t m) where
-  content_is : (id : ℕ) → content id doc ≡ content_by (layer_under m id) (content id t)
-  content_is id = ap (content id) (sym view) ∙ content_each (layer_under m) id t
+-- the document of a tree with devices
+pub doc_in-filled : (t : Forest (Unit {0})) (m : Devices) → doc_in (filled t m) ≡ each (λ q u. layer_under m q) t
+doc_in-filled t m = each_each layer_of (sheet_under m) t
 
-  -- the layer of a device that is there
-  pub layer_some : (id : ℕ) (s : Sheet) → btree.get nat_cmp m id ≡ Some s → content id doc ≡ Some (layer_of s)
-  layer_some id s e = content_is id ∙ by_some _ (content id t) (sym (has id) ∙ ap is_some e) ∙ ap (λ o. Some (layer_or o)) e
+-- the layer of a device is the content of the document
+pub content_in : (id : ℕ) (d : Tiled) → content id (doc_in d) ≡ option_map layer_of (content id d)
+content_in id d = content_through layer_of id d
 
-  pub layer_none : (id : ℕ) → btree.get nat_cmp m id ≡ None → content id doc ≡ None
-  layer_none id e = none_is _ (ap is_some (content_is id) ∙ is_some-by _ (content id t) ∙ sym (has id) ∙ ap is_some e)
+some_map : {A B : Type 0} (f : A → B) (o : Option A) → is_some (option_map f o) ≡ is_some o
+some_map f None = refl
+some_map f (Some x) = refl
+
+pub some_in : (id : ℕ) (d : Tiled) → is_some (content id (doc_in d)) ≡ is_some (content id d)
+some_in id d = ap is_some (content_in id d) ∙ some_map layer_of (content id d)
+
+module _ (t : Forest (Unit {0})) (m : Devices) (doc : Tiled) (view : filled t m ≡ doc) (has : HasDevices t m) where
+  -- the content of a layer is its device
+  pub content_device : (id : ℕ) → content id doc ≡ btree.get nat_cmp m id
+  content_device id = ap (content id) (sym view) ∙ content_each (sheet_under m) id t ∙ go (btree.get nat_cmp m id) refl
+    where
+      go : (o : Option Sheet) → btree.get nat_cmp m id ≡ o → content_by (sheet_under m id) (content id t) ≡ o
+      go None e = ap (content_by (sheet_under m id)) (none_is (content id t) (sym (has id) ∙ ap is_some e))
+      go (Some s) e = by_some _ (content id t) (sym (has id) ∙ ap is_some e) ∙ ap (λ o. Some (sheet_or o)) e
 
   -- a paint layer has a device
   pub has_device : (id : ℕ) → is_some (content id doc) ≡ true → is_some (btree.get nat_cmp m id) ≡ true
-  has_device id e = has id ∙ sym (is_some-by (layer_under m id) (content id t)) ∙ ap is_some (sym (content_is id)) ∙ e
+  has_device id e = ap is_some (sym (content_device id)) ∙ e
 
-  pub lent_some : (id : ℕ) (r : Option (Bor Sheet)) → option_copied r ≡ btree.get nat_cmp m id → IfSome r (λ d. content id doc ≡ Some (layer_of d.now))
+  pub device_stands : (id : ℕ) (found : Keyed Pixels) → StandIn found (content id doc) → StandIn found (btree.get nat_cmp m id)
+  device_stands id found = subst (StandIn found) (content_device id)
+
+  pub lent_some : (id : ℕ) (r : Option (Bor Sheet)) → option_copied r ≡ btree.get nat_cmp m id → IfSome r (λ d. content id (doc_in doc) ≡ Some (layer_of d.now))
   lent_some id None e = tt
-  lent_some id (Some d) e = layer_some id d.now (sym e)
+  lent_some id (Some d) e = content_in id doc ∙ ap (option_map layer_of) (content_device id ∙ sym e)
 
-  pub lent_none : (id : ℕ) (r : Option (Bor Sheet)) → option_copied r ≡ btree.get nat_cmp m id → IfNone r (content id doc ≡ None)
-  lent_none id None e = layer_none id (sym e)
+  pub lent_none : (id : ℕ) (r : Option (Bor Sheet)) → option_copied r ≡ btree.get nat_cmp m id → IfNone r (content id (doc_in doc) ≡ None)
+  lent_none id None e = content_in id doc ∙ ap (option_map layer_of) (content_device id ∙ sym e)
   lent_none id (Some d) e = tt
 
-pub puts_kept : (t : Forest (Unit {0})) (m n : Devices) (id : ℕ) (s : Sheet) → is_some (btree.get nat_cmp m id) ≡ true → PutsDevice m n id s → HasDevices t m → HasDevices t n
+puts_kept : (t : Forest (Unit {0})) (m n : Devices) (id : ℕ) (s : Sheet) → is_some (btree.get nat_cmp m id) ≡ true → PutsDevice m n id s → HasDevices t m → HasDevices t n
 puts_kept t m n id s there puts h q = go (eqb id q) refl
   where
     go : (b : Bool) → eqb id q ≡ b → is_some (btree.get nat_cmp n q) ≡ is_some (content q t)
@@ -90,41 +106,75 @@ puts_kept t m n id s there puts h q = go (eqb id q) refl
         ap is_some (puts q ∙ taken (eqb id q) _ _ e) ∙ sym (ap (λ p. is_some (btree.get nat_cmp m p)) (sym same) ∙ there) ∙ h q
     go false e = ap is_some (puts q ∙ kept (eqb id q) _ _ e) ∙ h q
 
-layer_put : (m n : Devices) (id : ℕ) (s : Sheet) → PutsDevice m n id s → (q : ℕ) → layer_under n q ≡ cond (eqb id q) (layer_of s) (layer_under m q)
-layer_put m n id s puts q = ap layer_or (puts q) ∙ go (eqb id q)
-  where
-    go : (b : Bool) → layer_or (cond b (Some s) (btree.get nat_cmp m q)) ≡ cond b (layer_of s) (layer_under m q)
-    go true = refl
-    go false = refl
+-- another device under an id
+module _ (t : Forest (Unit {0})) (m n : Devices) (id : ℕ) (R : Sheet → Sheet → Type 0) (c : ChangesDevice m n id R) where
+  -- just the paint layers have devices
+  pub devices_stay : HasDevices t m → HasDevices t n
+  devices_stay has = puts_kept t m n id c.device (ap is_some c.was) c.puts has
 
--- another device under an id is another content there
-pub filled_put : (t : Forest (Unit {0})) (m n : Devices) (id : ℕ) (s : Sheet) → PutsDevice m n id s → filled t n ≡ with_content id (layer_of s) (filled t m)
-filled_put t m n id s puts = with_content_each (layer_under m) (layer_under n) id (layer_of s) t (layer_put m n id s puts)
+  -- it is there, and under all other ids what was there
+  either_device : (q : ℕ) → ((id ≡ q) × ((btree.get nat_cmp n q ≡ Some c.device) × (btree.get nat_cmp m q ≡ Some c.before))) ⊎ ((eqb id q ≡ false) × (btree.get nat_cmp n q ≡ btree.get nat_cmp m q))
+  either_device q = go (eqb id q) refl
+    where
+      go : (b : Bool) → eqb id q ≡ b → ((id ≡ q) × ((btree.get nat_cmp n q ≡ Some c.device) × (btree.get nat_cmp m q ≡ Some c.before))) ⊎ ((eqb id q ≡ false) × (btree.get nat_cmp n q ≡ btree.get nat_cmp m q))
+      go true e =
+          let same : id ≡ q = grind (arith, nat_tests) in
+          inl (same, (c.puts q ∙ taken (eqb id q) _ _ e, ap (btree.get nat_cmp m) (sym same) ∙ c.was))
+      go false e = inr (e, c.puts q ∙ kept (eqb id q) _ _ e)
 
--- and with the old one it is the old document
-pub filled_back : (t : Forest (Unit {0})) (m n : Devices) (id : ℕ) (old new : Sheet) → btree.get nat_cmp m id ≡ Some old → PutsDevice m n id new → with_content id (layer_of old) (filled t n) ≡ filled t m
-filled_back t m n id old new was puts = sym (with_content_each (layer_under n) (layer_under m) id (layer_of old) t each)
-  where
-    each : (q : ℕ) → layer_under m q ≡ cond (eqb id q) (layer_of old) (layer_under n q)
-    each q = go (eqb id q) refl
-      where
-        go : (b : Bool) → eqb id q ≡ b → layer_under m q ≡ cond b (layer_of old) (layer_under n q)
-        go true e = let same : id ≡ q = grind (arith, nat_tests) in ap layer_or (ap (btree.get nat_cmp m) (sym same) ∙ was)
-        go false e = sym (layer_put m n id new puts q ∙ kept (eqb id q) _ _ e)
+  both_layers : (F G : Layer → Layer) → F (layer_of c.device) ≡ G (layer_of c.before) → (q : ℕ) → cond (eqb id q) (F (layer_under n q)) (layer_under n q) ≡ cond (eqb id q) (G (layer_under m q)) (layer_under m q)
+  both_layers F G e q = elim (either_device q) [
+    | inl h ↦
+        let own : eqb id q ≡ true = (let same : id ≡ q = h.0 in grind (arith, nat_tests)) in
+        taken (eqb id q) _ _ own ∙ ap (λ o. F (layer_of (sheet_or o))) h.1.0 ∙ e ∙ sym (taken (eqb id q) _ _ own ∙ ap (λ o. G (layer_of (sheet_or o))) h.1.1)
+    | inr h ↦ kept (eqb id q) _ _ h.0 ∙ ap (λ o. layer_of (sheet_or o)) h.1 ∙ sym (kept (eqb id q) _ _ h.0)
+  ]
 
-pub filled_adjusted : (t : Forest (Unit {0})) (m n : Devices) (id : ℕ) (f : Layer → Layer) → AdjustsDevice m n id f → filled t n ≡ adjusted id f (filled t m)
-filled_adjusted t m n id f a = adjusted_each (layer_under m) (layer_under n) id f t (λ q. layer_put m n id a.device a.puts q ∙ go q (eqb id q) refl)
-  where
-    go : (q : ℕ) (b : Bool) → eqb id q ≡ b → cond b (layer_of a.device) (layer_under m q) ≡ cond b (f (layer_under m q)) (layer_under m q)
-    go q true e = let same : id ≡ q = grind (arith, nat_tests) in a.layer ∙ ap (λ p. f (layer_under m p)) same
-    go q false e = refl
+  -- where F makes of its layer what G makes of the one before, they make one document of both
+  pub both_adjusted : (F G : Layer → Layer) → F (layer_of c.device) ≡ G (layer_of c.before) → adjusted id F (doc_in (filled t n)) ≡ adjusted id G (doc_in (filled t m))
+  both_adjusted F G e =
+      ap (adjusted id F) (doc_in-filled t n)
+      ∙ sym (adjusted_each (layer_under n) (λ q. cond (eqb id q) (F (layer_under n q)) (layer_under n q)) id F t (λ q. refl))
+      ∙ adjusted_each (layer_under m) (λ q. cond (eqb id q) (F (layer_under n q)) (layer_under n q)) id G t (both_layers F G e)
+      ∙ ap (adjusted id G) (sym (doc_in-filled t m))
 
-pub filled_same : (t : Forest (Unit {0})) (m n : Devices) (id : ℕ) → AdjustsDevice m n id (λ l. l) → filled t n ≡ filled t m
-filled_same t m n id a = each_same (layer_under n) (layer_under m) t (λ q e. layer_put m n id a.device a.puts q ∙ go q (eqb id q) refl)
-  where
-    go : (q : ℕ) (b : Bool) → eqb id q ≡ b → cond b (layer_of a.device) (layer_under m q) ≡ layer_under m q
-    go q true e = let same : id ≡ q = grind (arith, nat_tests) in a.layer ∙ ap (layer_under m) same
-    go q false e = refl
+  pub doc_adjusted : (f : Layer → Layer) → layer_of c.device ≡ f (layer_of c.before) → doc_in (filled t n) ≡ adjusted id f (doc_in (filled t m))
+  doc_adjusted f e = sym (adjusted_nothing id (doc_in (filled t n))) ∙ both_adjusted (λ l. l) f e
+
+  pub doc_same : layer_of c.device ≡ layer_of c.before → doc_in (filled t n) ≡ doc_in (filled t m)
+  doc_same e = doc_adjusted (λ l. l) e ∙ adjusted_nothing id (doc_in (filled t m))
+
+  pub doc_back : (f : Layer → Layer) → f (layer_of c.device) ≡ layer_of c.before → adjusted id f (doc_in (filled t n)) ≡ doc_in (filled t m)
+  doc_back f e = both_adjusted f (λ l. l) e ∙ adjusted_nothing id (doc_in (filled t m))
+
+  -- the keys that stand
+  keys_of_either : (P : Bool → Bool → Type 0) → ((b : Bool) → P b b) → ((k : Key) → P (map.contains_key c.before.tiles k) (map.contains_key c.device.tiles k)) → (q : ℕ) (k : Key) → P (has_key (btree.get nat_cmp m q) k) (has_key (btree.get nat_cmp n q) k)
+  keys_of_either P itself own q k = elim (either_device q) [
+    | inl h ↦ subst (λ o. P (has_key o k) (has_key (btree.get nat_cmp n q) k)) (sym h.1.1) (subst (λ o. P (map.contains_key c.before.tiles k) (has_key o k)) (sym h.1.0) (own k))
+    | inr h ↦ subst (λ o. P (has_key (btree.get nat_cmp m q) k) (has_key o k)) (sym h.1) (itself (has_key (btree.get nat_cmp m q) k))
+  ]
+
+  pub keys_stand : (P : Bool → Bool → Type 0) → ((b : Bool) → P b b) → HasDevices t m → ((k : Key) → P (map.contains_key c.before.tiles k) (map.contains_key c.device.tiles k)) → (q : ℕ) (k : Key) → P (key_stands (filled t m) q k) (key_stands (filled t n) q k)
+  keys_stand P itself has own q k =
+      subst (λ o. P (has_key o k) (key_stands (filled t n) q k)) (sym (content_device t m (filled t m) refl has q))
+      (subst (λ o. P (has_key (btree.get nat_cmp m q) k) (has_key o k)) (sym (content_device t n (filled t n) refl (devices_stay has) q)) (keys_of_either P itself own q k))
+
+  -- and those of its own
+  own_device : btree.get nat_cmp n id ≡ Some c.device
+  own_device = c.puts id ∙ taken (eqb id id) _ _ (own id)
+    where
+      own : (q : ℕ) → eqb q q ≡ true
+      own q = grind (arith, nat_tests)
+
+  pub own_stands : (found : Keyed Pixels) → HasDevices t m → StandIn found (Some c.device) → StandIn found (content id (filled t n))
+  own_stands found has = subst (StandIn found) (sym (content_device t n (filled t n) refl (devices_stay has) id ∙ own_device))
+
+  pub regained : (found after : Keyed Pixels) → HasDevices t m → GivesBack found after c.before c.device → Regains id found after (filled t m) (filled t n)
+  regained found after has g = record {
+    same = both_adjusted (patched after) (patched found) g.same;
+    keys = keys_stand (λ a b. a ≡ true → b ≡ true) (λ b h. h) has g.keys;
+    stand = own_stands after has g.stand;
+  }
 
 -- whether a node is a paint layer, by whether it is there and no group
 join_tests : (hn hr gn gr cn cr : Bool) → (hn && not gn) ≡ cn → (hr && not gr) ≡ cr → (gn ≡ true → hn ≡ true) → (gr ≡ true → hr ≡ true) → (hn ≡ true → hr ≡ false) → ((hn || hr) && not (gn || gr)) ≡ (cn || cr)
@@ -204,10 +254,10 @@ DevicesOf t old change new = (q : ℕ) → btree.get nat_cmp new q ≡ cond (is_
 new_plain : (pixel : Rgba) → layer_of (sheet pixel map.empty) ≡ plain pixel
 new_plain pixel = layer_ext _ _ (default-layer_of (sheet pixel map.empty) ∙ sym (default-plain pixel)) (λ p. at-layer_of (sheet pixel map.empty) p ∙ ap (λ o. pixel_or (unwrap_or o None) pixel p) (map.get-empty key_cmp (key_of p)) ∙ sym (at-plain pixel p))
 
-new_layer : (c : Change) (old : Devices) (q : ℕ) → layer_or (or_else (new_device c q) (btree.get nat_cmp old q)) ≡ after plain c (layer_under old) q
+new_layer : (c : Change) (old : Devices) (q : ℕ) → layer_of (sheet_or (or_else (new_device c q) (btree.get nat_cmp old q))) ≡ after plain c (layer_under old) q
 new_layer (change.Layer id above place pixel) old q = go (eqb id q)
   where
-    go : (b : Bool) → layer_or (or_else (cond b (Some (sheet pixel map.empty)) None) (btree.get nat_cmp old q)) ≡ cond b (plain pixel) (layer_under old q)
+    go : (b : Bool) → layer_of (sheet_or (or_else (cond b (Some (sheet pixel map.empty)) None) (btree.get nat_cmp old q))) ≡ cond b (plain pixel) (layer_under old q)
     go true = new_plain pixel
     go false = refl
 new_layer (change.Group id above place) old q = refl
@@ -239,13 +289,13 @@ devices_kept c t new old devices e are has q = ap is_some (are q) ∙ go (is_som
     go false is = refl
 
 -- and the document with them is the changed one
-pub filled_changed : (c : Change) (t new : Forest (Unit {0})) (old devices : Devices) → changed (λ pixel. tt) c t ≡ Ok new → DevicesOf new old c devices → changed plain c (filled t old) ≡ Ok (filled new devices)
-filled_changed c t new old devices e are =
-    changed_each plain (layer_under old) (λ pixel. tt) c t ∙ ap (with_contents (after plain c (layer_under old))) e
-    ∙ ap Ok (sym (each_same (layer_under devices) (after plain c (layer_under old)) new (λ q is. ap layer_or (are q ∙ taken (is_some (content q new)) _ _ is) ∙ new_layer c old q)))
+pub doc_changed : (c : Change) (t new : Forest (Unit {0})) (old devices : Devices) → changed (λ pixel. tt) c t ≡ Ok new → DevicesOf new old c devices → changed plain c (doc_in (filled t old)) ≡ Ok (doc_in (filled new devices))
+doc_changed c t new old devices e are =
+    ap (changed plain c) (doc_in-filled t old) ∙ changed_each plain (layer_under old) (λ pixel. tt) c t ∙ ap (with_contents (after plain c (layer_under old))) e
+    ∙ ap Ok (sym (doc_in-filled new devices ∙ each_same (layer_under devices) (after plain c (layer_under old)) new (λ q is. ap (λ o. layer_of (sheet_or o)) (are q ∙ taken (is_some (content q new)) _ _ is) ∙ new_layer c old q)))
 
-pub filled_refused : (c : Change) (t : Forest (Unit {0})) (old : Devices) (fault : TreeFault) → changed (λ pixel. tt) c t ≡ Err fault → changed plain c (filled t old) ≡ Err fault
-filled_refused c t old fault e = changed_each plain (layer_under old) (λ pixel. tt) c t ∙ ap (with_contents (after plain c (layer_under old))) e
+pub doc_refused : (c : Change) (t : Forest (Unit {0})) (old : Devices) (fault : TreeFault) → changed (λ pixel. tt) c t ≡ Err fault → changed plain c (doc_in (filled t old)) ≡ Err fault
+doc_refused c t old fault e = ap (changed plain c) (doc_in-filled t old) ∙ changed_each plain (layer_under old) (λ pixel. tt) c t ∙ ap (with_contents (after plain c (layer_under old))) e
 
 first_of : Option Sheet → Option Sheet → Option Sheet
 first_of None o = o
@@ -307,22 +357,22 @@ pub on_err : {A E : Type 0} (r : Result A E) {P : Type 0} → P → OnErr r P
 on_err (Ok x) h = tt
 on_err (Err x) h = h
 
--- whether it went well or not, the tree's paint layers have devices
-pub adjusted_kept : (t : Forest (Unit {0})) (m n : Devices) (id : ℕ) (f : Layer → Layer) (r : Result (Unit {0}) NoMemory) → is_some (btree.get nat_cmp m id) ≡ true
-    → OnOk r (AdjustsDevice m n id f) → OnErr r (AdjustsDevice m n id (λ l. l)) → HasDevices t m → HasDevices t n
-adjusted_kept t m n id f (Ok x) there ok err has = puts_kept t m n id ok.device there ok.puts has
-adjusted_kept t m n id f (Err x) there ok err has = puts_kept t m n id err.device there err.puts has
-
 -- a device that was written through what was lent
-pub written_adjusts : (m n : Devices) (id : ℕ) (f : Layer → Layer) (was device : Sheet) → Some was ≡ btree.get nat_cmp m id → btree.WritesThrough nat_cmp (nat_cmp id) m device n → layer_of device ≡ f (layer_of was) → AdjustsDevice m n id f
-written_adjusts m n id f was device there through is = record {
+pub written_changes : (m n : Devices) (id : ℕ) (R : Sheet → Sheet → Type 0) (was device : Sheet) → Some was ≡ btree.get nat_cmp m id → btree.WritesThrough nat_cmp (nat_cmp id) m device n → R was device → ChangesDevice m n id R
+written_changes m n id R was device there through is = record {
+  before = was;
   device = device;
+  was = sym there;
   puts = λ q. (through.3 (some_there (btree.get nat_cmp m id) was (sym there))).0 q ∙ ap (λ b. cond b (Some device) (btree.get nat_cmp m q)) (unsigned_tied id q);
-  layer = is ∙ ap (λ o. f (layer_or o)) there;
+  holds = is;
 }
   where
     some_there : (o : Option Sheet) (s : Sheet) → o ≡ Some s → IsSome o
     some_there o s e = ap is_some e
+
+-- the lent one is there
+pub lent_stands : (o : Option Sheet) (s : Sheet) (found : Keyed Pixels) → Some s ≡ o → StandIn found o → StandIn found (Some s)
+lent_stands o s found e = subst (StandIn found) (sym e)
 
 pub both_ok : {A E : Type 0} (r : Result A E) {P Q R : Type 0} → (P → Q → R) → OnOk r P → OnOk r Q → OnOk r R
 both_ok (Ok x) f h k = f h k

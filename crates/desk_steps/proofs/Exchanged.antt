@@ -1,23 +1,24 @@
 -- Entries that are laid on documents.
 use Rattle.std.proofs.Common.{◌≡◌, ℕ, zero, suc, true, false, Some, is_some, List, [], ◌∷◌, take, refl, sym, ap, ◌∙◌, eqb, ◌||◌}
 use Rattle.std.specs.FinSet.{FinSet}
-use Rattle.geom_core.specs.Grid.{key_cmp}
+use Rattle.geom_core.specs.Grid.{Key, key_cmp}
 use Rattle.geom_core.specs.declared.Touched.{Touched}
 use Rattle.doc_model.specs.Layers.{Layer}
-use Rattle.doc_model.specs.Forest.{Forest, has, content, with_content, parent}
+use Rattle.doc_model.specs.Forest.{Forest, has, content, adjusted, parent}
 use Rattle.doc_model.specs.Changes.{there}
 use Rattle.doc_model.specs.Picture.{Doc}
 use Rattle.doc_model.proofs.Contents.{content-with_content}
 use Rattle.doc_model.proofs.SameContent.{content_has}
 use Rattle.machine_model.specs.State.{Reach, Part}
 use Rattle.machine_model.specs.Reached.{Reaches, PastReaches}
-use Rattle.paint_device.specs.Seen.{layer_of}
 use Rattle.desk_steps.specs.declared.reach.Reach.TheVariants as tells
 use Rattle.desk_steps.specs.declared.entry.Entry.{Entry}
 use Rattle.desk_steps.specs.declared.entry.Entry.TheVariants as entry
 use Rattle.desk_steps.specs.Archives.{HasTouched, TellsReach, shape}
-use Rattle.desk_steps.specs.Entries.{doc_of, reach_in, FitsOn, laid}
-use Rattle.desk_steps.proofs.Filled.{has_each, parent_each}
+use Rattle.desk_steps.specs.Documents.{Tiled, key_stands}
+use Rattle.desk_steps.specs.Founds.{patched}
+use Rattle.desk_steps.specs.Entries.{doc_of, reach_in, FitsOn, laid, Standing, keys_after, AllFit, TradesKeys}
+use Rattle.desk_steps.proofs.Filled.{has_each, parent_each, some_adjusted}
 use Rattle.desk_steps.proofs.Devices.{some_is, false-true}
 
 -- a layer of a document stands in its tree
@@ -32,18 +33,18 @@ there_shape id doc t e = ap (there id) e ∙ ap (λ b. eqb id 0 || b) (has_each 
 pub told_part : (id : ℕ) (keys : FinSet key_cmp) (doc : Doc) (t : Forest (Unit {0})) (g : ℕ) (touched : Touched) → t ≡ shape doc → Some g ≡ parent id 0 t → HasTouched keys touched → TellsReach (Part id keys) doc (tells.Part g touched)
 told_part id keys doc t g touched e p h = (g, touched, refl, sym (p ∙ ap (parent id 0) e ∙ parent_each (λ id layer. tt) id 0 doc), h)
 
--- the other content is there
-pub still_there : (id : ℕ) (x : Layer) (old new : Doc) → new ≡ with_content id x old → is_some (content id old) ≡ true → is_some (content id new) ≡ true
-still_there id x old new e is = let c = some_is (content id old) is in ap (λ d. is_some (content id d)) e ∙ ap is_some (content-with_content id x c.0 old c.1)
+-- a layer that was changed is there
+pub still_there : (id : ℕ) (f : Layer → Layer) (old new : Doc) → new ≡ adjusted id f old → is_some (content id old) ≡ true → is_some (content id new) ≡ true
+still_there id f old new e is = ap (λ d. is_some (content id d)) e ∙ some_adjusted id f old ∙ is
 
 -- a reach between two documents lets the entry be laid on either
 pub fits_new : (now : Doc) (e : Entry) → Reaches (reach_in e) (doc_of now e) now → FitsOn now e
 fits_new now (entry.Whole doc) r = tt
-fits_new now (entry.Layer id keys device) r = ap (λ d. is_some (content id d)) r.changed ∙ ap is_some (content-with_content id r.after r.before (with_content id (layer_of device) now) r.was)
+fits_new now (entry.Layer id found) r = ap (λ d. is_some (content id d)) r.changed ∙ ap is_some (content-with_content id r.after r.before (adjusted id (patched found) now) r.was)
 
 pub fits_old : (now : Doc) (e : Entry) → Reaches (reach_in e) now (doc_of now e) → FitsOn now e
 fits_old now (entry.Whole doc) r = tt
-fits_old now (entry.Layer id keys device) r = ap is_some r.was
+fits_old now (entry.Layer id found) r = ap is_some r.was
 
 -- an entry that gives back the old document is its neighbour
 pub laid_back : (old new : Doc) (was is : Entry) (es : List Entry) → doc_of new is ≡ old → reach_in is ≡ reach_in was → laid new (is ∷ es) ≡ (old, reach_in was) ∷ laid old es
@@ -58,3 +59,25 @@ pub past_take : (n : ℕ) (past : List (Doc × Reach)) (now : Doc) → PastReach
 past_take zero past now h = tt
 past_take (suc n) [] now h = tt
 past_take (suc n) (e ∷ past) now h = (h.0, past_take n past e.0 h.1)
+
+-- more keys stand
+pub more_fit : (ks more : Standing) → ((q : ℕ) (k : Key) → ks q k ≡ true → more q k ≡ true) → (es : List Entry) → AllFit ks es → AllFit more es
+more_fit ks more grows [] h = tt
+more_fit ks more grows (entry.Whole doc ∷ es) h = h
+more_fit ks more grows (entry.Layer id found ∷ es) h = ((λ k i. grows id k (h.0 k i)), more_fit ks more grows es h.1)
+
+pub same_fit : (ks others : Standing) → ((q : ℕ) (k : Key) → others q k ≡ ks q k) → (es : List Entry) → AllFit ks es → AllFit others es
+same_fit ks others same es = more_fit ks others (λ q k h. same q k ∙ h) es
+
+pub take_fit : (n : ℕ) (ks : Standing) (es : List Entry) → AllFit ks es → AllFit ks (take n es)
+take_fit zero ks es h = tt
+take_fit (suc n) ks [] h = tt
+take_fit (suc n) ks (e ∷ es) h = (h.0, take_fit n (keys_after ks e) es h.1)
+
+-- once an entry was exchanged, the keys stand for those that come after it, and for it on the other side
+module _ (old new : Tiled) (was is : Entry) (t : TradesKeys old new was is) where
+  pub next_fit : (es : List Entry) → AllFit (key_stands old) (was ∷ es) → AllFit (key_stands new) es
+  next_fit es h = same_fit (keys_after (key_stands old) was) (key_stands new) t.now es h.1
+
+  pub back_fit : (es : List Entry) → AllFit (key_stands old) es → AllFit (key_stands new) (is ∷ es)
+  back_fit es h = (t.fits, same_fit (key_stands old) (keys_after (key_stands new) is) t.back es h)

@@ -1,5 +1,6 @@
 -- Changes of a tree are natural in the contents of its paint nodes.
 use Rattle.std.proofs.Common.{◌≡◌, ℕ, suc, zero, ◌+◌, Bool, true, false, ◌||◌, not, cond, Option, Some, None, is_some, Result, Ok, Err, [], ◌∷◌, refl, sym, ap, ◌∙◌, arith, eqb, ltb, max, inl, inr}
+use Rattle.std.specs.Option.{option_map}
 use Rattle.std.proofs.lemmas.Bool.Decides.{nat_tests}
 use Rattle.pixel_core.specs.Rgba.{Rgba}
 use Rattle.geom_core.proofs.Tests.{none_right, true_or_false, kept}
@@ -64,6 +65,26 @@ each_shape g none = refl
 each_shape g (paint id look x rest) = ap (paint id look tt) (each_shape g rest)
 each_shape g (group id look nodes rest) = same_group id look (each_shape g nodes) (each_shape g rest)
 
+-- contents one after another
+pub each_each : {A B C : Type 0} (f : B → C) (g : ℕ → B) (t : Forest A) → each (λ q y. f y) (each (λ q x. g q) t) ≡ each (λ q x. f (g q)) t
+each_each f g none = refl
+each_each f g (paint id look x rest) = ap (paint id look (f (g id))) (each_each f g rest)
+each_each f g (group id look nodes rest) = same_group id look (each_each f g nodes) (each_each f g rest)
+
+through_or_else : {A B : Type 0} (f : A → B) (a b : Option A) → or_else (option_map f a) (option_map f b) ≡ option_map f (or_else a b)
+through_or_else f None b = refl
+through_or_else f (Some x) b = refl
+
+-- the content of an id by a function of the contents
+pub content_through : {A B : Type 0} (f : A → B) (q : ℕ) (t : Forest A) → content q (each (λ id x. f x) t) ≡ option_map f (content q t)
+content_through f q none = refl
+content_through {A = A} f q (paint id look x rest) = go (eqb q id) (content_through f q rest)
+  where
+    go : (b : Bool) → content q (each (λ id x. f x) rest) ≡ option_map f (content q rest) → cond b (Some (f x)) (content q (each (λ id x. f x) rest)) ≡ option_map f (cond b (Some x) (content q rest))
+    go true e = refl
+    go false e = e
+content_through f q (group id look nodes rest) = (λ i. or_else (content_through f q nodes i) (content_through f q rest i)) ∙ through_or_else f (content q nodes) (content q rest)
+
 -- the content of an id
 abbrev pub content_by : {A B : Type 0} → B → Option A → Option B
 content_by y None = None
@@ -87,6 +108,38 @@ pub with_content_each : {A B : Type 0} (g h : ℕ → B) (q : ℕ) (y : B) (f : 
 with_content_each g h q y none e = refl
 with_content_each g h q y (paint id look x rest) e = same_paint id look (e id) (with_content_each g h q y rest e)
 with_content_each g h q y (group id look nodes rest) e = same_group id look (with_content_each g h q y nodes e) (with_content_each g h q y rest e)
+
+-- to change nothing of a content leaves the forest
+pub adjusted_nothing : {A : Type 0} (q : ℕ) (f : Forest A) → adjusted q (λ x. x) f ≡ f
+adjusted_nothing q none = refl
+adjusted_nothing {A = A} q (paint id look x rest) = same_paint id look (go (eqb q id)) (adjusted_nothing q rest)
+  where
+    go : (b : Bool) → cond b x x ≡ x
+    go true = refl
+    go false = refl
+adjusted_nothing q (group id look nodes rest) = same_group id look (adjusted_nothing q nodes) (adjusted_nothing q rest)
+
+-- a content that is changed is there as before
+pub some_adjusted : {A : Type 0} (q : ℕ) (change : A → A) (f : Forest A) → is_some (content q (adjusted q change f)) ≡ is_some (content q f)
+some_adjusted q change none = refl
+some_adjusted {A = A} q change (paint id look x rest) = go (eqb q id) (some_adjusted q change rest)
+  where
+    go : (b : Bool) → is_some (content q (adjusted q change rest)) ≡ is_some (content q rest) → is_some (cond b (Some (cond b (change x) x)) (content q (adjusted q change rest))) ≡ is_some (cond b (Some x) (content q rest))
+    go true e = refl
+    go false e = e
+some_adjusted q change (group id look nodes rest) = some_or_else (content q (adjusted q change nodes)) _ (content q nodes) _ (some_adjusted q change nodes) (some_adjusted q change rest)
+  where
+    no : {A : Type 0} → true ≡ false → A
+    no e = absurd (never e)
+      where
+        never : true ≡ false → ⊥
+        never e = cc
+
+    some_or_else : {A : Type 0} (a b c d : Option A) → is_some a ≡ is_some c → is_some b ≡ is_some d → is_some (or_else a b) ≡ is_some (or_else c d)
+    some_or_else None b None d e h = h
+    some_or_else (Some x) b (Some y) d e h = refl
+    some_or_else (Some x) b None d e h = no e
+    some_or_else None b (Some y) d e h = no (sym e)
 
 pub adjusted_each : {A B : Type 0} (g h : ℕ → B) (q : ℕ) (change : B → B) (f : Forest A) → ((p : ℕ) → h p ≡ cond (eqb q p) (change (g p)) (g p)) → each (λ p x. h p) f ≡ adjusted q change (each (λ p x. g p) f)
 adjusted_each g h q change none e = refl

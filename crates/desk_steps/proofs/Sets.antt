@@ -113,7 +113,7 @@ each_member : (P : Key → Bool) (ks : List Key) → ((q : Key) → list_any (sa
 each_member P [] each = refl
 each_member P (k ∷ ks) each = both_true _ _ (each k (or_left _ _ (key_is k k refl))) (each_member P ks (λ q h. each q (or_right (same_key q k) _ h)))
 
-same_bools : (a b : Bool) → (a ≡ true → b ≡ true) → (b ≡ true → a ≡ true) → a ≡ b
+pub same_bools : (a b : Bool) → (a ≡ true → b ≡ true) → (b ≡ true → a ≡ true) → a ≡ b
 same_bools true b f g = sym (f refl)
 same_bools false true f g = g refl
 same_bools false false f g = refl

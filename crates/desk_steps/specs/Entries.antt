@@ -1,46 +1,74 @@
 -- A store as its present document, its entries and the stroke under way.
-use Rattle.std.specs.Prelude.{◌≡◌, ◌≤◌, true, Bool, is_some, Option, Some, None, List, [], ◌∷◌}
-use Rattle.doc_model.specs.Forest.{content, with_content}
+use Rattle.std.specs.Prelude.{◌≡◌, ◌≤◌, ℕ, true, Bool, is_some, Option, Some, None, List, [], ◌∷◌}
+use Rattle.std.specs.FinMap as map
+use Rattle.geom_core.specs.Grid.{Key}
+use Rattle.doc_model.specs.Forest.{content, adjusted}
 use Rattle.doc_model.specs.Picture.{Doc}
 use Rattle.machine_model.specs.State.{Reach}
 use Rattle.machine_model.specs.State as state
-use Rattle.paint_device.specs.Seen.{layer_of}
 use Rattle.history_core.specs.Stacks.{Stack}
 use Rattle.desk_steps.specs.declared.entry.Entry.{Entry}
 use Rattle.desk_steps.specs.declared.entry.Entry.TheVariants.{Whole, Layer}
 use Rattle.desk_steps.specs.declared.entry.Way.{Way}
 use Rattle.desk_steps.specs.Archives.{Archive, IsArchive}
 use Rattle.desk_steps.specs.Archives as archives
+use Rattle.desk_steps.specs.Documents.{Tiled, doc_in, key_stands}
+use Rattle.desk_steps.specs.Founds.{keys_in, patched}
 
 -- the document that an entry gives back, from the one that it is laid on
 abbrev pub doc_of : Doc → Entry → Doc
-doc_of now (Whole doc) = doc
-doc_of now (Layer id keys device) = with_content id (layer_of device) now
+doc_of now (Whole doc) = doc_in doc
+doc_of now (Layer id found) = adjusted id (patched found) now
 
 -- how far the change between the two reaches
 abbrev pub reach_in : Entry → Reach
 reach_in (Whole doc) = state.Whole
-reach_in (Layer id keys device) = state.Part id keys
+reach_in (Layer id found) = state.Part id (keys_in found)
 
 -- an entry of a layer is laid on a document with that paint layer
 abbrev pub FitsOn : Doc → Entry → Type 0
 FitsOn now (Whole doc) = Unit {0}
-FitsOn now (Layer id keys device) = is_some (content id now) ≡ true
+FitsOn now (Layer id found) = is_some (content id now) ≡ true
 
 -- the documents that entries give back one after another, each with its reach
 abbrev pub laid : Doc → List Entry → List (Doc × Reach)
 laid now [] = []
 laid now (e ∷ es) = (doc_of now e, reach_in e) ∷ laid (doc_of now e) es
 
+-- which keys stand in each layer
+abbrev pub Standing : Type 0
+Standing = ℕ → Key → Bool
+
+-- which keys stand in the document that an entry gives back
+abbrev pub keys_after : Standing → Entry → Standing
+keys_after ks (Whole doc) = key_stands doc
+keys_after ks (Layer id found) = ks
+
+-- an entry of a layer is laid on a document where its keys stand
+abbrev pub FitsKeys : Standing → Entry → Type 0
+FitsKeys ks (Whole doc) = Unit {0}
+FitsKeys ks (Layer id found) = (k : Key) → map.contains_key found k ≡ true → ks id k ≡ true
+
+-- so is each of entries that are laid one after another
+abbrev pub AllFit : Standing → List Entry → Type 0
+AllFit ks [] = Unit {0}
+AllFit ks (e ∷ es) = FitsKeys ks e × AllFit (keys_after ks e) es
+
+-- the entry gives back the keys of the one document, and then those of the other
+pub record TradesKeys (old new : Tiled) (was is : Entry) : Type 0 where
+  pub now : (q : ℕ) (k : Key) → key_stands new q k ≡ keys_after (key_stands old) was q k
+  pub back : (q : ℕ) (k : Key) → keys_after (key_stands new) is q k ≡ key_stands old q k
+  pub fits : FitsKeys (key_stands new) is
+
 -- the document from before the stroke under way
 abbrev pub base_of : Option Way → Doc → Doc
 base_of None doc = doc
-base_of (Some w) doc = with_content w.id (layer_of w.before) doc
+base_of (Some w) doc = adjusted w.id (patched w.found) doc
 
 -- the stroke under way as contracts see it
 abbrev pub way_of : Option Way → archives.Way
 way_of None = None
-way_of (Some w) = Some (w.id, w.keys)
+way_of (Some w) = Some (w.id, keys_in w.found)
 
 -- the store of these parts
 abbrev pub archive_of : Doc → Stack Entry → Option Way → Bool → Archive
@@ -57,3 +85,19 @@ archive_of doc history way room = record {
 pub record IsKept (doc : Doc) (history : Stack Entry) (way : Option Way) (room : Bool) : Type 0 where
   pub archive : IsArchive (archive_of doc history way room)
   pub spare : room ≡ true → 1 ≤ history.spare
+
+-- the keys of the stroke under way stand
+abbrev pub WayFits : Standing → Option Way → Type 0
+WayFits ks None = Unit {0}
+WayFits ks (Some w) = (k : Key) → map.contains_key w.found k ≡ true → ks w.id k ≡ true
+
+-- each key that was noted stands where it is to be exchanged
+pub record KeysStand (ks : Standing) (history : Stack Entry) (way : Option Way) : Type 0 where
+  pub past : AllFit ks history.past
+  pub future : AllFit ks history.future
+  pub under_way : WayFits ks way
+
+-- a store whose layers are devices
+pub record IsStored (doc : Tiled) (history : Stack Entry) (way : Option Way) (room : Bool) : Type 0 where
+  pub kept : IsKept (doc_in doc) history way room
+  pub stand : KeysStand (key_stands doc) history way

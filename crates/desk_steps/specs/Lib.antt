@@ -1,5 +1,6 @@
 pub mod Archives
 pub mod KeySets
+pub mod Founds
 pub mod Documents
 pub mod Entries
 pub mod Tiles

@@ -1,7 +1,6 @@
 -- The tile that a device gets where something was painted.
 use Rattle.std.specs.Prelude.{◌≡◌, true, cond, pos, ◌-ℤ◌, Option}
 use Rattle.std.specs.Option.{option_or}
-use Rattle.pixel_core.specs.Rgba.{Rgba}
 use Rattle.geom_core.specs.Points.{Point}
 use Rattle.geom_core.specs.Areas.{any_holds}
 use Rattle.geom_core.specs.Grid.{Key, key}

@@ -1,35 +1,38 @@
 //! The document: a tree, and the pixels of its layers.
 
-ghost use Rattle.std.specs.Prelude.{◌≡◌, ℕ, ◌==◌, ◌&&◌, cond, true, None, Some, Ok, Err, is_some, IfOk, OnOk, OnErr, IfSome, IfNone};
+ghost use Rattle.std.specs.Prelude.{◌≡◌, ℕ, ◌+◌, ◌==◌, ◌&&◌, cond, true, None, Some, Ok, Err, is_some, IfOk, OnOk, OnErr, IfSome, IfNone};
 ghost use Rattle.std.specs.Ordering.{nat_cmp};
 ghost use Rattle.std.specs.FinSet as set;
 ghost use Rattle.std.specs.BTreeMap as btree;
 ghost use Rattle.doc_model.specs.Layers.{plain};
 ghost use Rattle.doc_model.specs.Jobs.{published};
-ghost use Rattle.doc_model.specs.Forest.{none, content, with_content, adjusted, or_else};
+ghost use Rattle.doc_model.specs.Forest.{none, content, adjusted, or_else};
 ghost use Rattle.doc_model.specs.Changes.{changed};
 ghost use Rattle.doc_model.specs.Laws.{IsDocument};
 ghost use Rattle.doc_model.specs.declared.tree.TreeFault.{TreeFault};
+ghost use Rattle.geom_core.specs.Grid.{Key};
 ghost use Rattle.job_core.specs.Paints as paints;
 ghost use Rattle.job_core.specs.Paints.{Paint, Makes};
 ghost use Rattle.job_core.specs.Points.{painted_in};
 ghost use Rattle.paint_device.specs.Seen.{layer_of};
 ghost use Rattle.desk_steps.specs.declared.reach.TreeRefusal.TheVariants as refusal;
 ghost use Rattle.desk_steps.specs.Archives.{shape};
-ghost use Rattle.desk_steps.specs.Documents.{PutsDevice, AdjustsDevice, new_device};
+ghost use Rattle.desk_steps.specs.Documents.{ChangesDevice, Regains, doc_in, key_stands, new_device};
+ghost use Rattle.desk_steps.specs.Founds.{Exchanges, GivesBack, StandIn, keys_in, patched};
 
-use crate::keys::KeySet;
+use crate::found::Found;
 use crate::laying::lay;
 use crate::painting::paint;
 use crate::reach::TreeRefusal;
 use doc_model::Change;
 use geom_core::NoMemory;
 use job_core::{Made, PointWork};
+use memento_core::Steps;
 use paint_device::Device;
 use std::alloc::Global;
 use std::collections::BTreeMap;
 use std::marker::Model;
-use std::mem;
+use std::sync::ledger::Ledger;
 use tree_core::Tree;
 
 /// A tree, and for each of its paint layers a device.
@@ -40,13 +43,11 @@ pub struct Document {
 }
 
 impl Model for Document {
-    ghost use Rattle.doc_model.specs.Picture.{Doc};
-    ghost use Rattle.doc_model.specs.Codes.{doc_code};
-    ghost use Rattle.desk_steps.specs.Documents.{filled, HasDevices};
+    ghost use Rattle.desk_steps.specs.Documents.{Tiled, tiled_code, filled, HasDevices};
 
-    ghost Value = { Doc };
+    ghost Value = { Tiled };
 
-    ghost coded = { doc_code };
+    ghost coded = { tiled_code };
 
     ghost view = { λ d. filled d.tree d.devices };
 
@@ -66,8 +67,8 @@ impl Document {
 
     /// The tree. It tells the limits that every document keeps to.
     pub fn tree(&self) -> &Tree
-        ensures value { result.now ≡ shape self.now }
-        ensures known { IsDocument self.now }
+        ensures value { result.now ≡ shape (doc_in self.now) }
+        ensures known { IsDocument (doc_in self.now) }
     {
         let _count = self.tree.node_count();
         &self.tree
@@ -75,55 +76,65 @@ impl Document {
 
     /// The device of a paint layer. None exactly where the id is no paint layer.
     pub fn layer(&self, id: u16) -> Option<&Device>
-        ensures some { IfSome result (λ d. content id self.now ≡ Some (layer_of d.now)) }
-        ensures none { IfNone result (content id self.now ≡ None) }
+        ensures some { IfSome result (λ d. content id (doc_in self.now) ≡ Some (layer_of d.now)) }
+        ensures none { IfNone result (content id (doc_in self.now) ≡ None) }
     {
         self.devices.get(&id)
     }
 
-    /// Exchanges the device of a paint layer.
-    pub fn swap_layer(&mut self, id: u16, device: &mut Device)
-        requires { is_some (content id self.old) ≡ true }
-        ensures old { content id self.old ≡ Some (layer_of device.new) }
-        ensures new { self.new ≡ with_content id (layer_of device.old) self.old }
-        ensures back { with_content id (layer_of device.new) self.new ≡ self.old }
+    /// Exchanges what was noted with the tiles of a paint layer under the same keys, which are there.
+    /// One step for each key, and no memory.
+    pub fn exchange<L: Ledger>(&mut self, id: u16, found: &mut Found, steps: &mut Steps<L>)
+        requires layer { is_some (content id self.old) ≡ true }
+        requires there { StandIn found.old (content id self.old) }
+        ensures new { doc_in self.new ≡ adjusted id (patched found.old) (doc_in self.old) }
+        ensures back { adjusted id (patched found.new) (doc_in self.new) ≡ doc_in self.old }
+        ensures keys { keys_in found.new ≡ keys_in found.old }
+        ensures stand { StandIn found.new (content id self.new) }
+        ensures kept { (q : ℕ) (k : Key) → key_stands self.new q k ≡ key_stands self.old q k }
+        ensures counts { steps.new ≡ steps.old + set.len (keys_in found.old) }
     {
-        swap_under(&mut self.devices, id, device);
+        exchange_under(&mut self.devices, id, found, steps);
     }
 
-    /// Lays what was painted on a paint layer, and adds its tile to the keys.
+    /// Lays what was painted on a paint layer, and notes what stood in its tile before the stroke.
     pub fn put(
         &mut self,
         alloc: Global,
         id: u16,
-        keys: &mut KeySet,
+        found: &mut Found,
         made: &Made,
     ) -> Result<(), NoMemory>
-        requires { is_some (content id self.old) ≡ true }
-        ensures ok { (w : Paint) → Makes w made.now → OnOk result (self.new ≡ adjusted id (published w.job (paints.layer_of w.shot) w.key) self.old) }
-        ensures keys { OnOk result (keys.new ≡ set.insert keys.old made.now.key) }
-        ensures err { OnErr result (self.new ≡ self.old) }
-        ensures no_key { OnErr result (keys.new ≡ keys.old) }
+        requires layer { is_some (content id self.old) ≡ true }
+        requires there { StandIn found.old (content id self.old) }
+        ensures ok { (w : Paint) → Makes w made.now → OnOk result (doc_in self.new ≡ adjusted id (published w.job (paints.layer_of w.shot) w.key) (doc_in self.old)) }
+        ensures keys { OnOk result (keys_in found.new ≡ set.insert (keys_in found.old) made.now.key) }
+        ensures back { Regains id found.old found.new self.old self.new }
+        ensures err { OnErr result (doc_in self.new ≡ doc_in self.old) }
+        ensures no_note { OnErr result (found.new ≡ found.old) }
     {
         let _key = made.key();
-        lay_under(alloc, &mut self.devices, id, keys, made)
+        lay_under(alloc, &mut self.devices, id, found, made)
     }
 
-    /// Paints a point operation in one tile of a paint layer, and adds the tile to the keys.
+    /// Paints a point operation in one tile of a paint layer, and notes what stood in the tile before
+    /// the stroke.
     pub fn paint(
         &mut self,
         alloc: Global,
         id: u16,
-        keys: &mut KeySet,
+        found: &mut Found,
         work: &PointWork<'_>,
     ) -> Result<(), NoMemory>
-        requires { is_some (content id self.old) ≡ true }
-        ensures ok { OnOk result (self.new ≡ adjusted id (painted_in work.now.job work.now.key) self.old) }
-        ensures keys { OnOk result (keys.new ≡ set.insert keys.old work.now.key) }
-        ensures err { OnErr result (self.new ≡ self.old) }
-        ensures no_key { OnErr result (keys.new ≡ keys.old) }
+        requires layer { is_some (content id self.old) ≡ true }
+        requires there { StandIn found.old (content id self.old) }
+        ensures ok { OnOk result (doc_in self.new ≡ adjusted id (painted_in work.now.job work.now.key) (doc_in self.old)) }
+        ensures keys { OnOk result (keys_in found.new ≡ set.insert (keys_in found.old) work.now.key) }
+        ensures back { Regains id found.old found.new self.old self.new }
+        ensures err { OnErr result (doc_in self.new ≡ doc_in self.old) }
+        ensures no_note { OnErr result (found.new ≡ found.old) }
     {
-        paint_under(alloc, &mut self.devices, id, keys, work)
+        paint_under(alloc, &mut self.devices, id, found, work)
     }
 
     /// The document after a change of the tree. The tiles of the layers that stay are shared.
@@ -131,8 +142,8 @@ impl Document {
     /// # Errors
     /// `Tree` with the first refusal, exactly where there is one.
     pub fn changed(&self, alloc: Global, change: &Change) -> Result<Document, TreeRefusal>
-        ensures ok { IfOk result (λ d. changed plain change.now self.now ≡ Ok d) }
-        ensures tree { (fault : TreeFault) → result ≡ Err (refusal.Tree fault) → changed plain change.now self.now ≡ Err fault }
+        ensures ok { IfOk result (λ d. changed plain change.now (doc_in self.now) ≡ Ok (doc_in d)) }
+        ensures tree { (fault : TreeFault) → result ≡ Err (refusal.Tree fault) → changed plain change.now (doc_in self.now) ≡ Err fault }
     {
         let mut tree = self.tree.copy();
         match tree.change(change) {
@@ -145,14 +156,20 @@ impl Document {
     }
 }
 
-/// Exchanges the device under an id that is there.
-fn swap_under(devices: &mut BTreeMap<u16, Device>, id: u16, device: &mut Device)
-    requires { is_some (btree.get nat_cmp devices.old id) ≡ true }
-    ensures old { btree.get nat_cmp devices.old id ≡ Some device.new }
-    ensures new { PutsDevice devices.old devices.new id device.old }
+/// Exchanges what was noted with the tiles of the device under an id that is there.
+fn exchange_under<L: Ledger>(
+    devices: &mut BTreeMap<u16, Device>,
+    id: u16,
+    found: &mut Found,
+    steps: &mut Steps<L>,
+)
+    requires layer { is_some (btree.get nat_cmp devices.old id) ≡ true }
+    requires there { StandIn found.old (btree.get nat_cmp devices.old id) }
+    ensures exchanges { ChangesDevice devices.old devices.new id (Exchanges found.old found.new) }
+    ensures counts { steps.new ≡ steps.old + set.len (keys_in found.old) }
 {
     match devices.get_mut(&id) {
-        Some(place) => mem::swap(place, device),
+        Some(device) => found.exchange(device, steps),
         None => unreachable!(),
     }
 }
@@ -162,17 +179,19 @@ fn lay_under(
     alloc: Global,
     devices: &mut BTreeMap<u16, Device>,
     id: u16,
-    keys: &mut KeySet,
+    found: &mut Found,
     made: &Made,
 ) -> Result<(), NoMemory>
-    requires { is_some (btree.get nat_cmp devices.old id) ≡ true }
-    ensures ok { (w : Paint) → Makes w made.now → OnOk result (AdjustsDevice devices.old devices.new id (published w.job (paints.layer_of w.shot) w.key)) }
-    ensures keys { OnOk result (keys.new ≡ set.insert keys.old made.now.key) }
-    ensures err { OnErr result (AdjustsDevice devices.old devices.new id (λ l. l)) }
-    ensures no_key { OnErr result (keys.new ≡ keys.old) }
+    requires layer { is_some (btree.get nat_cmp devices.old id) ≡ true }
+    requires there { StandIn found.old (btree.get nat_cmp devices.old id) }
+    ensures ok { (w : Paint) → Makes w made.now → OnOk result (ChangesDevice devices.old devices.new id (λ old new. layer_of new ≡ published w.job (paints.layer_of w.shot) w.key (layer_of old))) }
+    ensures keys { OnOk result (keys_in found.new ≡ set.insert (keys_in found.old) made.now.key) }
+    ensures back { ChangesDevice devices.old devices.new id (GivesBack found.old found.new) }
+    ensures err { OnErr result (ChangesDevice devices.old devices.new id (λ old new. layer_of new ≡ layer_of old)) }
+    ensures no_note { OnErr result (found.new ≡ found.old) }
 {
     match devices.get_mut(&id) {
-        Some(device) => lay(alloc, device, keys, made),
+        Some(device) => lay(alloc, device, found, made),
         None => unreachable!(),
     }
 }
@@ -182,17 +201,19 @@ fn paint_under(
     alloc: Global,
     devices: &mut BTreeMap<u16, Device>,
     id: u16,
-    keys: &mut KeySet,
+    found: &mut Found,
     work: &PointWork<'_>,
 ) -> Result<(), NoMemory>
-    requires { is_some (btree.get nat_cmp devices.old id) ≡ true }
-    ensures ok { OnOk result (AdjustsDevice devices.old devices.new id (painted_in work.now.job work.now.key)) }
-    ensures keys { OnOk result (keys.new ≡ set.insert keys.old work.now.key) }
-    ensures err { OnErr result (AdjustsDevice devices.old devices.new id (λ l. l)) }
-    ensures no_key { OnErr result (keys.new ≡ keys.old) }
+    requires layer { is_some (btree.get nat_cmp devices.old id) ≡ true }
+    requires there { StandIn found.old (btree.get nat_cmp devices.old id) }
+    ensures ok { OnOk result (ChangesDevice devices.old devices.new id (λ old new. layer_of new ≡ painted_in work.now.job work.now.key (layer_of old))) }
+    ensures keys { OnOk result (keys_in found.new ≡ set.insert (keys_in found.old) work.now.key) }
+    ensures back { ChangesDevice devices.old devices.new id (GivesBack found.old found.new) }
+    ensures err { OnErr result (ChangesDevice devices.old devices.new id (λ old new. layer_of new ≡ layer_of old)) }
+    ensures no_note { OnErr result (found.new ≡ found.old) }
 {
     match devices.get_mut(&id) {
-        Some(device) => paint(alloc, device, keys, work),
+        Some(device) => paint(alloc, device, found, work),
         None => unreachable!(),
     }
 }

@@ -1,47 +1,47 @@
 //! What a history keeps of a change.
 
-ghost use Rattle.std.specs.Prelude.{◌≡◌};
+ghost use Rattle.std.specs.Prelude.{◌≡◌, ◌≤◌, ◌+◌};
 ghost use Rattle.doc_model.specs.Laws.{IsDocument};
-ghost use Rattle.desk_steps.specs.Archives.{TellsReach};
-ghost use Rattle.desk_steps.specs.Entries.{doc_of, reach_in, FitsOn};
+ghost use Rattle.desk_steps.specs.Archives.{TellsReach, tiles_in};
+ghost use Rattle.desk_steps.specs.Documents.{doc_in, key_stands};
+ghost use Rattle.desk_steps.specs.Entries.{doc_of, reach_in, FitsOn, FitsKeys, TradesKeys};
 
 use crate::document::Document;
-use crate::keys::KeySet;
+use crate::found::Found;
 use crate::reach::Reach;
-use paint_device::Device;
+use memento_core::Steps;
 use std::mem;
+use std::sync::ledger::Ledger;
 
 /// What gives back the document from before a change, or after it.
 #[derive(Drop)]
 pub enum Entry {
     /// The document.
     Whole(Document),
-    /// The device of a layer, which differs in these tiles alone.
-    Layer {
-        id: u16,
-        keys: KeySet,
-        device: Device,
-    },
+    /// What stood in some tiles of a layer, which alone differ.
+    Layer { id: u16, found: Found },
 }
 
-/// The stroke under way: its layer, the tiles that were put, and the layer's device from before it.
+/// The stroke under way: its layer, and what it found in the tiles that were put.
 #[derive(Drop)]
 pub struct Way {
     pub id: u16,
-    pub keys: KeySet,
-    pub before: Device,
+    pub found: Found,
 }
 
 impl Entry {
     /// Exchanges the document with the one that the entry gives back. It tells how far the change
-    /// between them reaches.
-    pub fn exchange(&mut self, doc: &mut Document) -> Reach
-        requires { FitsOn doc.old self.old }
-        ensures doc { doc.new ≡ doc_of doc.old self.old }
-        ensures back { doc_of doc.new self.new ≡ doc.old }
+    /// between them reaches. One step for each tile of a layer, and no memory.
+    pub fn exchange<L: Ledger>(&mut self, doc: &mut Document, steps: &mut Steps<L>) -> Reach
+        requires layer { FitsOn (doc_in doc.old) self.old }
+        requires there { FitsKeys (key_stands doc.old) self.old }
+        ensures doc { doc_in doc.new ≡ doc_of (doc_in doc.old) self.old }
+        ensures back { doc_of (doc_in doc.new) self.new ≡ doc_in doc.old }
         ensures same { reach_in self.new ≡ reach_in self.old }
-        ensures reach { TellsReach (reach_in self.old) doc.new result }
-        ensures known { IsDocument doc.new }
+        ensures keys { TradesKeys doc.old doc.new self.old self.new }
+        ensures reach { TellsReach (reach_in self.old) (doc_in doc.new) result }
+        ensures known { IsDocument (doc_in doc.new) }
+        ensures counts { steps.new ≤ steps.old + tiles_in (reach_in self.old) }
     {
         match self {
             Entry::Whole(other) => {
@@ -49,12 +49,12 @@ impl Entry {
                 let _tree = doc.tree();
                 Reach::Whole
             }
-            Entry::Layer { id, keys, device } => {
-                doc.swap_layer(*id, device);
+            Entry::Layer { id, found } => {
+                doc.exchange(*id, found, steps);
                 match doc.tree().parent(*id) {
                     Some(group) => Reach::Part {
                         group,
-                        touched: keys.touched(),
+                        touched: found.touched(),
                     },
                     None => unreachable!(),
                 }

@@ -1,6 +1,7 @@
 //! Laying what was painted on a device.
 
 ghost use Rattle.std.specs.Prelude.{◌≡◌, true, false, Some, IfOk, OnOk, OnErr};
+ghost use Rattle.std.specs.FinMap as map;
 ghost use Rattle.std.specs.FinSet as set;
 ghost use Rattle.geom_core.specs.Grid.{IsWorldKey};
 ghost use Rattle.geom_core.specs.Points.{Point};
@@ -11,84 +12,93 @@ ghost use Rattle.job_core.specs.Paints.{Paint, Makes};
 ghost use Rattle.paint_device.specs.InPlace.{LaysUnder};
 ghost use Rattle.paint_device.specs.Seen.{layer_of};
 ghost use Rattle.paint_device.specs.Sheets.{sheet_at, with_under};
+ghost use Rattle.desk_steps.specs.Founds.{GivesBack, StandIn, keys_in};
 ghost use Rattle.desk_steps.specs.Tiles.{IsLaidFrom};
 
-use crate::keys::KeySet;
+use crate::found::Found;
 use geom_core::{NoMemory, TileKey};
 use job_core::Made;
 use paint_device::Device;
 use std::alloc::Global;
 use tile_core::{Lays, Tile};
 
-/// Lays what was painted on the device, and adds its tile to the keys. Where there is no memory
-/// no pixel has changed, and no key has come.
+/// Lays what was painted on the device, and notes what stood in its tile before the stroke. Where
+/// there is no memory no pixel has changed, and nothing was noted.
 pub fn lay(
     alloc: Global,
     device: &mut Device,
-    keys: &mut KeySet,
+    found: &mut Found,
     made: &Made,
 ) -> Result<(), NoMemory>
+    requires { StandIn found.old (Some device.old) }
     ensures ok { (w : Paint) → Makes w made.now → OnOk result (layer_of device.new ≡ published w.job (paints.layer_of w.shot) w.key (layer_of device.old)) }
-    ensures keys { OnOk result (keys.new ≡ set.insert keys.old made.now.key) }
+    ensures keys { OnOk result (keys_in found.new ≡ set.insert (keys_in found.old) made.now.key) }
+    ensures back { GivesBack found.old found.new device.old device.new }
     ensures err { OnErr result (layer_of device.new ≡ layer_of device.old) }
-    ensures no_key { OnErr result (keys.new ≡ keys.old) }
+    ensures no_note { OnErr result (found.new ≡ found.old) }
 {
-    if laid_in_place(device, keys, made) {
+    if laid_in_place(device, found, made) {
         return Ok(());
     }
     let tile = laid(alloc, device, made)?;
-    set_under(device, keys, made.key(), tile)
+    set_under(device, found, made.key(), tile)
 }
 
-/// Lays one block in place, where its tile is among the keys and nobody shares it. It tells whether
-/// it did; else nothing changes. No memory.
-fn laid_in_place(device: &mut Device, keys: &KeySet, made: &Made) -> bool
+/// Lays one block in place, where something was noted of its tile and nobody shares it. It tells
+/// whether it did; else nothing changes. No memory.
+fn laid_in_place(device: &mut Device, found: &Found, made: &Made) -> bool
+    requires { StandIn found.now (Some device.old) }
     ensures laid { (w : Paint) → Makes w made.now → result ≡ true → layer_of device.new ≡ published w.job (paints.layer_of w.shot) w.key (layer_of device.old) }
-    ensures among { result ≡ true → set.contains keys.now made.now.key ≡ true }
+    ensures among { result ≡ true → map.contains_key found.now made.now.key ≡ true }
+    ensures back { GivesBack found.now found.now device.old device.new }
     ensures kept { result ≡ false → device.new ≡ device.old }
 {
     if made.block_count() == 1 {
-        changed_in_place(device, keys, made.key(), made.block(0))
+        changed_in_place(device, found, made.key(), made.block(0))
     } else {
         false
     }
 }
 
-/// Makes a change in place of the tile under the key, where that is among the keys and nobody shares
-/// it. It tells whether it did; else nothing changes. No memory.
+/// Makes a change in place of the tile under the key, where something was noted of that and nobody
+/// shares the tile. It tells whether it did; else nothing changes. No memory.
 pub fn changed_in_place<L: Lays>(
     device: &mut Device,
-    keys: &KeySet,
+    found: &Found,
     key: TileKey,
     change: &L,
 ) -> bool
+    requires { StandIn found.now (Some device.old) }
     ensures laid { result ≡ true → LaysUnder (L.laid change.now) device.old device.new key }
-    ensures among { result ≡ true → set.contains keys.now key ≡ true }
+    ensures among { result ≡ true → map.contains_key found.now key ≡ true }
+    ensures back { GivesBack found.now found.now device.old device.new }
     ensures kept { result ≡ false → device.new ≡ device.old }
 {
-    if keys.has(key) {
+    if found.has(key) {
         device.lay_alone(key, change)
     } else {
         false
     }
 }
 
-/// The tile stands under a key of the world, and that is among the keys. Where there is no memory
-/// no pixel has changed, and no key has come.
+/// The tile stands under a key of the world, and what stood there before the stroke is noted. Where
+/// there is no memory no pixel has changed, and nothing was noted.
 pub fn set_under(
     device: &mut Device,
-    keys: &mut KeySet,
+    found: &mut Found,
     key: TileKey,
     tile: Tile,
 ) -> Result<(), NoMemory>
-    requires { IsWorldKey key }
+    requires world { IsWorldKey key }
+    requires there { StandIn found.old (Some device.old) }
     ensures ok { OnOk result (device.new ≡ with_under device.old key (Some tile)) }
-    ensures keys { OnOk result (keys.new ≡ set.insert keys.old key) }
+    ensures keys { OnOk result (keys_in found.new ≡ set.insert (keys_in found.old) key) }
+    ensures back { GivesBack found.old found.new device.old device.new }
     ensures err { OnErr result (layer_of device.new ≡ layer_of device.old) }
-    ensures no_key { OnErr result (keys.new ≡ keys.old) }
+    ensures no_note { OnErr result (found.new ≡ found.old) }
 {
     device.ready(key)?;
-    keys.insert(key)?;
+    found.note(key, device)?;
     device.set_tile(key, tile);
     Ok(())
 }

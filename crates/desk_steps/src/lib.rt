@@ -3,6 +3,7 @@
 
 mod document;
 mod entry;
+mod found;
 mod keys;
 mod laying;
 mod painting;

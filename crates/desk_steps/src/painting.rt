@@ -1,6 +1,6 @@
 //! Painting point operations on a device.
 
-ghost use Rattle.std.specs.Prelude.{◌≡◌, vec_len, replicate, IfOk, IfSome, OnOk, OnErr};
+ghost use Rattle.std.specs.Prelude.{◌≡◌, Some, vec_len, replicate, IfOk, IfSome, OnOk, OnErr};
 ghost use Rattle.std.specs.Option.{option_copied};
 ghost use Rattle.std.specs.FinSet as set;
 ghost use Rattle.geom_core.specs.Grid.{IsWorldKey};
@@ -8,9 +8,10 @@ ghost use Rattle.memento_core.specs.Planes.{tile_under};
 ghost use Rattle.job_core.specs.Points.{LaysPoints, painted_in};
 ghost use Rattle.paint_device.specs.Seen.{layer_of};
 ghost use Rattle.paint_device.specs.Sheets.{tile_or};
+ghost use Rattle.desk_steps.specs.Founds.{GivesBack, StandIn, keys_in};
 ghost use Rattle.desk_steps.specs.Tiles.{IsPaintedOn, beside};
 
-use crate::keys::KeySet;
+use crate::found::Found;
 use crate::laying::{changed_in_place, set_under};
 use geom_core::{NoMemory, TileKey};
 use job_core::PointWork;
@@ -19,25 +20,27 @@ use pixel_core::Pixel;
 use std::alloc::Global;
 use tile_core::{Lays, Tile};
 
-/// Paints a point operation on the device, and adds its tile to the keys. Where there is no memory
-/// no pixel has changed, and no key has come.
+/// Paints a point operation on the device, and notes what stood in its tile before the stroke. Where
+/// there is no memory no pixel has changed, and nothing was noted.
 pub fn paint(
     alloc: Global,
     device: &mut Device,
-    keys: &mut KeySet,
+    found: &mut Found,
     work: &PointWork<'_>,
 ) -> Result<(), NoMemory>
+    requires { StandIn found.old (Some device.old) }
     ensures ok { OnOk result (layer_of device.new ≡ painted_in work.now.job work.now.key (layer_of device.old)) }
-    ensures keys { OnOk result (keys.new ≡ set.insert keys.old work.now.key) }
+    ensures keys { OnOk result (keys_in found.new ≡ set.insert (keys_in found.old) work.now.key) }
+    ensures back { GivesBack found.old found.new device.old device.new }
     ensures err { OnErr result (layer_of device.new ≡ layer_of device.old) }
-    ensures no_key { OnErr result (keys.new ≡ keys.old) }
+    ensures no_note { OnErr result (found.new ≡ found.old) }
 {
     let key = work.key();
-    if changed_in_place(device, keys, key, work) {
+    if changed_in_place(device, found, key, work) {
         return Ok(());
     }
     let tile = painted(alloc, device, work)?;
-    set_under(device, keys, key, tile)
+    set_under(device, found, key, tile)
 }
 
 /// The tile under the key with what the point operation makes of it.

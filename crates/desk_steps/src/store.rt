@@ -19,7 +19,7 @@ ghost use Rattle.desk_steps.specs.Archives.{Archive, IsArchive, Changes, HasTouc
 
 use crate::document::Document;
 use crate::entry::{Entry, Way};
-use crate::keys::KeySet;
+use crate::found::Found;
 use crate::reach::{Begun, Reach, TreeRefusal};
 use doc_model::Change;
 use geom_core::{NoMemory, Rect, TileKey, Touched};
@@ -36,8 +36,8 @@ use tree_core::Tree;
 
 /// A document of layers and groups, what can be undone and redone, and the stroke under way.
 ///
-/// A stroke notes its layer's device from before it, a change of the tree the whole document, both
-/// with their tiles shared. To undo or redo is to exchange them, so no tile is ever copied back.
+/// A stroke notes what stood in each tile that it puts, a change of the tree the whole document with
+/// its tiles shared. To undo or redo is to exchange them, so no tile is ever copied back.
 #[derive(Drop)]
 pub struct Store {
     alloc: Global,
@@ -49,15 +49,16 @@ pub struct Store {
 
 impl Model for Store {
     ghost use Rattle.desk_steps.specs.Archives.{Archive, archive_code};
-    ghost use Rattle.desk_steps.specs.Entries.{archive_of, IsKept};
+    ghost use Rattle.desk_steps.specs.Documents.{doc_in};
+    ghost use Rattle.desk_steps.specs.Entries.{archive_of, IsStored};
 
     ghost Value = { Archive };
 
     ghost coded = { archive_code };
 
-    ghost view = { λ s. archive_of s.doc s.history s.way s.room };
+    ghost view = { λ s. archive_of (doc_in s.doc) s.history s.way s.room };
 
-    ghost invariant = { λ s. IsKept s.doc s.history s.way s.room };
+    ghost invariant = { λ s. IsStored s.doc s.history s.way s.room };
 }
 
 impl Store {
@@ -84,7 +85,8 @@ impl Store {
         Ok(())
     }
 
-    /// Begins a stroke on a paint layer. Where the id is none, nothing begins.
+    /// Begins a stroke on a paint layer. Where the id is none, nothing begins. It takes no memory yet,
+    /// however many tiles the layer has.
     pub fn begin(&mut self, layer: u16) -> Result<Begun, NoMemory>
         requires { self.old.way ≡ None }
         ensures ready { result ≡ Ok Ready → (is_some (content layer self.old.present) ≡ true) × (self.new ≡ record self.old { way = Some (layer, set.empty) }) }
@@ -93,12 +95,10 @@ impl Store {
         ensures err { OnErr result (self.new ≡ self.old) }
     {
         match self.doc.layer(layer) {
-            Some(device) => {
-                let before = device.share()?;
+            Some(_) => {
                 self.way = Some(Way {
                     id: layer,
-                    keys: KeySet::new(self.alloc),
-                    before,
+                    found: Found::new(self.alloc),
                 });
                 Ok(Begun::Ready)
             }
@@ -141,7 +141,7 @@ impl Store {
     {
         let _key = made.key();
         match &mut self.way {
-            Some(way) => self.doc.put(alloc, way.id, &mut way.keys, made),
+            Some(way) => self.doc.put(alloc, way.id, &mut way.found, made),
             None => unreachable!(),
         }
     }
@@ -154,7 +154,7 @@ impl Store {
         ensures err { OnErr result (self.new ≡ self.old) }
     {
         match &mut self.way {
-            Some(way) => self.doc.paint(alloc, way.id, &mut way.keys, work),
+            Some(way) => self.doc.paint(alloc, way.id, &mut way.found, work),
             None => unreachable!(),
         }
     }
@@ -170,14 +170,13 @@ impl Store {
         };
         self.history.commit(Entry::Layer {
             id: way.id,
-            keys: way.keys,
-            device: way.before,
+            found: way.found,
         });
         self.room = false;
     }
 
-    /// Takes the stroke back, as if it had never begun. It tells the tiles that were put back. No memory.
-    /// The layer's device is exchanged as a whole, so it takes none of the steps that it may.
+    /// Takes the stroke back, as if it had never begun. It tells the tiles that were put back. No memory,
+    /// and a step for each of them.
     pub fn revert<L: Ledger>(&mut self, steps: &mut Steps<L>) -> Touched
         requires { is_some self.old.way ≡ true }
         ensures new { self.new ≡ reverted self.old }
@@ -186,8 +185,8 @@ impl Store {
     {
         match self.way.take() {
             Some(mut way) => {
-                self.doc.swap_layer(way.id, &mut way.before);
-                way.keys.touched()
+                self.doc.exchange(way.id, &mut way.found, steps);
+                way.found.touched()
             }
             None => unreachable!(),
         }
@@ -212,8 +211,8 @@ impl Store {
         Ok(Reach::Whole)
     }
 
-    /// Undoes the newest change. None exactly where there is none. No memory.
-    /// The document, or a layer's device, is exchanged as a whole, so it takes none of the steps that it may.
+    /// Undoes the newest change. None exactly where there is none. No memory. The tiles of a stroke are
+    /// exchanged, a step each; after a change of the tree the document is, as a whole.
     pub fn undo<L: Ledger>(&mut self, steps: &mut Steps<L>) -> Option<Reach>
         requires { self.old.way ≡ None }
         ensures none { IsNone result ↔ (self.old.past ≡ []) }
@@ -223,11 +222,11 @@ impl Store {
         ensures counts { steps.new ≤ steps.old + tiles_in_first self.old.past }
     {
         let entry = self.history.undo()?;
-        Some(entry.exchange(&mut self.doc))
+        Some(entry.exchange(&mut self.doc, steps))
     }
 
-    /// Redoes the change that was undone last. None exactly where there is none. No memory.
-    /// The document, or a layer's device, is exchanged as a whole, so it takes none of the steps that it may.
+    /// Redoes the change that was undone last. None exactly where there is none. No memory. The tiles of
+    /// a stroke are exchanged, a step each; after a change of the tree the document is, as a whole.
     pub fn redo<L: Ledger>(&mut self, steps: &mut Steps<L>) -> Option<Reach>
         requires { self.old.way ≡ None }
         ensures none { IsNone result ↔ (self.old.future ≡ []) }
@@ -237,7 +236,7 @@ impl Store {
         ensures counts { steps.new ≤ steps.old + tiles_in_first self.old.future }
     {
         let entry = self.history.redo()?;
-        Some(entry.exchange(&mut self.doc))
+        Some(entry.exchange(&mut self.doc, steps))
     }
 
     /// Forgets all changes that can be undone but the newest `keep`. No memory.

@@ -231,3 +231,57 @@ fn a_fill_and_a_dab(rt: HostRuntime) -> Result<(), Fail> {
     assert!(rt; pixel_of(&store, 0, 0).is_none());
     Ok(())
 }
+
+/// Whether there was something to redo.
+fn redone<L: Ledger>(store: &mut Store, blank: Blank) -> bool
+    requires name { blank.name ≡ L.name }
+    requires parts { blank.parts ≡ L.parts }
+    requires some { 0 < blank.parts }
+    requires rest { store.old.way ≡ None }
+    ensures { store.new.way ≡ None }
+{
+    let mut steps = Steps::<L>::new(blank);
+    store.redo(&mut steps).is_some()
+}
+
+#[test]
+fn two_strokes_and_a_layer_between(rt: HostRuntime) -> Result<(), Fail> {
+    let alloc = rt.alloc();
+    let mut store = Store::new(alloc)?;
+    assert!(rt; add_layer(&mut store, alloc, 1, Pixel::CLEAR));
+    let corner = Job::Fill {
+        rect: Rect::new(0, 0, 8, 8).expect(&rt, "a rectangle of the world"),
+        colour: red(),
+        op: Op::Over,
+        strength: 255,
+    };
+    let middle = Job::Fill {
+        rect: Rect::new(4, 4, 32, 32).expect(&rt, "a rectangle of the world"),
+        colour: blue(),
+        op: Op::Over,
+        strength: 255,
+    };
+    paint_both(&rt, alloc, &mut store, &corner, &corner)?;
+    assert!(rt; add_layer(&mut store, alloc, 2, blue()));
+    paint_both(&rt, alloc, &mut store, &middle, &corner)?;
+    assert!(rt; pixel_of(&store, 4, 4) == Some(red()));
+    assert!(rt; pixel_of(&store, 30, 30) == Some(blue()));
+    for _ in 0..2 {
+        assert!(rt; undone::<Brand>(&mut store, Blank::new(1)));
+        assert!(rt; pixel_of(&store, 4, 4) == Some(red()));
+        assert!(rt; pixel_of(&store, 30, 30) == Some(Pixel::CLEAR));
+        assert!(rt; undone::<Brand>(&mut store, Blank::new(1)));
+        assert!(rt; !store.tree().has(2));
+        assert!(rt; undone::<Brand>(&mut store, Blank::new(1)));
+        assert!(rt; pixel_of(&store, 4, 4).is_none());
+        assert!(rt; redone::<Brand>(&mut store, Blank::new(1)));
+        assert!(rt; pixel_of(&store, 4, 4) == Some(red()));
+        assert!(rt; pixel_of(&store, 30, 30) == Some(Pixel::CLEAR));
+        assert!(rt; redone::<Brand>(&mut store, Blank::new(1)));
+        assert!(rt; store.tree().has(2));
+        assert!(rt; redone::<Brand>(&mut store, Blank::new(1)));
+        assert!(rt; pixel_of(&store, 4, 4) == Some(red()));
+        assert!(rt; pixel_of(&store, 30, 30) == Some(blue()));
+    }
+    Ok(())
+}

@@ -1,15 +1,23 @@
-use Rattle.std.proofs.Common.{◌≡◌, sym, subst, ap, ◌∙◌}
+use Rattle.std.proofs.Common.{◌≡◌, Some, sym, subst, ap, ◌∙◌}
 use Rattle.doc_model.specs.Jobs.{published}
 use Rattle.job_core.specs.Paints as paints
 use Rattle.paint_device.specs.Seen.{layer_of}
+use Rattle.desk_steps.specs.Founds.{GivesBack, StandIn, keys_in}
 use Rattle.desk_steps.specs.Tiles.{IsLaid}
 use Rattle.desk_steps.proofs.Devices.{more_ok}
 use Rattle.desk_steps.proofs.Sets.{inserted_again}
 use Rattle.desk_steps.proofs.Lain.{key_made, laid_layer}
+use Rattle.desk_steps.proofs.Patched.{contains-keys_in}
 use Rattle.desk_steps.proofs.laying.lay.Goals as goal
 
 pub returns-then-laid_in_place-clause-keys : goal.returns-then-laid_in_place-clause-keys
-returns-then-laid_in_place-clause-keys c = sym (inserted_again c.args.keys.now c.args.made.now.key (c.laid_in_place.ensures.among c.if-laid_in_place.true))
+returns-then-laid_in_place-clause-keys c = sym (inserted_again (keys_in c.args.found.now) c.args.made.now.key (contains-keys_in c.args.found.now c.args.made.now.key ∙ c.laid_in_place.ensures.among c.if-laid_in_place.true))
+
+pub set_under-requires-clause-there : goal.set_under-requires-clause-there
+set_under-requires-clause-there c = subst (λ s. StandIn c.args.found.now (Some s)) (sym (c.laid_in_place.ensures.kept c.if-laid_in_place.false)) c.requires
+
+pub returns-clause-back : goal.returns-clause-back
+returns-clause-back c = subst (λ s. GivesBack c.args.found.now c.set_under.new.found s c.set_under.new.device) (c.laid_in_place.ensures.kept c.if-laid_in_place.false) c.set_under.ensures.back
 
 pub returns-clause-ok : goal.returns-clause-ok
 returns-clause-ok c w m =

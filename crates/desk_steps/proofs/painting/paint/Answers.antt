@@ -1,13 +1,15 @@
 use Rattle.std.proofs.Common.{◌≡◌, Some, sym, subst, ap, ◌∙◌}
-use Rattle.std.specs.FinSet as set
+use Rattle.std.specs.FinMap as map
 use Rattle.geom_core.specs.Grid.{IsWorldKey}
 use Rattle.job_core.specs.Points.{LaysPoints, painted_in}
 use Rattle.paint_device.specs.InPlace.{LaysUnder}
 use Rattle.paint_device.specs.Seen.{layer_of}
 use Rattle.paint_device.specs.Sheets.{with_under}
+use Rattle.desk_steps.specs.Founds.{GivesBack, StandIn, keys_in}
 use Rattle.desk_steps.proofs.Devices.{more_ok}
 use Rattle.desk_steps.proofs.Sets.{inserted_again}
 use Rattle.desk_steps.proofs.Lain.{tile_at, points_laid, work_key, laid_layer, changed_layer}
+use Rattle.desk_steps.proofs.Patched.{contains-keys_in}
 use Rattle.desk_steps.proofs.painting.paint.Goals as goal
 
 pub returns-then-changed_in_place-clause-ok : goal.returns-then-changed_in_place-clause-ok
@@ -18,10 +20,17 @@ returns-then-changed_in_place-clause-ok c =
     (λ before after was lays. points_laid w s before after (λ p h. tile_at s w.key before p h (sym was)) lays)
 
 pub returns-then-changed_in_place-clause-keys : goal.returns-then-changed_in_place-clause-keys
-returns-then-changed_in_place-clause-keys c = sym (inserted_again c.args.keys.now c.args.work.now.key (ap (set.contains c.args.keys.now) (sym c.key-key.ensures.value) ∙ c.changed_in_place.ensures.among c.if-changed_in_place.true))
+returns-then-changed_in_place-clause-keys c = sym (inserted_again (keys_in c.args.found.now) c.args.work.now.key (contains-keys_in c.args.found.now c.args.work.now.key
+    ∙ ap (map.contains_key c.args.found.now) (sym c.key-key.ensures.value) ∙ c.changed_in_place.ensures.among c.if-changed_in_place.true))
 
-pub set_under-requires : goal.set_under-requires
-set_under-requires c = subst IsWorldKey (sym c.key-key.ensures.value) (work_key c.args.work.now c.key-key.ensures.known)
+pub set_under-requires-clause-there : goal.set_under-requires-clause-there
+set_under-requires-clause-there c = subst (λ s. StandIn c.args.found.now (Some s)) (sym (c.changed_in_place.ensures.kept c.if-changed_in_place.false)) c.requires
+
+pub returns-clause-back : goal.returns-clause-back
+returns-clause-back c = subst (λ s. GivesBack c.args.found.now c.set_under.new.found s c.set_under.new.device) (c.changed_in_place.ensures.kept c.if-changed_in_place.false) c.set_under.ensures.back
+
+pub set_under-requires-clause-world : goal.set_under-requires-clause-world
+set_under-requires-clause-world c = subst IsWorldKey (sym c.key-key.ensures.value) (work_key c.args.work.now c.key-key.ensures.known)
 
 pub returns-clause-ok : goal.returns-clause-ok
 returns-clause-ok c =

@@ -1,18 +1,28 @@
-use Rattle.std.proofs.Common.{◌≡◌, true, is_some, ap, sym, subst, refl}
+use Rattle.std.proofs.Common.{◌≡◌, refl, true, is_some, sym, subst, ◌∙◌}
 use Rattle.doc_model.specs.Forest.{content}
-use Rattle.paint_device.specs.Seen.{layer_of}
-use Rattle.desk_steps.specs.Archives.{TellsReach}
-use Rattle.desk_steps.specs.Entries.{reach_in}
+use Rattle.desk_steps.specs.Archives.{HasTouched, TellsReach}
+use Rattle.desk_steps.specs.Documents.{doc_in, key_stands}
+use Rattle.desk_steps.specs.Founds.{keys_in, patched}
+use Rattle.desk_steps.specs.Entries.{reach_in, FitsOn, FitsKeys}
 use Rattle.desk_steps.specs.declared.reach.Reach.TheVariants as tells
+use Rattle.desk_steps.proofs.Devices.{some_in}
 use Rattle.desk_steps.proofs.Exchanged.{stands, told_part, still_there}
 use Rattle.desk_steps.proofs.entry.Entry.exchange.Goals as goal
 
+pub exchange-requires-clause-layer : goal.exchange-requires-clause-layer
+exchange-requires-clause-layer g c = sym (some_in c.in-Layer.id c.args.doc.now) ∙ subst (FitsOn (doc_in c.args.doc.now)) c.in-Layer.is c.requires.layer
+
+pub exchange-requires-clause-there : goal.exchange-requires-clause-there
+exchange-requires-clause-there g c = subst (FitsKeys (key_stands c.args.doc.now)) c.in-Layer.is c.requires.there
+
 pub unreachable-requires : goal.unreachable-requires
-unreachable-requires c =
-    let there : is_some (content c.in-Layer.id c.args.doc.now) ≡ true = ap is_some c.swap_layer.ensures.old in
-    stands c.in-Layer.id c.swap_layer.new.self c.tree.result.now c.tree.ensures.value (still_there c.in-Layer.id (layer_of c.in-Layer.device) c.args.doc.now c.swap_layer.new.self c.swap_layer.ensures.new there)
+unreachable-requires g c =
+    let there : is_some (content c.in-Layer.id (doc_in c.args.doc.now)) ≡ true = subst (FitsOn (doc_in c.args.doc.now)) c.in-Layer.is c.requires.layer in
+    stands c.in-Layer.id (doc_in c.exchange.new.self) c.tree.result.now c.tree.ensures.value
+    (still_there c.in-Layer.id (patched c.in-Layer.found) (doc_in c.args.doc.now) (doc_in c.exchange.new.self) c.exchange.ensures.new there)
     (c.in-None.ensures.none.0 refl)
 
 pub returns-in-Some-clause-reach : goal.returns-in-Some-clause-reach
-returns-in-Some-clause-reach c = subst (λ e. TellsReach (reach_in e) c.swap_layer.new.self (tells.Part c.in-Some.group c.touched.result)) (sym c.in-Layer.is)
-    (told_part c.in-Layer.id c.in-Layer.keys c.swap_layer.new.self c.tree.result.now c.in-Some.group c.touched.result c.tree.ensures.value c.in-Some.ensures.value c.touched.ensures)
+returns-in-Some-clause-reach g c = subst (λ e. TellsReach (reach_in e) (doc_in c.exchange.new.self) (tells.Part c.in-Some.group c.touched.result)) (sym c.in-Layer.is)
+    (told_part c.in-Layer.id (keys_in c.in-Layer.found) (doc_in c.exchange.new.self) c.tree.result.now c.in-Some.group c.touched.result c.tree.ensures.value c.in-Some.ensures.value
+    (subst (λ s. HasTouched s c.touched.result) c.exchange.ensures.keys c.touched.ensures))

@@ -1,0 +1,198 @@
+-- The layer with what was noted of it.
+use Rattle.std.proofs.Common.{◌≡◌, Bool, true, false, ◌&&◌, ◌||◌, cond, Option, Some, None, is_some, List, [], ◌∷◌, refl, sym, ap, ◌∙◌, subst}
+use Rattle.std.specs.Prelude.{map}
+use Rattle.std.specs.Option.{unwrap_or}
+use Rattle.std.specs.List.{list_any}
+use Rattle.std.specs.FinMap as fin
+use Rattle.std.specs.FinSet as set
+use Rattle.pixel_core.specs.Rgba.{Rgba}
+use Rattle.geom_core.specs.Points.{Point}
+use Rattle.geom_core.specs.Areas.{holds, any_holds}
+use Rattle.geom_core.specs.Grid.{Key, key_cmp, key_of, same_key, tile, key_cmp_total, key_cmp-IsAntisymmetric}
+use Rattle.geom_core.proofs.Tests.{taken, kept, or_right}
+use Rattle.geom_core.proofs.Tiles.{own_tile, key_of_holder, key_same, key_is}
+use Rattle.memento_core.specs.Planes.{Keyed, tile_under}
+use Rattle.tile_core.specs.Pixels.{Pixels, pixel_or}
+use Rattle.doc_model.specs.Layers.{Layer, at, layer_ext, at-painted, default-painted}
+use Rattle.paint_device.specs.Sheets.{Sheet, sheet_at, with_under, readied}
+use Rattle.paint_device.specs.InPlace.{LaysUnder}
+use Rattle.paint_device.specs.Seen.{layer_of}
+use Rattle.paint_device.proofs.Shown.{at-layer_of, default-layer_of}
+use Rattle.paint_device.proofs.Writes.{seen_after_exchange}
+use Rattle.desk_steps.specs.Founds.{Exchanges, GivesBack, StandIn, keys_in, noted_under, patched}
+use Rattle.desk_steps.proofs.Sets.{same_bools}
+use Rattle.desk_steps.proofs.Lain.{ready_layer}
+
+holds_tile : (k : Key) (p : Point) → holds (tile k) p ≡ same_key (key_of p) k
+holds_tile k p = same_bools _ _ (λ h. key_is (key_of p) k (key_of_holder k p h)) (λ h. subst (λ m. holds (tile m) p ≡ true) (key_same (key_of p) k h) (own_tile p))
+
+any_tile : (ks : List Key) (p : Point) → any_holds (map tile ks) p ≡ list_any (same_key (key_of p)) ks
+any_tile [] p = refl
+any_tile (k ∷ ks) p = λ i. holds_tile k p i || any_tile ks p i
+
+-- what stands at a point, with what was noted
+abbrev seen : Keyed Pixels → Rgba → Point → Rgba → Rgba
+seen found c p x = cond (fin.contains_key found (key_of p)) (pixel_or (tile_under found (key_of p)) c p) x
+
+pub at-patched : (found : Keyed Pixels) (l : Layer) (p : Point) → at (patched found l) p ≡ seen found l.default_pixel p (at l p)
+unfolding patched
+at-patched found l p = at-painted (map tile (fin.keys found)) (λ _. true) _ l p
+    ∙ ap (λ b. cond b (pixel_or (tile_under found (key_of p)) l.default_pixel p) (at l p)) (and_true _ ∙ any_tile (fin.keys found) p ∙ sym (fin.contains_key-keys found (key_of p)))
+  where
+    and_true : (b : Bool) → (b && true) ≡ b
+    and_true true = refl
+    and_true false = refl
+
+pub default-patched : (found : Keyed Pixels) (l : Layer) → (patched found l).default_pixel ≡ l.default_pixel
+unfolding patched
+default-patched found l = default-painted (map tile (fin.keys found)) (λ _. true) _ l
+
+-- where nothing was noted all stays
+pub patched-empty : (l : Layer) → patched fin.empty l ≡ l
+patched-empty l = layer_ext _ _ (default-patched fin.empty l)
+    (λ p. at-patched fin.empty l p ∙ ap (λ o. cond (is_some o) (pixel_or (unwrap_or o None) l.default_pixel p) (at l p)) (fin.get-empty key_cmp (key_of p)))
+
+-- of a device, by its own default pixel
+at-patched-layer_of : (found : Keyed Pixels) (s : Sheet) (p : Point) → at (patched found (layer_of s)) p ≡ seen found s.default_pixel p (sheet_at s p)
+at-patched-layer_of found s p = at-patched found (layer_of s) p ∙ (λ i. seen found (default-layer_of s i) p (at-layer_of s p i))
+
+default-patched-layer_of : (found : Keyed Pixels) (s : Sheet) → (patched found (layer_of s)).default_pixel ≡ s.default_pixel
+default-patched-layer_of found s = default-patched found (layer_of s) ∙ default-layer_of s
+
+-- after an exchange the layer is that with what was noted
+pub exchange_laid : (found after : Keyed Pixels) (old new : Sheet) → Exchanges found after old new → layer_of new ≡ patched found (layer_of old)
+exchange_laid found after old new e = layer_ext _ _
+    (default-layer_of new ∙ e.default_pixel ∙ sym (default-patched-layer_of found old))
+    (λ p. at-layer_of new p ∙ go p (fin.contains_key found (key_of p)) refl ∙ sym (at-patched-layer_of found old p))
+  where
+    go : (p : Point) (b : Bool) → fin.contains_key found (key_of p) ≡ b → sheet_at new p ≡ seen found old.default_pixel p (sheet_at old p)
+    go p true h = (λ i. pixel_or (unwrap_or (e.laid (key_of p) h i) None) (e.default_pixel i) p) ∙ sym (taken (fin.contains_key found (key_of p)) _ _ h)
+    go p false h = (λ i. pixel_or (unwrap_or (e.others (key_of p) h i) None) (e.default_pixel i) p) ∙ sym (kept (fin.contains_key found (key_of p)) _ _ h)
+
+-- and to exchange again goes back
+pub exchange_back : (found after : Keyed Pixels) (old new : Sheet) → Exchanges found after old new → Exchanges after found new old
+exchange_back found after old new e = record {
+  default_pixel = sym e.default_pixel;
+  keys = λ k. sym (e.keys k);
+  laid = λ k h. sym (e.lifted k (sym (e.keys k) ∙ h));
+  lifted = λ k h. sym (e.laid k (sym (e.keys k) ∙ h));
+  others = λ k h. sym (e.others k (sym (e.keys k) ∙ h));
+}
+
+-- an exchange keeps the keys that stand
+pub exchange_keys : (found after : Keyed Pixels) (old new : Sheet) → Exchanges found after old new → StandIn found (Some old) → (k : Key) → fin.contains_key new.tiles k ≡ fin.contains_key old.tiles k
+exchange_keys found after old new e stand k = go (fin.contains_key found k) refl
+  where
+    go : (b : Bool) → fin.contains_key found k ≡ b → fin.contains_key new.tiles k ≡ fin.contains_key old.tiles k
+    go true h = ap is_some (e.laid k h) ∙ h ∙ sym (stand k h)
+    go false h = ap is_some (e.others k h)
+
+pub exchange_stands : (found after : Keyed Pixels) (old new : Sheet) → Exchanges found after old new → StandIn found (Some old) → StandIn after (Some new)
+exchange_stands found after old new e stand k h = exchange_keys found after old new e stand k ∙ stand k (sym (e.keys k) ∙ h)
+
+pub contains-keys_in : (found : Keyed Pixels) (k : Key) → set.contains (keys_in found) k ≡ fin.contains_key found k
+contains-keys_in found k = set.contains-from_list key_cmp_total (fin.keys found) k ∙ sym (fin.contains_key-keys found k)
+
+-- of the same keys something was noted
+pub exchange_notes : (found after : Keyed Pixels) (old new : Sheet) → Exchanges found after old new → keys_in after ≡ keys_in found
+exchange_notes found after old new e = set.same_set key_cmp_total key_cmp-IsAntisymmetric _ _ (λ k. contains-keys_in after k ∙ e.keys k ∙ sym (contains-keys_in found k))
+
+-- what was noted of nothing
+pub keys_in-empty : keys_in fin.empty ≡ set.empty
+keys_in-empty = set.same_set key_cmp_total key_cmp-IsAntisymmetric _ _ (λ k. contains-keys_in fin.empty k ∙ ap is_some (fin.get-empty key_cmp k) ∙ sym (set.contains-empty key_cmp k))
+
+some_or : {A : Type 0} (b : Bool) (x : A) (o : Option A) → is_some (cond b (Some x) o) ≡ (b || is_some o)
+some_or true x o = refl
+some_or false x o = refl
+
+-- a key that comes in is there, and so are the others
+pub has-insert : (found : Keyed Pixels) (k : Key) (t : Option Pixels) (q : Key) → fin.contains_key (fin.insert found k t) q ≡ (same_key q k || fin.contains_key found q)
+has-insert found k t q = ap is_some (fin.get-insert key_cmp_total found k t q) ∙ some_or (same_key q k) t (fin.get found q)
+
+-- something is noted of a key
+module _ (found : Keyed Pixels) (k : Key) (t : Option Pixels) where
+  pub has-noted_under : (q : Key) → fin.contains_key (noted_under found k t) q ≡ (same_key q k || fin.contains_key found q)
+  has-noted_under q = go (fin.contains_key found k) refl
+    where
+      own : (b : Bool) → same_key q k ≡ b → fin.contains_key found k ≡ true → fin.contains_key found q ≡ (b || fin.contains_key found q)
+      own true e h = ap (fin.contains_key found) (key_same q k e) ∙ h
+      own false e h = refl
+
+      go : (b : Bool) → fin.contains_key found k ≡ b → fin.contains_key (cond b found (fin.insert found k t)) q ≡ (same_key q k || fin.contains_key found q)
+      go true h = own (same_key q k) refl h
+      go false h = has-insert found k t q
+
+  pub keys_in-noted_under : keys_in (noted_under found k t) ≡ set.insert (keys_in found) k
+  keys_in-noted_under = set.same_set key_cmp_total key_cmp-IsAntisymmetric _ _ (λ q. contains-keys_in (noted_under found k t) q ∙ has-noted_under q
+      ∙ ap (λ b. same_key q k || b) (sym (contains-keys_in found q)) ∙ sym (set.contains-insert key_cmp_total (keys_in found) k q))
+
+-- a tile goes under a key, and what stood there is noted where nothing was: that gives back the same layer
+module _ (found : Keyed Pixels) (s : Sheet) (k : Key) (t : Pixels) where
+  seen_same : (p : Point) → seen (noted_under found k (tile_under s.tiles k)) s.default_pixel p (sheet_at (with_under s k (Some t)) p) ≡ seen found s.default_pixel p (sheet_at s p)
+  seen_same p = ap (seen (noted_under found k (tile_under s.tiles k)) s.default_pixel p) (seen_after_exchange s k (Some t) p) ∙ go (fin.contains_key found k) refl (same_key (key_of p) k) refl
+    where
+      go : (b : Bool) → fin.contains_key found k ≡ b → (c : Bool) → same_key (key_of p) k ≡ c
+          → seen (cond b found (fin.insert found k (tile_under s.tiles k))) s.default_pixel p (cond c (pixel_or (Some t) s.default_pixel p) (sheet_at s p)) ≡ seen found s.default_pixel p (sheet_at s p)
+      go true h true e =
+          let there : fin.contains_key found (key_of p) ≡ true = ap (fin.contains_key found) (key_same (key_of p) k e) ∙ h in
+          taken (fin.contains_key found (key_of p)) _ _ there ∙ sym (taken (fin.contains_key found (key_of p)) _ _ there)
+      go true h false e = refl
+      go false h true e =
+          let new : fin.get (fin.insert found k (tile_under s.tiles k)) (key_of p) ≡ Some (tile_under s.tiles k) = fin.get-insert key_cmp_total found k (tile_under s.tiles k) (key_of p) ∙ taken (same_key (key_of p) k) _ _ e in
+          let none : fin.contains_key found (key_of p) ≡ false = ap (fin.contains_key found) (key_same (key_of p) k e) ∙ h in
+          ap (λ o. cond (is_some o) (pixel_or (unwrap_or o None) s.default_pixel p) (pixel_or (Some t) s.default_pixel p)) new
+          ∙ ap (λ q. pixel_or (tile_under s.tiles q) s.default_pixel p) (sym (key_same (key_of p) k e)) ∙ sym (kept (fin.contains_key found (key_of p)) _ _ none)
+      go false h false e =
+          let same : fin.get (fin.insert found k (tile_under s.tiles k)) (key_of p) ≡ fin.get found (key_of p) = fin.get-insert key_cmp_total found k (tile_under s.tiles k) (key_of p) ∙ kept (same_key (key_of p) k) _ _ e in
+          ap (λ o. cond (is_some o) (pixel_or (unwrap_or o None) s.default_pixel p) (sheet_at s p)) same
+
+  patched_same : patched (noted_under found k (tile_under s.tiles k)) (layer_of (with_under s k (Some t))) ≡ patched found (layer_of s)
+  patched_same = layer_ext _ _
+      (default-patched-layer_of (noted_under found k (tile_under s.tiles k)) (with_under s k (Some t)) ∙ sym (default-patched-layer_of found s))
+      (λ p. at-patched-layer_of (noted_under found k (tile_under s.tiles k)) (with_under s k (Some t)) p ∙ seen_same p ∙ sym (at-patched-layer_of found s p))
+
+  pub put_back : (after : Keyed Pixels) (new : Sheet) → StandIn found (Some s) → new ≡ with_under s k (Some t) → after ≡ noted_under found k (tile_under s.tiles k) → GivesBack found after s new
+  put_back after new stand is more = record {
+    same = (λ i. patched (more i) (layer_of (is i))) ∙ patched_same;
+    keys = λ q h. ap (λ (s : Sheet). fin.contains_key s.tiles q) is ∙ has-insert s.tiles k (Some t) q ∙ or_right (same_key q k) _ h;
+    stand = λ q h. ap (λ (s : Sheet). fin.contains_key s.tiles q) is ∙ has-insert s.tiles k (Some t) q ∙ either (same_key q k) _ _ (stand q) (sym (has-noted_under found k (tile_under s.tiles k) q) ∙ ap (λ f. fin.contains_key f q) (sym more) ∙ h);
+  }
+    where
+      either : (a b c : Bool) → (b ≡ true → c ≡ true) → (a || b) ≡ true → (a || c) ≡ true
+      either true b c f h = refl
+      either false b c f h = f h
+
+-- no pixel changes, and nothing is noted
+pub same_back : (found : Keyed Pixels) (old new : Sheet) → StandIn found (Some old) → layer_of new ≡ layer_of old → ((k : Key) → fin.contains_key old.tiles k ≡ true → fin.contains_key new.tiles k ≡ true) → GivesBack found found old new
+same_back found old new stand e keys = record { same = ap (patched found) e; keys = keys; stand = λ k h. keys k (stand k h) }
+
+has-readied : (s : Sheet) (k q : Key) → fin.contains_key s.tiles q ≡ true → fin.contains_key (readied s k).tiles q ≡ true
+has-readied s k q h = go (fin.contains_key s.tiles k)
+  where
+    go : (b : Bool) → fin.contains_key (cond b s (with_under s k None)).tiles q ≡ true
+    go true = h
+    go false = has-insert s.tiles k None q ∙ or_right (same_key q k) _ h
+
+-- a key comes in
+pub ready_back : (found : Keyed Pixels) (s new : Sheet) (k : Key) → StandIn found (Some s) → new ≡ readied s k → GivesBack found found s new
+ready_back found s new k stand is = same_back found s new stand (ap layer_of is ∙ ready_layer s k) (λ q h. ap (λ (s : Sheet). fin.contains_key s.tiles q) is ∙ has-readied s k q h)
+
+-- what stands under it stays
+pub tile-readied : (s : Sheet) (k : Key) → tile_under (readied s k).tiles k ≡ tile_under s.tiles k
+tile-readied s k = go (fin.contains_key s.tiles k) refl
+  where
+    none : (o : Option (Option Pixels)) → is_some o ≡ false → None ≡ unwrap_or o None
+    none None e = refl
+    none (Some t) e = absurd (no e)
+      where
+        no : true ≡ false → ⊥
+        no e = cc
+
+    go : (b : Bool) → fin.contains_key s.tiles k ≡ b → tile_under (cond b s (with_under s k None)).tiles k ≡ tile_under s.tiles k
+    go true h = refl
+    go false h = ap (λ o. unwrap_or o None) (fin.get-insert key_cmp_total s.tiles k None k ∙ taken (same_key k k) _ _ (key_is k k refl)) ∙ none (fin.get s.tiles k) h
+
+-- a change in place, where something was noted of the key
+pub alone_back : (R : Pixels → Pixels → Type 0) (found : Keyed Pixels) (old new : Sheet) (k : Key) (b : Bool) → StandIn found (Some old) → fin.contains_key found k ≡ true → (b ≡ true → LaysUnder R old new k) → (b ≡ false → new ≡ old) → GivesBack found found old new
+alone_back R found old new k true stand among lays kept_is = let l = lays refl in put_back found old k l.after found new stand l.new_is (sym (taken (fin.contains_key found k) _ _ among))
+alone_back R found old new k false stand among lays kept_is = same_back found old new stand (ap layer_of (kept_is refl)) (λ q h. ap (λ (s : Sheet). fin.contains_key s.tiles q) (kept_is refl) ∙ h)
