@@ -1,10 +1,11 @@
 -- What becomes of the story as entries end.
-use Rattle.std.proofs.Common.{◌≡◌, ℕ, suc, zero, Bool, true, false, Option, Some, None, is_some, List, [], ◌∷◌, ◌++◌, map, length, drop, take, cond, length-append, eqb, ◌||◌, refl, sym, ap, ◌∙◌, subst}
-use Rattle.std.specs.Prelude.{slice_get, Result, Ok, Err, IfOk, All, ◌&&◌}
+use Rattle.std.proofs.Common.{◌≡◌, ℕ, Bool, true, false, Option, Some, None, is_some, List, [], ◌∷◌, ◌++◌, length, cond, eqb, ◌||◌, refl, sym, ap, ◌∙◌, subst}
+use Rattle.std.specs.Prelude.{slice_get, Result, Ok, Err, IfOk, All}
 use Rattle.std.specs.Option.{unwrap_or}
 use Rattle.std.specs.List.{list_all, AllByRecursion}
-use Rattle.std.specs.Global.{Vec}
 use Rattle.std.proofs.lemmas.List.Elements.{recursion_from_All}
+use Rattle.std.proofs.lemmas.List.Sums.{AllPass-from_list_all}
+use Rattle.std.proofs.lemmas.Result.{IfOk-weaker}
 use Rattle.pixel_core.specs.Rgba.{clear}
 use Rattle.geom_core.proofs.Tests.{both_true, is_some-None}
 use Rattle.doc_model.specs.declared.job.Job.{Job}
@@ -14,11 +15,11 @@ use Rattle.doc_model.specs.declared.command.Outcome.{Outcome}
 use Rattle.doc_model.specs.declared.command.Outcome.TheVariants as outcome
 use Rattle.doc_model.specs.Layers.{Layer, plain}
 use Rattle.doc_model.specs.Jobs.{apply_all}
-use Rattle.doc_model.specs.Forest.{Forest, content, with_content}
+use Rattle.doc_model.specs.Forest.{content, with_content}
 use Rattle.doc_model.specs.Changes.{there}
 use Rattle.doc_model.specs.Picture.{Doc}
 use Rattle.doc_model.specs.Lawful.{is_closed_entry, lawful, checks, within_limits}
-use Rattle.doc_model.specs.Meaning.{Story, start, told, told_all, told_stroke, closed_stroke, laid_stroke, advanced, meaning, ends_with}
+use Rattle.doc_model.specs.Meaning.{Story, start, told, laid_stroke, advanced, meaning, ends_with}
 use Rattle.doc_model.specs.Strokes as doc
 use Rattle.doc_model.specs.Strokes.{Stroke, Jobs, entries}
 use Rattle.machine_model.specs.Effects.{layer_in}
@@ -26,30 +27,22 @@ use Rattle.stroke_core.specs.Fed.{Closed}
 use Rattle.entry_queue.specs.declared.entry.Entry.{Entry}
 use Rattle.entry_queue.specs.declared.entry.Entry.TheVariants.{Whole}
 use Rattle.entry_queue.specs.Pushed.{Pending, StandsFor, queued}
-use Rattle.entry_queue.proofs.Taking.{lawful_fits}
 use Rattle.desk_steps.specs.Archives.{shape}
 use Rattle.export_core.proofs.SameTree.{has_each}
 use Rattle.script_text.specs.Script.{Contents}
-use Rattle.solo_run.specs.Told.{IsReady, fits}
-use Rattle.solo_run.proofs.Fronts.{take_more}
-use Rattle.solo_run.proofs.Stories.{as_stroke, fate_of, told_whole, IsNext, next_left, closed_at, fits_at, queued_fits, told_all-last, none_left_over}
+use Rattle.solo_run.specs.Told.{IsReady}
+use Rattle.solo_run.proofs.Stories.{as_stroke, told_laid, IsNext, next_entry, ready_next, holds_at, told_next, told_none, told_all_left}
 use Rattle.across.specs.declared.telling.Telling.{Telling}
-use Rattle.across.specs.Steps.{job_sound, jobs_only}
+use Rattle.solo_run.specs.Painting.{jobs_only}
+use Rattle.across.specs.Steps.{job_sound}
 use Rattle.across.specs.Tellings.{GoesOn, Ends, HasCome, Tells, story_of}
 use Rattle.across.proofs.Filling.{Shape}
-
-goes_as : (one other : Story → Story) (old new : Telling) (o : Outcome) → ((story : Story) → one story ≡ other story) → GoesOn one old new o → GoesOn other old new o
-goes_as one other old new o same g = record { canvas = g.canvas; story = λ outcomes. g.story outcomes ∙ same (story_of old outcomes) }
-
-if_goes : {E : Type 0} (one other : Story → Story) (old new : Telling) (r : Result Outcome E) → ((story : Story) → one story ≡ other story) → IfOk r (GoesOn one old new) → IfOk r (GoesOn other old new)
-if_goes one other old new (Ok o) same g = goes_as one other old new o same g
-if_goes one other old new (Err e) same g = tt
 
 -- a stroke that was laid
 pub laid_ends : {E : Type 0} (old new : Telling) (e : doc.Entry) (c : Closed) (r : Result Outcome E) → queued e ≡ Whole c → c.stroke.overlap ≡ None → c.cancelled ≡ false
     → ((s : Stroke) → s.layer ≡ c.stroke.layer → s.jobs ≡ c.stroke.jobs → IfOk r (GoesOn (λ story. laid_stroke story s (content s.layer story.document)) old new)) → IfOk r (Ends e old new)
-laid_ends old new e c r h o k g = if_goes (λ story. laid_stroke story (as_stroke c) (content c.stroke.layer story.document)) (λ story. told old.canvas story e) old new r
-    (λ story. sym (told_whole old.canvas story e c h ∙ ap (told_stroke story (as_stroke c)) o ∙ ap (λ b. closed_stroke story (record (as_stroke c) { fate = fate_of b }) (fate_of b)) k))
+laid_ends old new e c r h n k g = IfOk-weaker r _ _
+    (λ o on. record { canvas = on.canvas; story = λ outcomes. on.story outcomes ∙ sym (told_laid old.canvas (story_of old outcomes) e c h n k) })
     (g (as_stroke c) refl refl)
 
 -- a stroke whose jobs were done on its layer
@@ -91,49 +84,35 @@ all_sound jobs c l = go jobs (recursion_from_All (λ (j : Kind × Job). checks j
     go [] c l = refl
     go (j ∷ jobs) c l = both_true _ _ (both_true _ _ c.0 l.0) (go jobs c.1 l.1)
 
-next_entry : (commands : List Command) (s : Telling) (q : Pending) (x : Entry) → HasCome commands s q → Some x ≡ slice_get q.left 0 → IsNext (entries commands) (length q.outcomes) x
-next_entry commands s q x h e = next_left (entries commands) (length q.outcomes) x (ap (λ left. slice_get left 0) (sym h.queue.left_is) ∙ sym e)
-
 -- the first entry is ready
 pub next_ready : (commands : List Command) (s : Telling) (q : Pending) (x : Entry) → lawful commands ≡ true → list_all is_closed_entry (entries commands) ≡ true → HasCome commands s q → Some x ≡ slice_get q.left 0 → IsReady x
 next_ready commands s q x l all h e =
-    let next : IsNext (entries commands) (length q.outcomes) x = next_entry commands s q x h e in
-    record {
-      entry = next.entry;
-      is = next.is;
-      closed = closed_at (entries commands) (length q.outcomes) next.entry next.at all;
-      fit = ap fits (sym next.is) ∙ queued_fits next.entry (fits_at (entries commands) (length q.outcomes) next.entry next.at (lawful_fits commands l));
-    }
+    let next : IsNext (entries commands) (length q.outcomes) x = next_entry commands q x h.queue e in
+    ready_next commands (length q.outcomes) x l next (holds_at (λ e. is_closed_entry e ≡ true) (entries commands) (length q.outcomes) next.entry next.at (recursion_from_All _ (entries commands) (AllPass-from_list_all is_closed_entry (entries commands) all)))
 
 -- one entry more
 pub come_further : (commands : List Command) (old new : Telling) (q r : Pending) (x : Entry) (o : Outcome) → HasCome commands old q → Some x ≡ slice_get q.left 0
     → ((e : doc.Entry) → queued e ≡ x → Ends e old new o) → r.outcomes ≡ q.outcomes ++ o ∷ [] → StandsFor commands r → HasCome commands new r
 come_further commands old new q r x o h e ends outcomes stands =
-    let next : IsNext (entries commands) (length q.outcomes) x = next_entry commands old q x h e in
+    let next : IsNext (entries commands) (length q.outcomes) x = next_entry commands q x h.queue e in
     let on : Ends next.entry old new o = ends next.entry next.is in
     record {
       queue = stands;
-      story =
-          ap (story_of new) outcomes
-          ∙ on.story q.outcomes
-          ∙ ap (λ t. told old.canvas t next.entry) h.story
-          ∙ sym (told_all-last old.canvas start (take (length q.outcomes) (entries commands)) next.entry)
-          ∙ ap (told_all old.canvas start) (sym (take_more (entries commands) (length q.outcomes) next.entry next.at) ∙ ap (λ n. take n (entries commands)) (sym (ap length outcomes ∙ length-append q.outcomes (o ∷ []))))
-          ∙ ap (λ c. meaning c (take (length r.outcomes) (entries commands))) (sym on.canvas);
+      story = ap (story_of new) outcomes ∙ on.story q.outcomes ∙ ap (λ t. told old.canvas t next.entry) h.story ∙ told_next old.canvas new.canvas (entries commands) next.entry q.outcomes r.outcomes o next.at outcomes on.canvas;
     }
 
 -- no entry yet
 pub come_none : (fed commands : List Command) (s : Telling) (q : Pending) → fed ≡ commands → StandsFor fed q → q.outcomes ≡ [] → story_of s [] ≡ start → HasCome commands s q
 come_none fed commands s q same stands none begins = record {
   queue = subst (λ cs. StandsFor cs q) same stands;
-  story = ap (story_of s) none ∙ begins ∙ sym (ap (λ os. meaning s.canvas (take (length os) (entries commands))) none);
+  story = ap (story_of s) none ∙ begins ∙ told_none s.canvas (entries commands) q.outcomes none;
 }
 
 -- the frames and the outcomes after all entries
 pub come_tells : (script : Contents) (s : Telling) (q : Pending) → HasCome script.commands s q → s.canvas ≡ script.canvas → q.left ≡ [] → Tells script s.frames.items q.outcomes
 come_tells script s q h c e =
     let told : story_of s q.outcomes ≡ meaning script.canvas (entries script.commands) =
-    h.story ∙ ap (meaning s.canvas) (none_left_over (length q.outcomes) (entries script.commands) (sym h.queue.left_is ∙ e)) ∙ ap (λ d. meaning d (entries script.commands)) c in
+    h.story ∙ told_all_left s.canvas script.commands q h.queue e ∙ ap (λ d. meaning d (entries script.commands)) c in
     record {
       frames_are = ap (λ (t : Story). t.frames) told;
       outcomes_are = ap (λ (t : Story). t.outcomes) told;

@@ -1,11 +1,11 @@
 -- A document after a change of its tree, and after jobs.
-use Rattle.std.proofs.Common.{◌≡◌, ℕ, Bool, true, false, cond, eqb, Option, Some, None, is_some, Result, Ok, Err, List, refl, sym, ap, ◌∙◌, arith}
+use Rattle.std.proofs.Common.{◌≡◌, ℕ, Bool, true, false, cond, eqb, Option, Some, None, is_some, Ok, Err, List, refl, sym, ap, ◌∙◌, arith}
 use Rattle.std.specs.Option.{unwrap_or}
 use Rattle.std.proofs.lemmas.Bool.Decides.{nat_tests}
 use Rattle.pixel_core.specs.Rgba.{clear}
 use Rattle.doc_model.specs.Layers.{Layer, plain}
 use Rattle.doc_model.specs.Jobs.{apply_all}
-use Rattle.doc_model.specs.Forest.{Forest, each, content, with_content}
+use Rattle.doc_model.specs.Forest.{Forest, content, with_content}
 use Rattle.doc_model.specs.Changes.{changed}
 use Rattle.doc_model.specs.Picture.{Doc}
 use Rattle.doc_model.specs.Strokes.{Jobs}
@@ -15,7 +15,8 @@ use Rattle.doc_model.specs.declared.tree.TreeFault.{TreeFault}
 use Rattle.machine_model.specs.Effects.{layer_in}
 use Rattle.desk_steps.proofs.Filled.{each_same, content_by, content_each, with_content_each, after, with_contents, changed_each}
 use Rattle.across.specs.declared.layer.Step.{Step}
-use Rattle.across.specs.Steps.{layer_after, jobs_only}
+use Rattle.solo_run.specs.Painting.{jobs_only}
+use Rattle.across.specs.Steps.{layer_after}
 use Rattle.across.specs.Documents.{filled, with_fresh}
 use Rattle.across.proofs.Layered.{Laid}
 

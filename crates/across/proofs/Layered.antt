@@ -1,5 +1,5 @@
 -- Layers after steps.
-use Rattle.std.proofs.Common.{◌≡◌, ℕ, suc, zero, ◌+◌, ◌*◌, Bool, true, false, cond, eqb, List, [], ◌∷◌, ◌++◌, map, take, length, ◌≤◌, Some, refl, sym, ap, ◌∙◌, arith}
+use Rattle.std.proofs.Common.{◌≡◌, ℕ, suc, zero, ◌+◌, ◌*◌, Bool, true, false, cond, eqb, List, [], ◌∷◌, ◌++◌, length, ◌≤◌, Some, refl, sym, ap, ◌∙◌, arith}
 use Rattle.std.specs.Prelude.{slice_get, ℤ, pos, negsuc, ◌+ℤ◌, ◌-ℤ◌, ◌≤ℤ◌, int_le, int_lt, ◌&&◌, ◌||◌, nat_abs, nat_le}
 use Rattle.std.specs.List.{list_all}
 use borrow.Author.Differences.{ints}
@@ -18,8 +18,9 @@ use Rattle.doc_model.specs.Jobs.{apply, apply_all, grown, square, value, writes}
 use Rattle.doc_model.specs.Strokes.{Jobs}
 use Rattle.across.specs.declared.layer.Step.{Step}
 use Rattle.across.specs.declared.layer.Deed.{Deed}
-use Rattle.across.specs.declared.layer.Deed.TheVariants.{Fresh, Paint}
-use Rattle.across.specs.Steps.{done, layer_after, jobs_only, is_sound, job_sound}
+use Rattle.across.specs.declared.layer.Deed.TheVariants.{Paint}
+use Rattle.solo_run.specs.Painting.{jobs_only}
+use Rattle.across.specs.Steps.{done, layer_after, is_sound, job_sound}
 
 apply_last : (js : List Job) (j : Job) (layer : Layer) → apply j (apply_all js layer) ≡ apply_all (js ++ j ∷ []) layer
 apply_last [] j layer = refl

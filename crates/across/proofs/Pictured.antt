@@ -1,11 +1,11 @@
 -- Pictures, one child more at a time, and lists of them.
-use Rattle.std.proofs.Common.{◌≡◌, ℕ, suc, ◌+◌, ◌≤◌, Bool, true, false, not, Option, Some, None, List, [], ◌∷◌, ◌++◌, map, length, take, refl, sym, ap, ◌∙◌, arith}
+use Rattle.std.proofs.Common.{◌≡◌, ℕ, suc, ◌≤◌, Bool, true, false, not, None, refl, sym, ap, ◌∙◌, arith}
 use Rattle.pixel_core.specs.Rgba.{Rgba, clear}
 use Rattle.pixel_core.specs.Compose.{compose}
 use Rattle.geom_core.specs.Points.{Point}
 use Rattle.geom_core.proofs.Tests.{taken, kept}
 use Rattle.doc_model.specs.declared.tree.Look.{Look}
-use Rattle.doc_model.specs.Forest.{Forest, none, has, width, upper}
+use Rattle.doc_model.specs.Forest.{none, width, upper}
 use Rattle.doc_model.specs.Readers.{child_in}
 use Rattle.doc_model.specs.Changes.{takes, child_count}
 use Rattle.doc_model.specs.Layers.{at}

@@ -1,5 +1,5 @@
 -- Sums over pixels, of which a mean is made.
-use Rattle.std.specs.Prelude.{ℕ, ◌+◌, ◌*◌, ◌≤◌, List, map, sum}
+use Rattle.std.specs.Prelude.{ℕ, ◌*◌, ◌≤◌, List, map, sum}
 use Rattle.pixel_core.specs.Rgba.{Rgba}
 use Rattle.doc_model.specs.Jobs.{weighed}
 use Rattle.across.specs.declared.mean.Sums.{Sums}

@@ -1,13 +1,11 @@
 -- Layers as what was done to them, step by step.
-use Rattle.std.specs.Prelude.{ℕ, Bool, true, ◌&&◌, ◌==◌, if◌then◌else◌, List, [], ◌∷◌, map}
+use Rattle.std.specs.Prelude.{ℕ, Bool, true, ◌&&◌, ◌==◌, if◌then◌else◌, List, [], ◌∷◌}
 use Rattle.pixel_core.specs.Rgba.{clear}
 use Rattle.geom_core.specs.Points.{Point, point}
 use Rattle.doc_model.specs.declared.job.Job.{Job}
-use Rattle.doc_model.specs.declared.job.Kind.{Kind}
 use Rattle.doc_model.specs.Jobs.{apply}
 use Rattle.doc_model.specs.Layers.{Layer, plain}
 use Rattle.doc_model.specs.Lawful.{checks, within_limits}
-use Rattle.doc_model.specs.Strokes.{Jobs}
 use Rattle.across.specs.declared.spots.Spot.{Spot}
 use Rattle.across.specs.declared.layer.Step.{Step}
 use Rattle.across.specs.declared.layer.Deed.{Deed}
@@ -42,7 +40,3 @@ deed_sound (Paint job) = job_sound job
 
 abbrev pub is_sound : Step → Bool
 is_sound step = deed_sound step.deed
-
--- the jobs without their kinds
-abbrev pub jobs_only : Jobs → List Job
-jobs_only jobs = map (λ (k : Kind × Job). k.1) jobs

@@ -8,7 +8,8 @@ ghost use Rattle.geom_core.specs.Points.{point};
 ghost use Rattle.doc_model.specs.Jobs.{writes, apply, apply_all, value, square};
 ghost use Rattle.doc_model.specs.declared.job.Job.TheVariants.{Move, Blur};
 ghost use Rattle.doc_model.specs.Layers.{at};
-ghost use Rattle.across.specs.Steps.{point_of, layer_after, is_sound, job_sound, jobs_only};
+ghost use Rattle.across.specs.Steps.{point_of, layer_after, is_sound, job_sound};
+ghost use Rattle.solo_run.specs.Painting.{jobs_only};
 
 use crate::mean::mean_of;
 use crate::spots::{Spot, spots_of};

@@ -1,4 +1,4 @@
-use Rattle.std.proofs.Common.{◌≡◌, ◌≤◌, ◌+◌, ◌*◌, true, eqb, length, map, sym, ap, subst, ◌∙◌, IfOk, to_z, of_z, w32, arith}
+use Rattle.std.proofs.Common.{◌≡◌, ◌≤◌, true, eqb, length, map, sym, ap, subst, ◌∙◌, IfOk, to_z, of_z, w32, arith}
 use Rattle.std.proofs.lemmas.Bool.Decides.{nat_tests}
 use Rattle.std.proofs.lemmas.List.{length-map}
 use borrow.Author.Differences.{ints}
@@ -7,7 +7,6 @@ use Rattle.geom_core.specs.Areas.{holds, any_holds, moved, points_of}
 use Rattle.std.specs.Prelude.{◌-ℤ◌}
 use Rattle.geom_core.specs.Points.{point}
 use Rattle.geom_core.proofs.Tests.{taken}
-use Rattle.doc_model.specs.declared.job.Job.TheVariants.{Dab, Blur}
 use Rattle.doc_model.specs.Layers.{Layer, at, at-plain}
 use Rattle.doc_model.specs.Jobs.{mean, square, writes}
 use Rattle.across.specs.Steps.{point_of, layer_after, job_sound}
