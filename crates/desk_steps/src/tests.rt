@@ -286,6 +286,22 @@ fn two_strokes_and_a_layer_between(rt: HostRuntime) -> Result<(), Fail> {
     Ok(())
 }
 
+/// How many undos find something to undo, or redos to redo, up to 4.
+fn up_to_four<L: Ledger>(store: &mut Store, blank: Blank, redo: bool) -> u8
+    requires name { blank.name ≡ L.name }
+    requires parts { blank.parts ≡ L.parts }
+    requires some { 0 < blank.parts }
+    requires rest { store.old.way ≡ None }
+    ensures { store.new.way ≡ None }
+{
+    let mut steps = Steps::<L>::new(blank);
+    if redo {
+        redos(store, &mut steps)
+    } else {
+        undos(store, &mut steps)
+    }
+}
+
 /// Whether the change of the tree was made.
 fn changes(store: &mut Store, alloc: Global, change: Change) -> bool
     requires { store.old.way ≡ None }
@@ -370,21 +386,14 @@ fn strokes_and_changes_of_the_tree_between(rt: HostRuntime) -> Result<(), Fail> 
         assert!(rt; shown_in(&store) == Some((false, 7)));
         assert!(rt; undone::<Brand>(&mut store, Blank::new(1)));
         assert!(rt; pixel_of(&store, 40, 40) == Some(Pixel::CLEAR));
-        assert!(rt; pixel_of(&store, 0, 0) == Some(red()));
-        for _ in 0..3 {
-            assert!(rt; undone::<Brand>(&mut store, Blank::new(1)));
-        }
+        assert_eq!(rt; up_to_four::<Brand>(&mut store, Blank::new(1), false), 4);
         assert!(rt; shown_in(&store) == Some((false, 0)));
-        for _ in 0..2 {
-            assert!(rt; undone::<Brand>(&mut store, Blank::new(1)));
-        }
+        assert!(rt; undone::<Brand>(&mut store, Blank::new(1)));
         assert!(rt; shown_in(&store) == Some((true, 0)));
         assert!(rt; pixel_of(&store, 0, 0) == Some(red()));
-        assert!(rt; undone::<Brand>(&mut store, Blank::new(1)));
-        assert!(rt; pixel_of(&store, 0, 0).is_none());
-        for _ in 0..7 {
-            assert!(rt; redone::<Brand>(&mut store, Blank::new(1)));
-        }
+        assert_eq!(rt; up_to_four::<Brand>(&mut store, Blank::new(1), false), 2);
+        assert_eq!(rt; up_to_four::<Brand>(&mut store, Blank::new(1), true), 4);
+        assert_eq!(rt; up_to_four::<Brand>(&mut store, Blank::new(1), true), 4);
         assert!(rt; pixel_of(&store, 0, 0) == Some(blue()));
         assert!(rt; shown_in(&store) == Some((false, 7)));
         assert!(rt; redone::<Brand>(&mut store, Blank::new(1)));
