@@ -31,6 +31,7 @@ use Rattle.doc_model.proofs.SameContent.{with_same}
 use Rattle.doc_model.proofs.Weights.{tree_distinct, tree_with_content, weight_count, weight_with_content}
 use Rattle.doc_model.proofs.Limits.{changes_keep_limits}
 use Rattle.machine_model.specs.Effects.{layer_in}
+use Rattle.machine_model.specs.State.{Whole}
 use Rattle.machine_model.specs.Reached.{DifferWithin, ReachesOneLayer, Reaches, PastReaches, FutureReaches}
 use Rattle.job_core.specs.Paints as paints
 use Rattle.paint_device.specs.Sheets.{Sheet, sheet_at}
@@ -41,11 +42,11 @@ use Rattle.desk_steps.specs.declared.entry.Entry.{Entry}
 use Rattle.desk_steps.specs.declared.entry.Entry.TheVariants as entry
 use Rattle.desk_steps.specs.declared.entry.Way.{Way}
 use Rattle.desk_steps.specs.Archives.{Archive, IsUnderWay, layer_under_way, reverted, undone, redone}
-use Rattle.desk_steps.specs.Documents.{Tiled, doc_in, key_stands}
+use Rattle.desk_steps.specs.Documents.{Tiled, Regains, SameLayers, doc_in}
 use Rattle.desk_steps.specs.Founds.{keys_in, patched}
-use Rattle.desk_steps.specs.Entries.{doc_of, reach_in, FitsOn, laid, base_of, way_of, archive_of, IsKept, Standing, FitsKeys, AllFit, TradesKeys, WayFits, KeysStand}
-use Rattle.desk_steps.proofs.Filled.{adjusted_nothing}
-use Rattle.desk_steps.proofs.Devices.{false-true}
+use Rattle.desk_steps.specs.Entries.{doc_of, reach_in, FitsOn, laid, base_of, way_of, archive_of, IsKept, Standing, StandsAs, Grows, standing, FitsKeys, AllFit, TradesKeys, WayFits, KeysStand}
+use Rattle.desk_steps.proofs.Filled.{adjusted_nothing, some_adjusted}
+use Rattle.desk_steps.proofs.Devices.{false-true, some_in}
 use Rattle.desk_steps.proofs.Patched.{patched-empty, keys_in-empty}
 use Rattle.desk_steps.proofs.Exchanged.{fits_new, fits_old, laid_back, laid_take, past_take, more_fit, same_fit, take_fit, next_fit, back_fit}
 
@@ -234,19 +235,19 @@ no_way (Some w) e f = absurd (never e)
     never e = cc
 
 -- a change of the tree is the newest one
-pub change_kept : (doc : Tiled) (next : Doc) (history new : Stack Entry) (way : Option Way) (room : Bool) (change : Change) → way_of way ≡ None → changed plain change (doc_in doc) ≡ Ok next → new.past ≡ entry.Whole doc ∷ history.past → new.future ≡ []
-    → IsKept (doc_in doc) history way room → IsKept next new way false
-change_kept doc next history new way room change free made past future k = no_way way free (λ e. subst (λ v. IsKept next new v false) (sym e) (go (subst (λ v. IsKept (doc_in doc) history v room) e k)))
+pub change_kept : (doc next : Doc) (e : Entry) (history new : Stack Entry) (way : Option Way) (room : Bool) (change : Change) → way_of way ≡ None → changed plain change doc ≡ Ok next → doc_of next e ≡ doc → reach_in e ≡ Whole → new.past ≡ e ∷ history.past → new.future ≡ []
+    → IsKept doc history way room → IsKept next new way false
+change_kept doc next e history new way room change free made back whole past future k = no_way way free (λ h. subst (λ v. IsKept next new v false) (sym h) (go (subst (λ v. IsKept doc history v room) h k)))
   where
-    go : IsKept (doc_in doc) history None room → IsKept next new None false
+    go : IsKept doc history None room → IsKept next new None false
     go s = record {
       archive = record {
-        past_reaches = subst (λ es. PastReaches (laid next es) next) (sym past) (tt, s.archive.past_reaches);
+        past_reaches = subst (λ es. PastReaches (laid next es) next) (sym past) (subst (λ r. Reaches r (doc_of next e) next) (sym whole) tt, subst (λ d. PastReaches (laid d history.past) d) (sym back) s.archive.past_reaches);
         future_reaches = subst (λ es. FutureReaches next (laid next es)) (sym future) tt;
         under_way = refl;
-        limits = changes_keep_limits change (doc_in doc) next made s.archive.limits;
+        limits = changes_keep_limits change doc next made s.archive.limits;
       };
-      spare = λ e. false-true e;
+      spare = λ h. false-true h;
     }
 
 -- the shot of a device is that of its layer
@@ -373,11 +374,11 @@ pub begin_stands : (ks : Standing) (history : Stack Entry) (way : Option Way) (i
 begin_stands ks history way id found empty s = record { past = s.past; future = s.future; under_way = λ k h. false-true (sym (ap (λ f. map.contains_key f k) empty ∙ ap is_some (map.get-empty key_cmp k)) ∙ h) }
 
 -- of the stroke under way
-pub way_stands : (ks : Standing) (history : Stack Entry) (way : Option Way) (w : Way) → way ≡ Some w → KeysStand ks history way → (k : Key) → map.contains_key w.found k ≡ true → ks w.id k ≡ true
+pub way_stands : (ks : Standing) (history : Stack Entry) (way : Option Way) (w : Way) → way ≡ Some w → KeysStand ks history way → (k : Key) → map.contains_key w.found k ≡ true → ks.keys w.id k ≡ true
 way_stands ks history way w is s = subst (WayFits ks) is s.under_way
 
 -- once more keys stand
-pub put_stands : (ks more : Standing) (history : Stack Entry) (way : Option Way) (id : ℕ) (found : Keyed Pixels) → ((q : ℕ) (k : Key) → ks q k ≡ true → more q k ≡ true) → ((k : Key) → map.contains_key found k ≡ true → more id k ≡ true)
+pub put_stands : (ks more : Standing) (history : Stack Entry) (way : Option Way) (id : ℕ) (found : Keyed Pixels) → Grows ks more → ((k : Key) → map.contains_key found k ≡ true → more.keys id k ≡ true)
     → KeysStand ks history way → KeysStand more history (Some (record { id = id; found = found }))
 put_stands ks more history way id found grows own s = record { past = more_fit ks more grows history.past s.past; future = more_fit ks more grows history.future s.future; under_way = own }
 
@@ -390,15 +391,31 @@ finish_stands ks history new way after w is gone past future s = record {
 }
 
 -- or taken back
-pub revert_stands : (ks others : Standing) (history : Stack Entry) (way after : Option Way) → after ≡ None → ((q : ℕ) (k : Key) → others q k ≡ ks q k) → KeysStand ks history way → KeysStand others history after
+pub revert_stands : (ks others : Standing) (history : Stack Entry) (way after : Option Way) → after ≡ None → StandsAs ks others → KeysStand ks history way → KeysStand others history after
 revert_stands ks others history way after gone same s = record { past = same_fit ks others same history.past s.past; future = same_fit ks others same history.future s.future; under_way = subst (WayFits others) (sym gone) tt }
 
+-- of the document after a stroke put a tile
+pub regains_grow : (id : ℕ) (found after : Keyed Pixels) (old new : Tiled) → Regains id found after old new → Grows (standing old) (standing new)
+regains_grow id found after old new r = record {
+  layers = λ q. sym (some_in q new) ∙ sym (some_adjusted q id (patched after) (doc_in new)) ∙ ap (λ d. is_some (content q d)) r.same ∙ some_adjusted q id (patched found) (doc_in old) ∙ some_in q old;
+  keys = r.keys;
+}
+
+-- after a change that leaves the same layers
+pub rearrange_stands : (old next : Tiled) (t : Forest (Unit {0})) (history new : Stack Entry) (way : Option Way) → way_of way ≡ None → new.past ≡ entry.Tree t ∷ history.past → new.future ≡ [] → StandsAs (standing old) (standing next) → SameLayers t next
+    → KeysStand (standing old) history way → KeysStand (standing next) new way
+rearrange_stands old next t history new way free past future same layers s = record {
+  past = subst (AllFit (standing next)) (sym past) (layers, same_fit (standing old) (standing next) same history.past s.past);
+  future = subst (AllFit (standing next)) (sym future) tt;
+  under_way = no_way way free (λ e. subst (WayFits (standing next)) (sym e) tt);
+}
+
 -- after a change of the tree
-pub change_stands : (doc next : Tiled) (history new : Stack Entry) (way : Option Way) → way_of way ≡ None → new.past ≡ entry.Whole doc ∷ history.past → new.future ≡ [] → KeysStand (key_stands doc) history way → KeysStand (key_stands next) new way
+pub change_stands : (doc next : Tiled) (history new : Stack Entry) (way : Option Way) → way_of way ≡ None → new.past ≡ entry.Whole doc ∷ history.past → new.future ≡ [] → KeysStand (standing doc) history way → KeysStand (standing next) new way
 change_stands doc next history new way free past future s = record {
-  past = subst (AllFit (key_stands next)) (sym past) (tt, s.past);
-  future = subst (AllFit (key_stands next)) (sym future) tt;
-  under_way = no_way way free (λ e. subst (WayFits (key_stands next)) (sym e) tt);
+  past = subst (AllFit (standing next)) (sym past) (tt, s.past);
+  future = subst (AllFit (standing next)) (sym future) tt;
+  under_way = no_way way free (λ e. subst (WayFits (standing next)) (sym e) tt);
 }
 
 -- after a purge
@@ -410,17 +427,17 @@ pub first_stands : (ks : Standing) (es : List Entry) (was : Entry) → take 1 es
 first_stands ks es was first h = (subst (AllFit ks) (first_is es was first) h).0
 
 -- and after it was
-module _ (old new : Tiled) (history after : Stack Entry) (way : Option Way) (was is : Entry) (free : way_of way ≡ None) (trades : TradesKeys old new was is) (s : KeysStand (key_stands old) history way) where
-  pub undo_stands : take 1 history.past ≡ was ∷ [] → IsUndone history after is → KeysStand (key_stands new) after way
+module _ (old new : Tiled) (history after : Stack Entry) (way : Option Way) (was is : Entry) (free : way_of way ≡ None) (trades : TradesKeys old new was is) (s : KeysStand (standing old) history way) where
+  pub undo_stands : take 1 history.past ≡ was ∷ [] → IsUndone history after is → KeysStand (standing new) after way
   undo_stands first u = record {
-    past = subst (AllFit (key_stands new)) (sym u.past) (next_fit old new was is trades (drop 1 history.past) (subst (AllFit (key_stands old)) (first_is history.past was first) s.past));
-    future = subst (AllFit (key_stands new)) (sym u.future) (back_fit old new was is trades history.future s.future);
-    under_way = no_way way free (λ e. subst (WayFits (key_stands new)) (sym e) tt);
+    past = subst (AllFit (standing new)) (sym u.past) (next_fit old new was is trades (drop 1 history.past) (subst (AllFit (standing old)) (first_is history.past was first) s.past));
+    future = subst (AllFit (standing new)) (sym u.future) (back_fit old new was is trades history.future s.future);
+    under_way = no_way way free (λ e. subst (WayFits (standing new)) (sym e) tt);
   }
 
-  pub redo_stands : take 1 history.future ≡ was ∷ [] → IsRedone history after is → KeysStand (key_stands new) after way
+  pub redo_stands : take 1 history.future ≡ was ∷ [] → IsRedone history after is → KeysStand (standing new) after way
   redo_stands first u = record {
-    past = subst (AllFit (key_stands new)) (sym u.past) (back_fit old new was is trades history.past s.past);
-    future = subst (AllFit (key_stands new)) (sym u.future) (next_fit old new was is trades (drop 1 history.future) (subst (AllFit (key_stands old)) (first_is history.future was first) s.future));
-    under_way = no_way way free (λ e. subst (WayFits (key_stands new)) (sym e) tt);
+    past = subst (AllFit (standing new)) (sym u.past) (back_fit old new was is trades history.past s.past);
+    future = subst (AllFit (standing new)) (sym u.future) (next_fit old new was is trades (drop 1 history.future) (subst (AllFit (standing old)) (first_is history.future was first) s.future));
+    under_way = no_way way free (λ e. subst (WayFits (standing new)) (sym e) tt);
   }

@@ -50,7 +50,7 @@ none_is : {A : Type 0} (o : Option A) → is_some o ≡ false → o ≡ None
 none_is None e = refl
 none_is (Some x) e = false-true (sym e)
 
-by_some : {A B : Type 0} (y : B) (o : Option A) → is_some o ≡ true → content_by y o ≡ Some y
+pub by_some : {A B : Type 0} (y : B) (o : Option A) → is_some o ≡ true → content_by y o ≡ Some y
 by_some y None e = false-true e
 by_some y (Some x) e = refl
 
@@ -185,7 +185,7 @@ join_tests true false false false cn cr a b c d e = (λ i. a i || b i)
 join_tests false hr true gr cn cr a b c d e = false-true (c refl)
 join_tests false hr false gr cn cr a b c d e = (λ i. a i || b i)
 
-or_else_tests : {A : Type 0} (a b : Option A) → (is_some a || is_some b) ≡ is_some (or_else a b)
+pub or_else_tests : {A : Type 0} (a b : Option A) → (is_some a || is_some b) ≡ is_some (or_else a b)
 or_else_tests None b = refl
 or_else_tests (Some x) b = refl
 

@@ -119,15 +119,15 @@ adjusted_nothing {A = A} q (paint id look x rest) = same_paint id look (go (eqb 
     go false = refl
 adjusted_nothing q (group id look nodes rest) = same_group id look (adjusted_nothing q nodes) (adjusted_nothing q rest)
 
--- a content that is changed is there as before
-pub some_adjusted : {A : Type 0} (q : ℕ) (change : A → A) (f : Forest A) → is_some (content q (adjusted q change f)) ≡ is_some (content q f)
-some_adjusted q change none = refl
-some_adjusted {A = A} q change (paint id look x rest) = go (eqb q id) (some_adjusted q change rest)
+-- where contents are changed, the same ones are there
+pub some_adjusted : {A : Type 0} (p q : ℕ) (change : A → A) (f : Forest A) → is_some (content p (adjusted q change f)) ≡ is_some (content p f)
+some_adjusted p q change none = refl
+some_adjusted {A = A} p q change (paint id look x rest) = go (eqb p id) (some_adjusted p q change rest)
   where
-    go : (b : Bool) → is_some (content q (adjusted q change rest)) ≡ is_some (content q rest) → is_some (cond b (Some (cond b (change x) x)) (content q (adjusted q change rest))) ≡ is_some (cond b (Some x) (content q rest))
+    go : (b : Bool) → is_some (content p (adjusted q change rest)) ≡ is_some (content p rest) → is_some (cond b (Some (cond (eqb q id) (change x) x)) (content p (adjusted q change rest))) ≡ is_some (cond b (Some x) (content p rest))
     go true e = refl
     go false e = e
-some_adjusted q change (group id look nodes rest) = some_or_else (content q (adjusted q change nodes)) _ (content q nodes) _ (some_adjusted q change nodes) (some_adjusted q change rest)
+some_adjusted p q change (group id look nodes rest) = some_or_else (content p (adjusted q change nodes)) _ (content p nodes) _ (some_adjusted p q change nodes) (some_adjusted p q change rest)
   where
     no : {A : Type 0} → true ≡ false → A
     no e = absurd (never e)
@@ -337,7 +337,7 @@ sets_in (change.Remove id) q = false
 sets_in (change.Place id above place) q = false
 sets_in (change.Look id look) q = false
 
-after_old : {B : Type 0} (fresh : Rgba → B) (c : Change) (g : ℕ → B) (q : ℕ) → sets_in c q ≡ false → after fresh c g q ≡ g q
+pub after_old : {B : Type 0} (fresh : Rgba → B) (c : Change) (g : ℕ → B) (q : ℕ) → sets_in c q ≡ false → after fresh c g q ≡ g q
 after_old fresh (change.Layer id above place pixel) g q e = kept (eqb id q) _ _ e
 after_old fresh (change.Group id above place) g q e = refl
 after_old fresh (change.Remove id) g q e = refl

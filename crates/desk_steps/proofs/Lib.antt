@@ -4,5 +4,6 @@ pub mod Lain
 pub mod Sets
 pub mod Patched
 pub mod Traded
+pub mod Rearranged
 pub mod Exchanged
 pub mod Archived

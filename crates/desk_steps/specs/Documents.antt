@@ -1,5 +1,5 @@
 -- A document as its tree and the devices of its layers.
-use Rattle.std.specs.Prelude.{◌≡◌, ℕ, ◌==◌, Bool, true, cond, if◌then◌else◌, Option, Some, None, is_some}
+use Rattle.std.specs.Prelude.{◌≡◌, ℕ, ◌==◌, Bool, true, false, cond, if◌then◌else◌, Option, Some, None, is_some}
 use Rattle.std.specs.Option.{unwrap_or}
 use Rattle.std.specs.Ordering.{nat_cmp}
 use Rattle.std.specs.Coded.{Coded}
@@ -15,6 +15,7 @@ use Rattle.doc_model.specs.Codes.{forest_code}
 use Rattle.doc_model.specs.Picture.{Doc}
 use Rattle.doc_model.specs.declared.tree.Change.{Change}
 use Rattle.doc_model.specs.declared.tree.Change.TheVariants as change
+use Rattle.machine_model.specs.Effects.{layer_in}
 use Rattle.paint_device.specs.Sheets.{Sheet, sheet, sheet_code}
 use Rattle.paint_device.specs.Seen.{layer_of}
 use Rattle.desk_steps.specs.Founds.{StandIn, has_key, patched}
@@ -34,6 +35,22 @@ doc_in t = each (λ id s. layer_of s) t
 -- whether the device of a layer has the key
 abbrev pub key_stands : Tiled → ℕ → Key → Bool
 key_stands t id k = has_key (content id t) k
+
+-- the two have the same paint nodes, by their ids
+abbrev pub SameLayers : {A B : Type 0} → Forest A → Forest B → Type 0
+SameLayers a b = (q : ℕ) → is_some (content q a) ≡ is_some (content q b)
+
+-- the document with another tree, and with the pixels of its layers
+abbrev pub with_tree : Forest (Unit {0}) → Doc → Doc
+with_tree t doc = each (λ id u. layer_in id doc) t
+
+-- whether a change leaves the same paint nodes: it sets none in and takes none away
+abbrev pub keeps_layers : Change → Bool
+keeps_layers (change.Layer id above place pixel) = false
+keeps_layers (change.Group id above place) = true
+keeps_layers (change.Remove id) = false
+keeps_layers (change.Place id above place) = true
+keeps_layers (change.Look id look) = true
 
 -- a layer changes, and what was noted of it gives back the same document as before: keys stay, and each noted one is there
 pub record Regains (id : ℕ) (found after : Keyed Pixels) (old new : Tiled) : Type 0 where

@@ -17,7 +17,7 @@ ghost use Rattle.job_core.specs.Points.{painted_in};
 ghost use Rattle.paint_device.specs.Seen.{layer_of};
 ghost use Rattle.desk_steps.specs.declared.reach.TreeRefusal.TheVariants as refusal;
 ghost use Rattle.desk_steps.specs.Archives.{shape};
-ghost use Rattle.desk_steps.specs.Documents.{ChangesDevice, Regains, doc_in, key_stands, new_device};
+ghost use Rattle.desk_steps.specs.Documents.{ChangesDevice, Regains, SameLayers, doc_in, keeps_layers, key_stands, new_device, with_tree};
 ghost use Rattle.desk_steps.specs.Founds.{Exchanges, GivesBack, StandIn, keys_in, patched};
 
 use crate::found::Found;
@@ -32,6 +32,7 @@ use paint_device::Device;
 use std::alloc::Global;
 use std::collections::BTreeMap;
 use std::marker::Model;
+use std::mem;
 use std::sync::ledger::Ledger;
 use tree_core::Tree;
 
@@ -135,6 +136,36 @@ impl Document {
         ensures no_note { OnErr result (found.new ≡ found.old) }
     {
         paint_under(alloc, &mut self.devices, id, found, work)
+    }
+
+    /// The tree after a change that leaves the same layers.
+    ///
+    /// # Errors
+    /// `Tree` with the first refusal, exactly where there is one.
+    pub fn rearranged(&self, change: &Change) -> Result<Tree, TreeRefusal>
+        requires { keeps_layers change.now ≡ true }
+        ensures ok { IfOk result (λ t. changed plain change.now (doc_in self.now) ≡ Ok (with_tree t (doc_in self.now))) }
+        ensures layers { IfOk result (λ t. SameLayers t self.now) }
+        ensures tree { (fault : TreeFault) → result ≡ Err (refusal.Tree fault) → changed plain change.now (doc_in self.now) ≡ Err fault }
+    {
+        let _count = self.tree.node_count();
+        let mut tree = self.tree.copy();
+        match tree.change(change) {
+            Ok(()) => Ok(tree),
+            Err(fault) => Err(TreeRefusal::Tree(fault)),
+        }
+    }
+
+    /// Exchanges the tree with another of the same layers. Their devices stay, and it takes no memory.
+    pub fn exchange_tree(&mut self, tree: &mut Tree)
+        requires { SameLayers tree.old self.old }
+        ensures new { doc_in self.new ≡ with_tree tree.old (doc_in self.old) }
+        ensures back { with_tree tree.new (doc_in self.new) ≡ doc_in self.old }
+        ensures layers { SameLayers self.new self.old }
+        ensures same { SameLayers tree.new self.new }
+        ensures kept { (q : ℕ) (k : Key) → key_stands self.new q k ≡ key_stands self.old q k }
+    {
+        mem::swap(&mut self.tree, tree);
     }
 
     /// The document after a change of the tree. The tiles of the layers that stay are shared.

@@ -7,7 +7,7 @@ ghost use Rattle.doc_model.specs.Jobs.{writes};
 ghost use Rattle.doc_model.specs.Lawful.{checks};
 
 use super::*;
-use doc_model::{Change, Job};
+use doc_model::{Change, Job, Look};
 use geom_core::{NoMemory, Rect, TileKey};
 use job_core::{PointWork, is_point_op};
 use memento_core::Steps;
@@ -282,6 +282,122 @@ fn two_strokes_and_a_layer_between(rt: HostRuntime) -> Result<(), Fail> {
         assert!(rt; redone::<Brand>(&mut store, Blank::new(1)));
         assert!(rt; pixel_of(&store, 4, 4) == Some(red()));
         assert!(rt; pixel_of(&store, 30, 30) == Some(blue()));
+    }
+    Ok(())
+}
+
+/// How many undos find something to undo, or redos to redo, up to 4.
+fn up_to_four<L: Ledger>(store: &mut Store, blank: Blank, redo: bool) -> u8
+    requires name { blank.name ≡ L.name }
+    requires parts { blank.parts ≡ L.parts }
+    requires some { 0 < blank.parts }
+    requires rest { store.old.way ≡ None }
+    ensures { store.new.way ≡ None }
+{
+    let mut steps = Steps::<L>::new(blank);
+    if redo {
+        redos(store, &mut steps)
+    } else {
+        undos(store, &mut steps)
+    }
+}
+
+/// Whether the change of the tree was made.
+fn changes(store: &mut Store, alloc: Global, change: Change) -> bool
+    requires { store.old.way ≡ None }
+    ensures { store.new.way ≡ None }
+{
+    store.change(alloc, &change).is_ok()
+}
+
+/// Layer 1 is hidden, a group comes above it, and it moves into the group. Whether each was made.
+fn hide_and_move(store: &mut Store, alloc: Global) -> [bool; 3]
+    requires { store.old.way ≡ None }
+    ensures { store.new.way ≡ None }
+{
+    let hidden = Look {
+        opacity: 255,
+        op: Op::Over,
+        visible: false,
+    };
+    [
+        changes(
+            store,
+            alloc,
+            Change::Look {
+                id: 1,
+                look: hidden,
+            },
+        ),
+        changes(
+            store,
+            alloc,
+            Change::Group {
+                id: 7,
+                parent: 0,
+                place: 1,
+            },
+        ),
+        changes(
+            store,
+            alloc,
+            Change::Place {
+                id: 1,
+                parent: 7,
+                place: 0,
+            },
+        ),
+    ]
+}
+
+/// Whether layer 1 is shown, and the group round it.
+fn shown_in(store: &Store) -> Option<(bool, u16)> {
+    let look = store.tree().look(1)?;
+    Some((look.visible, store.tree().parent(1)?))
+}
+
+#[test]
+fn strokes_and_changes_of_the_tree_between(rt: HostRuntime) -> Result<(), Fail> {
+    let alloc = rt.alloc();
+    let mut store = Store::new(alloc)?;
+    assert!(rt; add_layer(&mut store, alloc, 1, Pixel::CLEAR));
+    let corner = Job::Fill {
+        rect: Rect::new(0, 0, 8, 8).expect(&rt, "a rectangle of the world"),
+        colour: red(),
+        op: Op::Over,
+        strength: 255,
+    };
+    let whole = Job::Fill {
+        rect: ORIGIN.rect(),
+        colour: blue(),
+        op: Op::Over,
+        strength: 255,
+    };
+    paint_both(&rt, alloc, &mut store, &corner, &corner)?;
+    assert!(rt; !changes(&mut store, alloc, Change::Remove { id: 7 }));
+    assert_eq!(rt; hide_and_move(&mut store, alloc), [true, true, true]);
+    assert_eq!(rt; hide_and_move(&mut store, alloc), [true, false, true]);
+    paint_both(&rt, alloc, &mut store, &whole, &whole)?;
+    assert!(rt; changes(&mut store, alloc, Change::Remove { id: 7 }));
+    assert!(rt; pixel_of(&store, 0, 0).is_none());
+    for _ in 0..2 {
+        assert!(rt; undone::<Brand>(&mut store, Blank::new(1)));
+        assert!(rt; pixel_of(&store, 40, 40) == Some(blue()));
+        assert!(rt; shown_in(&store) == Some((false, 7)));
+        assert!(rt; undone::<Brand>(&mut store, Blank::new(1)));
+        assert!(rt; pixel_of(&store, 40, 40) == Some(Pixel::CLEAR));
+        assert_eq!(rt; up_to_four::<Brand>(&mut store, Blank::new(1), false), 4);
+        assert!(rt; shown_in(&store) == Some((false, 0)));
+        assert!(rt; undone::<Brand>(&mut store, Blank::new(1)));
+        assert!(rt; shown_in(&store) == Some((true, 0)));
+        assert!(rt; pixel_of(&store, 0, 0) == Some(red()));
+        assert_eq!(rt; up_to_four::<Brand>(&mut store, Blank::new(1), false), 2);
+        assert_eq!(rt; up_to_four::<Brand>(&mut store, Blank::new(1), true), 4);
+        assert_eq!(rt; up_to_four::<Brand>(&mut store, Blank::new(1), true), 4);
+        assert!(rt; pixel_of(&store, 0, 0) == Some(blue()));
+        assert!(rt; shown_in(&store) == Some((false, 7)));
+        assert!(rt; redone::<Brand>(&mut store, Blank::new(1)));
+        assert!(rt; shown_in(&store).is_none());
     }
     Ok(())
 }

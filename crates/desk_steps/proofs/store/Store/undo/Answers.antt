@@ -2,7 +2,8 @@ use Rattle.std.proofs.Common.{refl, sym, ap, subst, ◌∙◌}
 use Rattle.std.specs.Prelude.{IsNone}
 use Rattle.history_core.specs.Stacks.{IsUndone}
 use Rattle.desk_steps.specs.Archives.{Archive}
-use Rattle.desk_steps.specs.Documents.{doc_in, key_stands}
+use Rattle.desk_steps.specs.Documents.{doc_in}
+use Rattle.desk_steps.specs.Entries.{standing}
 use Rattle.desk_steps.specs.Entries.{laid, base_of}
 use Rattle.desk_steps.proofs.Archived.{undo_kept, undo_stands, undone_is, undo_fits, first_stands, nothing_is, lent_holds}
 use Rattle.desk_steps.proofs.store.Store.undo.Goals as goal
@@ -17,7 +18,7 @@ pub exchange-requires-clause-layer : goal.exchange-requires-clause-layer
 exchange-requires-clause-layer g c = undo_fits (doc_in c.self.inside.doc) c.self.inside.history c.self.inside.way c.self.inside.room c.in_ok-entry.entry.now (ap (λ (a : Archive). a.way) c.self.view_is ∙ c.requires) c.in_ok-entry.ensures.entry c.self.invariant.kept
 
 pub exchange-requires-clause-there : goal.exchange-requires-clause-there
-exchange-requires-clause-there g c = first_stands (key_stands c.self.inside.doc) c.self.inside.history.past c.in_ok-entry.entry.now c.in_ok-entry.ensures.entry c.self.invariant.stand.past
+exchange-requires-clause-there g c = first_stands (standing c.self.inside.doc) c.self.inside.history.past c.in_ok-entry.entry.now c.in_ok-entry.ensures.entry c.self.invariant.stand.past
 
 pub invariant_of-self-2 : goal.invariant_of-self-2
 invariant_of-self-2 g c =
