@@ -1,13 +1,26 @@
 -- What is kept of a stroke while commands are added.
 use Rattle.std.specs.Prelude.{◌≡◌, ℕ, ◌+◌, ◌==◌, nat_lt, nat_le, Bool, true, false, ◌&&◌, if◌then◌else◌, Option, Some, None, is_some, List, length}
 use Rattle.std.specs.List.{list_any}
+use Rattle.std.specs.Ordering.{nat_cmp}
+use Rattle.std.specs.BTreeMap.{get}
 use Rattle.doc_model.specs.declared.command.Command.{Command}
 use Rattle.doc_model.specs.declared.command.Command.TheVariants as command
 use Rattle.doc_model.specs.Strokes.{Entry, Strokes}
 use Rattle.doc_model.specs.Lawful.{is_stroke, is_open_stroke}
 use Rattle.script_lines.specs.declared.cause.Cause.{Cause}
 use Rattle.script_lines.specs.declared.cause.Cause.TheVariants.{UsedAgain, UnknownStroke, ClosedStroke, TooManyJobs, TooManyExports}
-use Rattle.script_text.specs.declared.draft.Fed.{Fed}
+use Rattle.script_text.specs.declared.table.Fed.{Fed}
+use Rattle.script_text.specs.declared.table.Stroke.{Stroke}
+use Rattle.script_text.specs.declared.table.Table.{Table}
+
+-- what is kept under the number m, of a stroke at hand or else of an older one
+abbrev pub at_hand : Option Stroke → ℕ → Option Fed → Option Fed
+at_hand None m older = older
+at_hand (Some s) m older = if s.no == m then Some s.fed else older
+
+-- what a table keeps of the stroke with the number m
+abbrev pub kept : Table → ℕ → Option Fed
+kept t m = at_hand t.newest m (get nat_cmp t.older m)
 
 abbrev pub is_open : Option Fed → Bool
 is_open None = false

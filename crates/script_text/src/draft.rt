@@ -1,38 +1,28 @@
 //! Commands in order, and what has to be known of them to add one more.
 
-ghost use Rattle.std.specs.Prelude.{◌≡◌, ◌==◌, [], ◌∷◌, ◌++◌, Some, IfOk, IfSome, OnOk, OnErr, ◌<◌, ◌≤◌};
-ghost use Rattle.std.specs.Prelude.{ℕ, true, length, if◌then◌else◌};
+ghost use Rattle.std.specs.Prelude.{◌≡◌, [], ◌∷◌, ◌++◌, IfOk, OnOk, OnErr, ◌<◌, ◌≤◌, ℕ, true};
 ghost use Rattle.std.specs.List.{list_any, list_all};
-ghost use Rattle.std.specs.Ordering.{nat_cmp};
-ghost use Rattle.std.specs.BTreeMap.{get};
 ghost use Rattle.std.specs.Vec.{vec_len, vec_capacity};
 ghost use Rattle.doc_model.specs.Strokes.{entries};
 ghost use Rattle.doc_model.specs.Lawful.{is_open_stroke, lawful};
 ghost use Rattle.script_forms.specs.Ranges.{in_range, is_sound};
 ghost use Rattle.script_text.specs.Read.{IsRefused};
 ghost use Rattle.script_text.specs.Following.{misfit as said_misfit};
-ghost use Rattle.script_text.specs.Table.{Tells, fresh, one_more, closed as shut, start_cause as said_start, close_cause as said_close, job_cause as said_job, stroke_cause, export_cause as said_export, next_fed, exports_after as count_after};
+ghost use Rattle.script_text.specs.Table.{Tells, kept, stroke_cause, export_cause as said_export, next_fed, exports_after as count_after};
 
 use crate::script::{ReadRefusal, at};
+use crate::table::{Fed, Table};
 use doc_model::Command;
 use geom_core::NoMemory;
 use script_lines::Cause;
 use std::alloc::Global;
-use std::collections::BTreeMap;
 use std::marker::Model;
-
-/// What is kept of a stroke.
-#[derive(Clone, Copy, Debug, PartialEq, Eq)]
-pub(crate) struct Fed {
-    live: bool,
-    jobs: u32,
-}
 
 /// Commands, each of which may follow those before it.
 #[derive(Drop)]
 pub(crate) struct Draft {
     commands: Vec<Command>,
-    strokes: BTreeMap<u32, Fed>,
+    strokes: Table,
     exports: u32,
 }
 
@@ -49,90 +39,17 @@ impl Model for Draft {
     ghost invariant = { IsTable };
 }
 
-impl Fed {
-    /// Gives the stroke one more job.
-    fn feed(&mut self, line: u32) -> Result<(), ReadRefusal>
-        ensures refused { IsRefused result line (said_job (Some self.old)) }
-        ensures fed { OnOk result (Some self.new ≡ one_more (Some self.old)) }
-        ensures same { OnErr result (self.new ≡ self.old) }
-    {
-        if !self.live {
-            return Err(at(line, Cause::ClosedStroke));
-        }
-        if self.jobs >= 4096 {
-            return Err(at(line, Cause::TooManyJobs));
-        }
-        self.jobs += 1;
-        Ok(())
-    }
-
-    /// Closes the stroke.
-    fn close(&mut self, line: u32) -> Result<(), ReadRefusal>
-        ensures refused { IsRefused result line (said_close (Some self.old)) }
-        ensures closed { OnOk result (Some self.new ≡ shut (Some self.old)) }
-        ensures same { OnErr result (self.new ≡ self.old) }
-    {
-        if !self.live {
-            return Err(at(line, Cause::ClosedStroke));
-        }
-        self.live = false;
-        Ok(())
-    }
-}
-
-/// Starts a stroke.
-fn start(strokes: &mut BTreeMap<u32, Fed>, line: u32, no: u32) -> Result<(), ReadRefusal>
-    ensures refused { IsRefused result line (said_start (get nat_cmp strokes.old no)) }
-    ensures kept { OnOk result ((m : ℕ) → get nat_cmp strokes.new m ≡ (if no == m then Some fresh else get nat_cmp strokes.old m)) }
-    ensures same { OnErr result ((m : ℕ) → get nat_cmp strokes.new m ≡ get nat_cmp strokes.old m) }
-{
-    if strokes.get(&no).is_some() {
-        return Err(at(line, Cause::UsedAgain));
-    }
-    let fed = Fed {
-        live: true,
-        jobs: 0,
-    };
-    match strokes.insert(no, fed) {
-        Ok(_) => Ok(()),
-        Err(_) => Err(ReadRefusal::NoMemory),
-    }
-}
-
-/// Gives a stroke one more job.
-fn feed(strokes: &mut BTreeMap<u32, Fed>, line: u32, no: u32) -> Result<(), ReadRefusal>
-    ensures refused { IsRefused result line (said_job (get nat_cmp strokes.old no)) }
-    ensures kept { OnOk result ((m : ℕ) → get nat_cmp strokes.new m ≡ (if no == m then one_more (get nat_cmp strokes.old m) else get nat_cmp strokes.old m)) }
-    ensures same { OnErr result ((m : ℕ) → get nat_cmp strokes.new m ≡ get nat_cmp strokes.old m) }
-{
-    match strokes.get_mut(&no) {
-        Some(fed) => fed.feed(line),
-        None => Err(at(line, Cause::UnknownStroke)),
-    }
-}
-
-/// Closes a stroke.
-fn close(strokes: &mut BTreeMap<u32, Fed>, line: u32, no: u32) -> Result<(), ReadRefusal>
-    ensures refused { IsRefused result line (said_close (get nat_cmp strokes.old no)) }
-    ensures kept { OnOk result ((m : ℕ) → get nat_cmp strokes.new m ≡ (if no == m then shut (get nat_cmp strokes.old m) else get nat_cmp strokes.old m)) }
-    ensures same { OnErr result ((m : ℕ) → get nat_cmp strokes.new m ≡ get nat_cmp strokes.old m) }
-{
-    match strokes.get_mut(&no) {
-        Some(fed) => fed.close(line),
-        None => Err(at(line, Cause::UnknownStroke)),
-    }
-}
-
 /// Keeps what the command says of its stroke.
-fn keep(strokes: &mut BTreeMap<u32, Fed>, line: u32, command: &Command) -> Result<(), ReadRefusal>
-    ensures refused { IsRefused result line (stroke_cause (λ n. get nat_cmp strokes.old n) command.now) }
-    ensures kept { OnOk result ((m : ℕ) → get nat_cmp strokes.new m ≡ next_fed command.now m (get nat_cmp strokes.old m)) }
-    ensures same { OnErr result ((m : ℕ) → get nat_cmp strokes.new m ≡ get nat_cmp strokes.old m) }
+#[inline(always)]
+fn keep(strokes: &mut Table, line: u32, command: &Command) -> Result<(), ReadRefusal>
+    ensures refused { IsRefused result line (stroke_cause (kept strokes.old) command.now) }
+    ensures kept { OnOk result ((m : ℕ) → kept strokes.new m ≡ next_fed command.now m (kept strokes.old m)) }
+    ensures same { OnErr result ((m : ℕ) → kept strokes.new m ≡ kept strokes.old m) }
 {
     match command {
-        Command::Stroke { no, .. } => start(strokes, line, *no),
-        Command::Add { no, .. } => feed(strokes, line, *no),
-        Command::End { no } | Command::Cancel { no } => close(strokes, line, *no),
+        Command::Stroke { no, .. } => strokes.start(line, *no),
+        Command::Add { no, .. } => strokes.feed(line, *no),
+        Command::End { no } | Command::Cancel { no } => strokes.close(line, *no),
         _ => Ok(()),
     }
 }
@@ -165,7 +82,7 @@ impl Draft {
     {
         Ok(Draft {
             commands: Vec::with_capacity(alloc, room)?,
-            strokes: BTreeMap::new(alloc),
+            strokes: Table::new(alloc),
             exports: 0,
         })
     }
@@ -174,7 +91,7 @@ impl Draft {
     fn find(&self, no: u32) -> Option<Fed>
         ensures { Tells (entries self.now) no result }
     {
-        self.strokes.get(&no).copied()
+        self.strokes.get(no)
     }
 
     /// Whether a stroke with that number is open.
@@ -183,7 +100,7 @@ impl Draft {
     {
         match self.find(no) {
             None => false,
-            Some(fed) => fed.live,
+            Some(fed) => fed.is_live(),
         }
     }
 

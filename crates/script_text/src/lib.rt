@@ -7,6 +7,7 @@ mod making;
 mod printing;
 mod reading;
 mod script;
+mod table;
 #[cfg(test)]
 mod tests;
 

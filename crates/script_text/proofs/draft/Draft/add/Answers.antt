@@ -1,11 +1,9 @@
 use Rattle.std.proofs.Common.{ℕ, ◌≡◌, ◌∙◌, sym, ap, subst, ◌++◌, ◌∷◌, [], length, rules, Some, None, ◌≤◌}
 use Rattle.std.specs.List.{filter, list_all}
-use Rattle.std.specs.Ordering.{nat_cmp}
-use Rattle.std.specs.BTreeMap.{get}
 use Rattle.doc_model.specs.Strokes.{entries, fed}
 use Rattle.doc_model.specs.Lawful.{is_export, lawful}
 use Rattle.script_text.specs.Following.{misfit}
-use Rattle.script_text.specs.Table.{Tells, next_fed, stroke_cause, export_cause}
+use Rattle.script_text.specs.Table.{Tells, kept, next_fed, stroke_cause, export_cause}
 use Rattle.script_forms.specs.Ranges.{in_range}
 use Rattle.script_text.proofs.Legal.{lawful_more, ranges_more}
 use Rattle.script_text.proofs.Tables.{entries-append}
@@ -19,28 +17,28 @@ invariant_of-self-2 c =
     let es = entries cs in
     let more : c.put_last.new.items.items ≡ cs ++ c.args.command ∷ [] = search rules in
     let room : export_cause d.exports c.args.command ≡ None = search rules in
-    let taken : stroke_cause (λ n. get nat_cmp d.strokes n) c.args.command ≡ None = search rules in
-    let fits : misfit es c.args.command ≡ None = misfit_of_strokes es c.args.command (λ n. get nat_cmp d.strokes n) d.exports c.self.invariant.tells c.self.invariant.exports room ∙ taken in
+    let taken : stroke_cause (kept d.strokes) c.args.command ≡ None = search rules in
+    let fits : misfit es c.args.command ≡ None = misfit_of_strokes es c.args.command (kept d.strokes) d.exports c.self.invariant.tells c.self.invariant.exports room ∙ taken in
     let now : entries c.put_last.new.items.items ≡ fed es c.args.command = ap entries more ∙ entries-append cs c.args.command in
     record {
-      tells = λ m. subst (λ l. Tells l m (get nat_cmp c.keep.new.strokes m)) (sym now)
-          (subst (λ f. Tells (fed es c.args.command) m f) (sym (kept m))
-          (step es c.args.command m (get nat_cmp d.strokes m) fits (c.self.invariant.tells m)));
+      tells = λ m. subst (λ l. Tells l m (kept c.keep.new.strokes m)) (sym now)
+          (subst (λ f. Tells (fed es c.args.command) m f) (sym (kept_then m))
+          (step es c.args.command m (kept d.strokes m) fits (c.self.invariant.tells m)));
       exports = c.exports_after-self-inside.ensures ∙ (exports_step es c.args.command d.exports c.self.invariant.exports ∙ ap (λ l. length (filter is_export l)) (sym now));
       few = subst (λ n. n ≤ 64) (sym c.exports_after-self-inside.ensures) (exports_few es c.args.command d.exports c.self.invariant.exports c.self.invariant.few fits);
       lawful = ap lawful more ∙ lawful_more cs c.args.command c.self.invariant.lawful fits c.requires.sound;
       ranges = ap (list_all in_range) more ∙ ranges_more cs c.args.command c.self.invariant.ranges c.requires.ranges;
     }
   where
-    kept : (m : ℕ) → get nat_cmp c.keep.new.strokes m ≡ next_fed c.args.command m (get nat_cmp c.self.inside.strokes m)
-    kept m = search rules
+    kept_then : (m : ℕ) → kept c.keep.new.strokes m ≡ next_fed c.args.command m (kept c.self.inside.strokes m)
+    kept_then m = search rules
 
 pub returns-in-Some-clause-refused : goal.returns-in-Some-clause-refused
 returns-in-Some-clause-refused c =
     let d = c.self.inside in
     let cs = d.commands.items in
     let room : export_cause d.exports c.args.command ≡ Some c.in-Some.cause = search rules in
-    let here : misfit (entries cs) c.args.command ≡ Some c.in-Some.cause = misfit_of_exports (entries cs) c.args.command (λ n. get nat_cmp d.strokes n) d.exports c.in-Some.cause c.self.invariant.tells c.self.invariant.exports room in
+    let here : misfit (entries cs) c.args.command ≡ Some c.in-Some.cause = misfit_of_exports (entries cs) c.args.command (kept d.strokes) d.exports c.in-Some.cause c.self.invariant.tells c.self.invariant.exports room in
     let no : misfit (entries c.args.self.now) c.args.command ≡ Some c.in-Some.cause = subst (λ l. misfit (entries l) c.args.command ≡ Some c.in-Some.cause) c.self.view_is here in
     search rules
 
@@ -49,8 +47,8 @@ returns-in_err-keep-clause-refused c =
     let d = c.self.inside in
     let cs = d.commands.items in
     let room : export_cause d.exports c.args.command ≡ None = search rules in
-    let here : misfit (entries cs) c.args.command ≡ stroke_cause (λ n. get nat_cmp d.strokes n) c.args.command = misfit_of_strokes (entries cs) c.args.command (λ n. get nat_cmp d.strokes n) d.exports c.self.invariant.tells c.self.invariant.exports room in
-    let bad : misfit (entries c.args.self.now) c.args.command ≡ stroke_cause (λ n. get nat_cmp d.strokes n) c.args.command = subst (λ l. misfit (entries l) c.args.command ≡ stroke_cause (λ n. get nat_cmp d.strokes n) c.args.command) c.self.view_is here in
+    let here : misfit (entries cs) c.args.command ≡ stroke_cause (kept d.strokes) c.args.command = misfit_of_strokes (entries cs) c.args.command (kept d.strokes) d.exports c.self.invariant.tells c.self.invariant.exports room in
+    let bad : misfit (entries c.args.self.now) c.args.command ≡ stroke_cause (kept d.strokes) c.args.command = subst (λ l. misfit (entries l) c.args.command ≡ stroke_cause (kept d.strokes) c.args.command) c.self.view_is here in
     rw bad (search rules)
 
 pub returns-clause-refused : goal.returns-clause-refused
@@ -58,6 +56,6 @@ returns-clause-refused c =
     let d = c.self.inside in
     let cs = d.commands.items in
     let room : export_cause d.exports c.args.command ≡ None = search rules in
-    let taken : stroke_cause (λ n. get nat_cmp d.strokes n) c.args.command ≡ None = search rules in
-    let here : misfit (entries cs) c.args.command ≡ None = misfit_of_strokes (entries cs) c.args.command (λ n. get nat_cmp d.strokes n) d.exports c.self.invariant.tells c.self.invariant.exports room ∙ taken in
+    let taken : stroke_cause (kept d.strokes) c.args.command ≡ None = search rules in
+    let here : misfit (entries cs) c.args.command ≡ None = misfit_of_strokes (entries cs) c.args.command (kept d.strokes) d.exports c.self.invariant.tells c.self.invariant.exports room ∙ taken in
     subst (λ l. misfit (entries l) c.args.command ≡ None) c.self.view_is here
