@@ -5,6 +5,7 @@ mod entry;
 mod queue;
 #[cfg(test)]
 mod tests;
+mod waiting_keys;
 
 pub use entry::Entry;
 pub use queue::Queue;

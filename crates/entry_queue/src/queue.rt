@@ -11,11 +11,12 @@ ghost use Rattle.doc_model.specs.Lawful.{checks, lawful};
 ghost use Rattle.doc_model.specs.declared.command.Command.{Command};
 
 use crate::Entry;
+use crate::waiting_keys::WaitingKeys;
 use doc_model::{Command, Job, Kind, Outcome};
 use geom_core::NoMemory;
 use slab::Slab;
 use std::alloc::Global;
-use std::collections::{BTreeMap, VecDeque};
+use std::collections::VecDeque;
 use std::marker::Model;
 use stroke_core::{AddFault, ClosedStroke, OpenStroke};
 
@@ -26,7 +27,7 @@ use stroke_core::{AddFault, ClosedStroke, OpenStroke};
 pub struct Queue {
     entries: Slab<Entry>,
     keys: VecDeque<usize>,
-    waiting: BTreeMap<u32, usize>,
+    waiting: WaitingKeys,
     outcomes: Vec<Outcome>,
     alloc: Global,
 }
@@ -43,7 +44,7 @@ impl Model for Queue {
 
     ghost view = { λ q. record { left = entries_at (slab.get q.entries) q.keys.items; outcomes = q.outcomes.items } };
 
-    ghost invariant = { λ q. IsIndexed (slab.get q.entries) (tree.get nat_cmp q.waiting) q.keys.items × (vec_len q.outcomes + length q.keys.items ≤ vec_capacity q.outcomes) };
+    ghost invariant = { λ q. IsIndexed (slab.get q.entries) (tree.get nat_cmp q.waiting.keys) q.keys.items × (vec_len q.outcomes + length q.keys.items ≤ vec_capacity q.outcomes) };
 }
 
 impl Queue {
@@ -57,7 +58,7 @@ impl Queue {
         Queue {
             entries: Slab::new(alloc),
             keys: VecDeque::new(alloc),
-            waiting: BTreeMap::new(alloc),
+            waiting: WaitingKeys::new(alloc),
             outcomes: Vec::new(alloc),
             alloc,
         }
@@ -155,7 +156,7 @@ impl Queue {
         ensures ok { OnOk result (self.new ≡ record self.old { left = map (with_job no (kind, job.now)) self.old.left }) }
         ensures err { OnErr result (self.new ≡ self.old) }
     {
-        let Some(&key) = self.waiting.get(&no) else {
+        let Some(key) = self.waiting.get(no) else {
             unreachable!()
         };
         feed(&mut self.entries, key, kind, job)
@@ -166,7 +167,7 @@ impl Queue {
         requires { list_any (is_waiting no) self.old.left ≡ true }
         ensures { self.new ≡ record self.old { left = map (closed no cancelled) self.old.left } }
     {
-        let Some(key) = self.waiting.remove(&no) else {
+        let Some(key) = self.waiting.remove(no) else {
             unreachable!()
         };
         // It goes back under the same key, which is the slab's next.
