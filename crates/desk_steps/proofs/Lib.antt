@@ -4,3 +4,4 @@ pub mod Lain
 pub mod Sets
 pub mod Exchanged
 pub mod Archived
+pub mod Painted

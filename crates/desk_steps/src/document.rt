@@ -12,7 +12,7 @@ ghost use Rattle.doc_model.specs.Laws.{IsDocument};
 ghost use Rattle.doc_model.specs.declared.tree.TreeFault.{TreeFault};
 ghost use Rattle.job_core.specs.Paints as paints;
 ghost use Rattle.job_core.specs.Paints.{Paint, Makes};
-ghost use Rattle.job_core.specs.Points.{painted_in};
+ghost use Rattle.job_core.specs.Points.{all_painted_in};
 ghost use Rattle.paint_device.specs.Seen.{layer_of};
 ghost use Rattle.desk_steps.specs.declared.reach.TreeRefusal.TheVariants as refusal;
 ghost use Rattle.desk_steps.specs.Archives.{shape};
@@ -109,7 +109,7 @@ impl Document {
         lay_under(alloc, &mut self.devices, id, keys, made)
     }
 
-    /// Paints a point operation in one tile of a paint layer, and adds the tile to the keys.
+    /// Paints point operations in one tile of a paint layer, and adds the tile to the keys.
     pub fn paint(
         &mut self,
         alloc: Global,
@@ -118,7 +118,7 @@ impl Document {
         work: &PointWork<'_>,
     ) -> Result<(), NoMemory>
         requires { is_some (content id self.old) ≡ true }
-        ensures ok { OnOk result (self.new ≡ adjusted id (painted_in work.now.job work.now.key) self.old) }
+        ensures ok { OnOk result (self.new ≡ adjusted id (all_painted_in work.now.jobs work.now.key) self.old) }
         ensures keys { OnOk result (keys.new ≡ set.insert keys.old work.now.key) }
         ensures err { OnErr result (self.new ≡ self.old) }
         ensures no_key { OnErr result (keys.new ≡ keys.old) }
@@ -177,7 +177,7 @@ fn lay_under(
     }
 }
 
-/// Paints a point operation on the device under an id that is there.
+/// Paints point operations in one tile of the device under an id that is there.
 fn paint_under(
     alloc: Global,
     devices: &mut BTreeMap<u16, Device>,
@@ -186,7 +186,7 @@ fn paint_under(
     work: &PointWork<'_>,
 ) -> Result<(), NoMemory>
     requires { is_some (btree.get nat_cmp devices.old id) ≡ true }
-    ensures ok { OnOk result (AdjustsDevice devices.old devices.new id (painted_in work.now.job work.now.key)) }
+    ensures ok { OnOk result (AdjustsDevice devices.old devices.new id (all_painted_in work.now.jobs work.now.key)) }
     ensures keys { OnOk result (keys.new ≡ set.insert keys.old work.now.key) }
     ensures err { OnErr result (AdjustsDevice devices.old devices.new id (λ l. l)) }
     ensures no_key { OnErr result (keys.new ≡ keys.old) }

@@ -5,7 +5,7 @@ ghost use Rattle.std.specs.Option.{option_copied};
 ghost use Rattle.std.specs.FinSet as set;
 ghost use Rattle.geom_core.specs.Grid.{IsWorldKey};
 ghost use Rattle.memento_core.specs.Planes.{tile_under};
-ghost use Rattle.job_core.specs.Points.{LaysPoints, painted_in};
+ghost use Rattle.job_core.specs.Points.{LaysPoints, all_painted_in};
 ghost use Rattle.paint_device.specs.Seen.{layer_of};
 ghost use Rattle.paint_device.specs.Sheets.{tile_or};
 ghost use Rattle.desk_steps.specs.Tiles.{IsPaintedOn, beside};
@@ -19,7 +19,7 @@ use pixel_core::Pixel;
 use std::alloc::Global;
 use tile_core::{Lays, Tile};
 
-/// Paints a point operation on the device, and adds its tile to the keys. Where there is no memory
+/// Paints point operations in one tile of the device, and adds the tile to the keys. Where there is no memory
 /// no pixel has changed, and no key has come.
 pub fn paint(
     alloc: Global,
@@ -27,7 +27,7 @@ pub fn paint(
     keys: &mut KeySet,
     work: &PointWork<'_>,
 ) -> Result<(), NoMemory>
-    ensures ok { OnOk result (layer_of device.new ≡ painted_in work.now.job work.now.key (layer_of device.old)) }
+    ensures ok { OnOk result (layer_of device.new ≡ all_painted_in work.now.jobs work.now.key (layer_of device.old)) }
     ensures keys { OnOk result (keys.new ≡ set.insert keys.old work.now.key) }
     ensures err { OnErr result (layer_of device.new ≡ layer_of device.old) }
     ensures no_key { OnErr result (keys.new ≡ keys.old) }
@@ -40,7 +40,7 @@ pub fn paint(
     set_under(device, keys, key, tile)
 }
 
-/// The tile under the key with what the point operation makes of it.
+/// The tile under the key with what the point operations make of it.
 fn painted(alloc: Global, device: &Device, work: &PointWork<'_>) -> Result<Tile, NoMemory>
     ensures { IfOk result (IsPaintedOn work.now device.now) }
 {
@@ -50,7 +50,7 @@ fn painted(alloc: Global, device: &Device, work: &PointWork<'_>) -> Result<Tile,
     }
 }
 
-/// The one pixel that the point operation leaves at all points of its tile. None where it finds none.
+/// The one pixel that the point operations leave at all points of their tile. None where it finds none.
 fn plain_left(device: &Device, work: &PointWork<'_>) -> Option<Pixel>
     ensures { IfSome result (λ c. LaysPoints work.now (tile_or (tile_under device.now.tiles work.now.key) device.now.default_pixel) (replicate 4096 c)) }
 {
@@ -90,7 +90,7 @@ fn neighbour(device: &Device, key: TileKey) -> Option<&Tile>
     }
 }
 
-/// A copy of the pixels under the key, with the point operation painted on it.
+/// A copy of the pixels under the key, with the point operations painted on it.
 fn painted_copy(alloc: Global, device: &Device, work: &PointWork<'_>) -> Result<Tile, NoMemory>
     ensures { IfOk result (IsPaintedOn work.now device.now) }
 {

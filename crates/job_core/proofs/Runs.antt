@@ -1,19 +1,17 @@
 -- Runs of jobs that write within one tile.
 use borrow.Author.Differences.{ints}
-use Rattle.std.proofs.Common.{◌≡◌, ℕ, ◌+◌, ◌≤◌, ◌<◌, Bool, true, false, ◌&&◌, cond, List, [], ◌∷◌, ◌++◌, append-nil, length, take, drop, get_or, Some, refl, sym, ap, subst, ◌∙◌, arith}
-use Rattle.std.specs.Prelude.{ℤ, pos, ◌+ℤ◌, ◌-ℤ◌, ◌*ℤ◌, ◌≤ℤ◌, ◌<ℤ◌, negsuc, int_le, int_lt, nat_eq, All}
-use Rattle.std.specs.List.{list_any, list_all, take_while, AllByRecursion}
+use Rattle.std.proofs.Common.{◌≡◌, ℕ, ◌+◌, ◌≤◌, ◌<◌, Bool, true, false, ◌&&◌, cond, List, [], ◌∷◌, ◌++◌, append-nil, length, take, get_or, refl, sym, ap, subst, ◌∙◌, arith}
+use Rattle.std.specs.Prelude.{ℤ, pos, ◌+ℤ◌, int_le, int_lt, All}
+use Rattle.std.specs.List.{list_any, take_while, AllByRecursion}
 use Rattle.std.proofs.lemmas.List.{take_all}
 use Rattle.std.proofs.lemmas.Grind.{take_at_read}
-use Rattle.std.proofs.lemmas.Bool.Decides.{nat_tests}
 use Rattle.std.proofs.lemmas.List.Elements.{All-from_recursion, recursion_from_All, All-take}
 use Rattle.std.proofs.lemmas.List.Sums.{take_while-cons}
 use Rattle.geom_core.specs.Points.{Point}
-use Rattle.geom_core.specs.Areas.{Area, holds, any_holds, lies_in, meets, world}
-use Rattle.geom_core.specs.Grid.{Key, key_of, same_key, tile, keys_of, all_keys_of, IsWorldKey, floor_by}
+use Rattle.geom_core.specs.Areas.{Area, any_holds, lies_in}
+use Rattle.geom_core.specs.Grid.{Key, same_key, tile, keys_of, all_keys_of}
 use Rattle.geom_core.proofs.Axes.{tiles_met}
-use Rattle.geom_core.proofs.Tests.{and_left, and_right, both_true, taken, kept}
-use Rattle.geom_core.proofs.Tiles.{own_tile}
+use Rattle.geom_core.proofs.Tests.{and_left, and_right, both_true, taken}
 use Rattle.tile_core.specs.Pixels.{Pixels}
 use Rattle.doc_model.specs.declared.job.Job.{Job}
 use Rattle.doc_model.specs.declared.job.Job.TheVariants.{Fill, Dab, Move, Blur}

@@ -1,5 +1,5 @@
 -- Point operations: jobs that make each pixel from what stood at that very point, as fills and dabs do.
-use Rattle.std.specs.Prelude.{◌≡◌, ◌≤◌, ◌&&◌, Bool, true, false, List, [], ◌∷◌, length, All, refl}
+use Rattle.std.specs.Prelude.{◌≡◌, ◌≤◌, ◌&&◌, Bool, true, false, [], ◌∷◌, length, All, refl}
 use Rattle.std.specs.List.{list_any, list_all, take_while}
 use Rattle.std.specs.Coded.{Coded, code_by, coded×, coded_list}
 use Rattle.geom_core.specs.Points.{Point}
@@ -13,7 +13,6 @@ use Rattle.doc_model.specs.declared.job.Job.TheVariants.{Fill, Dab, Move, Blur}
 use Rattle.doc_model.specs.Jobs.{apply, writes, in_tile, published}
 use Rattle.doc_model.specs.Lawful.{checks, within_limits}
 use Rattle.doc_model.specs.Layers.{Layer, at}
-use Rattle.doc_model.specs.declared.job.Kind.{Kind}
 use Rattle.doc_model.specs.Strokes.{Jobs}
 
 -- whether a job makes each pixel from that pixel alone

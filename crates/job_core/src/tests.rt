@@ -354,7 +354,8 @@ fn runs(rt: HostRuntime) -> Result<(), Fail> {
             },
         ),
     ];
-    let Some(front) = run(&rt, &jobs) else {
+    let all = &jobs[..];
+    let Some(front) = run(&rt, all) else {
         return Err("no run".into());
     };
     assert_eq!(rt; front.job_count(), 3);
@@ -369,13 +370,13 @@ fn runs(rt: HostRuntime) -> Result<(), Fail> {
     ] {
         assert_eq!(rt; tile.pixel(col, row).bytes(), want, "{col} {row}");
     }
-    let Some(next) = run(&rt, &jobs[3..]) else {
+    let Some(next) = run(&rt, &all[3..]) else {
         return Err("no run".into());
     };
     assert_eq!(rt; next.job_count(), 1);
     assert_eq!(rt; next.key(), TileKey { row: 0, col: 1 });
-    assert!(rt; run(&rt, &jobs[4..]).is_none());
-    assert!(rt; run(&rt, &jobs[5..]).is_none());
-    assert!(rt; run(&rt, &jobs[6..]).is_none());
+    assert!(rt; run(&rt, &all[4..]).is_none());
+    assert!(rt; run(&rt, &all[5..]).is_none());
+    assert!(rt; run(&rt, &all[6..]).is_none());
     Ok(())
 }

@@ -1,7 +1,6 @@
-use Rattle.std.proofs.Common.{ap, length, ◌≡◌, ◌∙◌}
+use Rattle.std.proofs.Common.{ap, length, ◌∙◌}
 use Rattle.std.specs.List.{take_while}
 use Rattle.geom_core.specs.Areas.{Area}
-use Rattle.geom_core.specs.Grid.{tile}
 use Rattle.job_core.specs.Points.{is_within}
 use Rattle.job_core.proofs.Runs.{run_jobs, run_is}
 use Rattle.job_core.proofs.points.PointWork.run.Goals as goal

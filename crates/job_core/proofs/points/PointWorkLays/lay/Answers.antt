@@ -1,4 +1,4 @@
-use Rattle.std.proofs.Common.{◌≡◌, ◌≤◌, length, ap, arith}
+use Rattle.std.proofs.Common.{◌≡◌, length, ap, arith}
 use Rattle.job_core.specs.Points.{Spot, spot}
 use Rattle.job_core.proofs.Runs.{lays_more, lays_all}
 use Rattle.job_core.proofs.points.PointWorkLays.lay.Goals as goal
