@@ -7,3 +7,4 @@ pub mod Traded
 pub mod Rearranged
 pub mod Exchanged
 pub mod Archived
+pub mod Painted

@@ -20,7 +20,7 @@ use Rattle.machine_model.specs.Codes.{reach_code}
 use Rattle.machine_model.specs.Effects.{layer_in, bound_of}
 use Rattle.machine_model.specs.Reached.{PastReaches, FutureReaches, ReachesOneLayer}
 use Rattle.job_core.specs.Paints.{Paint, layer_of}
-use Rattle.job_core.specs.Points.{Spot, painted_in}
+use Rattle.job_core.specs.Points.{Spot, all_painted_in}
 use Rattle.desk_steps.specs.declared.reach.Reach as told
 use Rattle.desk_steps.specs.declared.reach.Reach.TheVariants as tells
 
@@ -67,10 +67,10 @@ abbrev pub with_put : Way → Paint → Archive → Archive
 with_put None w a = a
 with_put (Some way) w a = record a { present = adjusted way.0 (published w.job (layer_of w.shot) w.key) a.present; way = Some (way.0, set.insert way.1 w.key) }
 
--- a point operation is painted in one tile on the layer of the stroke under way
+-- point operations are painted in one tile on the layer of the stroke under way
 abbrev pub with_painted : Way → Spot → Archive → Archive
 with_painted None w a = a
-with_painted (Some way) w a = record a { present = adjusted way.0 (painted_in w.job w.key) a.present; way = Some (way.0, set.insert way.1 w.key) }
+with_painted (Some way) w a = record a { present = adjusted way.0 (all_painted_in w.jobs w.key) a.present; way = Some (way.0, set.insert way.1 w.key) }
 
 -- the stroke under way becomes the newest change
 abbrev pub finished : Way → Archive → Archive

@@ -11,7 +11,7 @@ use Rattle.doc_model.specs.Layers.{Layer, at}
 use Rattle.doc_model.specs.Jobs.{writes, apply, in_tile}
 use Rattle.job_core.specs.Paints as paints
 use Rattle.job_core.specs.Paints.{Paint, Stuff, Makes}
-use Rattle.job_core.specs.Points.{Spot}
+use Rattle.job_core.specs.Points.{Spot, all_painted_in}
 use Rattle.paint_device.specs.Seen.{layer_of}
 use Rattle.paint_device.specs.Sheets.{Sheet, sheet_at}
 
@@ -23,9 +23,9 @@ IsLaid job shot k s t = (p : Point) → in_tile k p ≡ true → pixel_at t p �
 abbrev pub IsLaidFrom : Stuff → Sheet → Pixels → Type 0
 IsLaidFrom made s t = (w : Paint) → Makes w made → IsLaid w.job (paints.layer_of w.shot) w.key s t
 
--- the same of the sheet's own layer
+-- the tile has what point operations that are painted there make of the sheet's own layer
 abbrev pub IsPaintedOn : Spot → Sheet → Pixels → Type 0
-IsPaintedOn w s t = IsLaid w.job (layer_of s) w.key s t
+IsPaintedOn w s t = (p : Point) → in_tile w.key p ≡ true → pixel_at t p ≡ at (all_painted_in w.jobs w.key (layer_of s)) p
 
 -- the tile to the left of the key, or else the one above
 abbrev pub beside : Sheet → Key → Option Pixels

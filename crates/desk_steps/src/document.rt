@@ -13,7 +13,7 @@ ghost use Rattle.doc_model.specs.declared.tree.TreeFault.{TreeFault};
 ghost use Rattle.geom_core.specs.Grid.{Key};
 ghost use Rattle.job_core.specs.Paints as paints;
 ghost use Rattle.job_core.specs.Paints.{Paint, Makes};
-ghost use Rattle.job_core.specs.Points.{painted_in};
+ghost use Rattle.job_core.specs.Points.{all_painted_in};
 ghost use Rattle.paint_device.specs.Seen.{layer_of};
 ghost use Rattle.desk_steps.specs.declared.reach.TreeRefusal.TheVariants as refusal;
 ghost use Rattle.desk_steps.specs.Archives.{shape};
@@ -118,7 +118,7 @@ impl Document {
         lay_under(alloc, &mut self.devices, id, found, made)
     }
 
-    /// Paints a point operation in one tile of a paint layer, and notes what stood in the tile before
+    /// Paints point operations in one tile of a paint layer, and notes what stood in the tile before
     /// the stroke.
     pub fn paint(
         &mut self,
@@ -129,7 +129,7 @@ impl Document {
     ) -> Result<(), NoMemory>
         requires layer { is_some (content id self.old) ≡ true }
         requires there { StandIn found.old (content id self.old) }
-        ensures ok { OnOk result (doc_in self.new ≡ adjusted id (painted_in work.now.job work.now.key) (doc_in self.old)) }
+        ensures ok { OnOk result (doc_in self.new ≡ adjusted id (all_painted_in work.now.jobs work.now.key) (doc_in self.old)) }
         ensures keys { OnOk result (keys_in found.new ≡ set.insert (keys_in found.old) work.now.key) }
         ensures back { Regains id found.old found.new self.old self.new }
         ensures err { OnErr result (doc_in self.new ≡ doc_in self.old) }
@@ -227,7 +227,7 @@ fn lay_under(
     }
 }
 
-/// Paints a point operation on the device under an id that is there.
+/// Paints point operations in one tile of the device under an id that is there.
 fn paint_under(
     alloc: Global,
     devices: &mut BTreeMap<u16, Device>,
@@ -237,7 +237,7 @@ fn paint_under(
 ) -> Result<(), NoMemory>
     requires layer { is_some (btree.get nat_cmp devices.old id) ≡ true }
     requires there { StandIn found.old (btree.get nat_cmp devices.old id) }
-    ensures ok { OnOk result (ChangesDevice devices.old devices.new id (λ old new. layer_of new ≡ painted_in work.now.job work.now.key (layer_of old))) }
+    ensures ok { OnOk result (ChangesDevice devices.old devices.new id (λ old new. layer_of new ≡ all_painted_in work.now.jobs work.now.key (layer_of old))) }
     ensures keys { OnOk result (keys_in found.new ≡ set.insert (keys_in found.old) work.now.key) }
     ensures back { ChangesDevice devices.old devices.new id (GivesBack found.old found.new) }
     ensures err { OnErr result (ChangesDevice devices.old devices.new id (λ old new. layer_of new ≡ layer_of old)) }

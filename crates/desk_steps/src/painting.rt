@@ -5,7 +5,7 @@ ghost use Rattle.std.specs.Option.{option_copied};
 ghost use Rattle.std.specs.FinSet as set;
 ghost use Rattle.geom_core.specs.Grid.{IsWorldKey};
 ghost use Rattle.memento_core.specs.Planes.{tile_under};
-ghost use Rattle.job_core.specs.Points.{LaysPoints, painted_in};
+ghost use Rattle.job_core.specs.Points.{LaysPoints, all_painted_in};
 ghost use Rattle.paint_device.specs.Seen.{layer_of};
 ghost use Rattle.paint_device.specs.Sheets.{tile_or};
 ghost use Rattle.desk_steps.specs.Founds.{GivesBack, StandIn, keys_in};
@@ -20,8 +20,8 @@ use pixel_core::Pixel;
 use std::alloc::Global;
 use tile_core::{Lays, Tile};
 
-/// Paints a point operation on the device, and notes what stood in its tile before the stroke. Where
-/// there is no memory no pixel has changed, and nothing was noted.
+/// Paints point operations in one tile of the device, and notes what stood there before the stroke.
+/// Where there is no memory no pixel has changed, and nothing was noted.
 pub fn paint(
     alloc: Global,
     device: &mut Device,
@@ -29,7 +29,7 @@ pub fn paint(
     work: &PointWork<'_>,
 ) -> Result<(), NoMemory>
     requires { StandIn found.old (Some device.old) }
-    ensures ok { OnOk result (layer_of device.new ≡ painted_in work.now.job work.now.key (layer_of device.old)) }
+    ensures ok { OnOk result (layer_of device.new ≡ all_painted_in work.now.jobs work.now.key (layer_of device.old)) }
     ensures keys { OnOk result (keys_in found.new ≡ set.insert (keys_in found.old) work.now.key) }
     ensures back { GivesBack found.old found.new device.old device.new }
     ensures err { OnErr result (layer_of device.new ≡ layer_of device.old) }
@@ -43,7 +43,7 @@ pub fn paint(
     set_under(device, found, key, tile)
 }
 
-/// The tile under the key with what the point operation makes of it.
+/// The tile under the key with what the point operations make of it.
 fn painted(alloc: Global, device: &Device, work: &PointWork<'_>) -> Result<Tile, NoMemory>
     ensures { IfOk result (IsPaintedOn work.now device.now) }
 {
@@ -53,7 +53,7 @@ fn painted(alloc: Global, device: &Device, work: &PointWork<'_>) -> Result<Tile,
     }
 }
 
-/// The one pixel that the point operation leaves at all points of its tile. None where it finds none.
+/// The one pixel that the point operations leave at all points of their tile. None where it finds none.
 fn plain_left(device: &Device, work: &PointWork<'_>) -> Option<Pixel>
     ensures { IfSome result (λ c. LaysPoints work.now (tile_or (tile_under device.now.tiles work.now.key) device.now.default_pixel) (replicate 4096 c)) }
 {
@@ -93,7 +93,7 @@ fn neighbour(device: &Device, key: TileKey) -> Option<&Tile>
     }
 }
 
-/// A copy of the pixels under the key, with the point operation painted on it.
+/// A copy of the pixels under the key, with the point operations painted on it.
 fn painted_copy(alloc: Global, device: &Device, work: &PointWork<'_>) -> Result<Tile, NoMemory>
     ensures { IfOk result (IsPaintedOn work.now device.now) }
 {

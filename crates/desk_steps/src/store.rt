@@ -148,7 +148,7 @@ impl Store {
         }
     }
 
-    /// Paints a point operation in one tile of the stroke's layer, in place where the stroke has put
+    /// Paints point operations in one tile of the stroke's layer, in place where the stroke has put
     /// the tile before and nobody shares it. On `NoMemory` nothing has changed.
     pub fn paint(&mut self, alloc: Global, work: &PointWork<'_>) -> Result<(), NoMemory>
         requires { is_some self.old.way ≡ true }

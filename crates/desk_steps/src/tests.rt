@@ -1,20 +1,17 @@
 //! Worked histories, and that each call can succeed.
 
-ghost use Rattle.std.specs.Prelude.{◌≡◌, ◌<◌, ◌≤◌, None, OnOk, is_some, true};
-ghost use Rattle.std.specs.List.{list_any};
-ghost use Rattle.geom_core.specs.Grid.{same_key, all_keys_of};
-ghost use Rattle.doc_model.specs.Jobs.{writes};
-ghost use Rattle.doc_model.specs.Lawful.{checks};
+ghost use Rattle.std.specs.Prelude.{◌≡◌, ◌<◌, ◌≤◌, None, OnOk, is_some};
 
 use super::*;
-use doc_model::{Change, Job, Look};
+use doc_model::{Change, Job, Kind, Look};
 use geom_core::{NoMemory, Rect, TileKey};
-use job_core::{PointWork, is_point_op};
+use job_core::PointWork;
 use memento_core::Steps;
 use pixel_core::{Op, Pixel};
 use std::alloc::Global;
 use std::marker::Brand;
 use std::process::Abort;
+use std::slice;
 use std::sync::ledger::{Blank, Ledger};
 use std::test::Fail;
 
@@ -125,26 +122,13 @@ fn a_stroke_and_two_layers(rt: HostRuntime) -> Result<(), Fail> {
     Ok(())
 }
 
-/// The first tile that the job writes in.
-fn first_tile(rt: &impl Abort, job: &Job) -> TileKey
-    requires { checks job.now ≡ true }
-    ensures { list_any (same_key result) (all_keys_of (writes job.now)) ≡ true }
-{
-    let rects = job.writes();
-    assert!(rt; rects.len() > 0);
-    let rect = rects[0];
-    assert!(rt; rect.tile_count() > 0);
-    rect.tile_at(0)
-}
-
-/// The work of a point operation in its first tile.
-fn work<'a>(rt: &impl Abort, job: &'a Job) -> PointWork<'a> {
-    assert!(rt; is_point_op(job));
-    assert!(rt; job.check().is_ok());
-    assert!(rt; job.is_within_limits());
-    let key = first_tile(rt, job);
-    assert_eq!(rt; key, ORIGIN);
-    PointWork::new(job, key)
+/// The work of a point operation that writes in one tile.
+fn work<'a>(rt: &impl Abort, entry: &'a (Kind, Job)) -> PointWork<'a> {
+    assert!(rt; entry.1.check().is_ok());
+    assert!(rt; entry.1.is_within_limits());
+    let work = PointWork::run(slice::from_ref(entry)).expect(rt, "a job of one tile");
+    assert_eq!(rt; work.key(), ORIGIN);
+    work
 }
 
 /// A stroke on layer 1 that paints two jobs, one after the other.
@@ -152,8 +136,8 @@ fn paint_both(
     rt: &impl Abort,
     alloc: Global,
     store: &mut Store,
-    first: &Job,
-    second: &Job,
+    first: &(Kind, Job),
+    second: &(Kind, Job),
 ) -> Result<(), NoMemory>
     requires { store.old.way ≡ None }
     ensures { OnOk result (store.new.way ≡ None) }
@@ -210,7 +194,8 @@ fn a_fill_and_a_dab(rt: HostRuntime) -> Result<(), Fail> {
         op: Op::Over,
         strength: 255,
     };
-    paint_both(&rt, alloc, &mut store, &fill, &dab)?;
+    let fill = (Kind::Seq, fill);
+    paint_both(&rt, alloc, &mut store, &fill, &(Kind::Seq, dab))?;
     assert!(rt; pixel_of(&store, 0, 0) == Some(red()));
     assert!(rt; pixel_of(&store, 16, 16) == Some(blue()));
     assert!(rt; pixel_of(&store, 40, 40) == Some(Pixel::CLEAR));
@@ -220,7 +205,7 @@ fn a_fill_and_a_dab(rt: HostRuntime) -> Result<(), Fail> {
         op: Op::Over,
         strength: 255,
     };
-    paint_both(&rt, alloc, &mut store, &whole, &fill)?;
+    paint_both(&rt, alloc, &mut store, &(Kind::Seq, whole), &fill)?;
     assert!(rt; pixel_of(&store, 0, 0) == Some(red()));
     assert!(rt; pixel_of(&store, 40, 40) == Some(blue()));
     assert!(rt; undone::<Brand>(&mut store, Blank::new(1)));

@@ -23,10 +23,9 @@ use Rattle.job_core.specs.declared.ink.Ink.{Ink}
 use Rattle.job_core.specs.declared.dabs.Brush.{Brush}
 use Rattle.job_core.specs.Laid.{Change, ChangesRows, inked, LeavesAll}
 use Rattle.job_core.specs.Dabs.{brushed, brushed_from}
-use Rattle.job_core.specs.Points.{spot, IsPointWork, LaysPoints}
+use Rattle.job_core.specs.Points.{LaysJob}
 use Rattle.job_core.specs.Tasks.{fill_of, dab_of}
 use Rattle.job_core.proofs.Values.{tile_held, or-false}
-use Rattle.job_core.proofs.Keys.{work_key}
 use Rattle.job_core.proofs.DabValues.{Steps, steps}
 
 chosen : (t u : Bool) (x y o o' : Rgba) → t ≡ u → o ≡ o' → (u ≡ true → x ≡ y) → cond t x o ≡ cond u y o'
@@ -71,7 +70,7 @@ and-true s t e = grind arith
 pub lays_points : (job : Job) (key : Key) (rect part : Area) (g : Point → Rgba → Rgba) (old new : Pixels) → writes job ≡ rect ∷ []
     → ((layer : Layer) (p : Point) → value job layer p ≡ g p (at layer p)) → IsShared rect (tile key) part
     → ((p : Point) → holds (tile key) p ≡ true → pixel_at new p ≡ cond (holds part p) (g p (pixel_at old p)) (pixel_at old p))
-    → LaysPoints (spot job key) old new
+    → LaysJob key job old new
 lays_points job key rect part g old new wr each shared changed layer has p inside =
     let held : holds (tile key) p ≡ true = tile_held key p ∙ inside in
     at-apply job layer p
@@ -82,11 +81,11 @@ lays_points job key rect part g old new wr each shared changed layer has p insid
 
 -- ---- fills
 
-pub fill_laid : (rect part : Area) (place : Part) (ink : Ink) (key : Key) (old new : Pixels) → IsPointWork (spot (fill_of rect ink) key) → IsShared rect (tile key) part → IsPartOf part place
-    → ChangesRows (inked ink) 64 place.left place.top place.w place.h old new → LaysPoints (spot (fill_of rect ink) key) old new
-fill_laid rect part place ink key old new work shared is laid =
+pub fill_laid : (rect part : Area) (place : Part) (ink : Ink) (key : Key) (old new : Pixels) → IsWorldKey key → IsShared rect (tile key) part → IsPartOf part place
+    → ChangesRows (inked ink) 64 place.left place.top place.w place.h old new → LaysJob key (fill_of rect ink) old new
+fill_laid rect part place ink key old new known shared is laid =
     lays_points (fill_of rect ink) key rect part (λ _ d. compose ink.op ink.colour d ink.strength) old new refl (λ _ _. refl) shared
-    (tile_changed (inked ink) (λ _ d. compose ink.op ink.colour d ink.strength) key part place old new (work_key _ work) shared.in_b is (λ _ _ _. refl) laid)
+    (tile_changed (inked ink) (λ _ d. compose ink.op ink.colour d ink.strength) key part place old new known shared.in_b is (λ _ _ _. refl) laid)
 
 -- what a tile's whole rectangle has in common with another is all of it
 axis_whole : (t a x : ℤ) (n : ℕ) → n ≡ 64 → t ≤ℤ a → (a +ℤ pos n) ≤ℤ (t +ℤ pos 64) → (int_le t x && int_lt x (t +ℤ pos 64)) ≡ true → (int_le a x && int_lt x (a +ℤ pos n)) ≡ true
@@ -102,7 +101,7 @@ small_place : (x y : ℕ) → 64 * (y % 64) + x % 64 < 4096
 small_place x y = omega arith
 
 -- a fill that covers its tile, and leaves one pixel of each there
-pub fill_plain : (rect : Area) (ink : Ink) (key : Key) (old : Pixels) (c : Rgba) → ((p : Point) → in_tile key p ≡ true → holds rect p ≡ true) → LeavesAll ink old c → LaysPoints (spot (fill_of rect ink) key) old (replicate 4096 c)
+pub fill_plain : (rect : Area) (ink : Ink) (key : Key) (old : Pixels) (c : Rgba) → ((p : Point) → in_tile key p ≡ true → holds rect p ≡ true) → LeavesAll ink old c → LaysJob key (fill_of rect ink) old (replicate 4096 c)
 fill_plain rect ink key old c covers leaves layer has p inside =
     let small : 64 * (down p % 64) + across p % 64 < 4096 = small_place (across p) (down p) in
     at-apply (fill_of rect ink) layer p
@@ -112,17 +111,17 @@ fill_plain rect ink key old c covers leaves layer has p inside =
     ∙ sym (get_or-replicate 4096 (64 * (down p % 64) + across p % 64) c clear small)
 
 -- what follows of one that is there
-pub more_some : (P Q : Rgba → Type 0) (o : Option Rgba) → ((c : Rgba) → P c → Q c) → IfSome o P → IfSome o Q
+pub more_some : {A : Type 0} (P Q : A → Type 0) (o : Option A) → ((c : A) → P c → Q c) → IfSome o P → IfSome o Q
 more_some P Q None f h = h
 more_some P Q (Some c) f h = f c h
 
 -- ---- dabs
 
-pub dab_laid : (a part : Area) (place : Part) (brush : Brush) (ink : Ink) (key : Key) (old new : Pixels) → a ≡ square brush.x brush.y brush.r → IsPointWork (spot (dab_of brush ink) key) → IsShared a (tile key) part → IsPartOf part place
-    → ChangesRows (brushed_from brush ink (part.x -ℤ brush.x) (part.y -ℤ brush.y)) 64 place.left place.top place.w place.h old new → LaysPoints (spot (dab_of brush ink) key) old new
-dab_laid a part place brush ink key old new e work shared is laid =
+pub dab_laid : (a part : Area) (place : Part) (brush : Brush) (ink : Ink) (key : Key) (old new : Pixels) → a ≡ square brush.x brush.y brush.r → IsWorldKey key → IsShared a (tile key) part → IsPartOf part place
+    → ChangesRows (brushed_from brush ink (part.x -ℤ brush.x) (part.y -ℤ brush.y)) 64 place.left place.top place.w place.h old new → LaysJob key (dab_of brush ink) old new
+dab_laid a part place brush ink key old new e known shared is laid =
     lays_points (dab_of brush ink) key (square brush.x brush.y brush.r) part (brushed_at brush ink) old new refl (λ _ _. refl) (subst (λ (b : Area). IsShared b (tile key) part) e shared)
-    (tile_changed (brushed_from brush ink (part.x -ℤ brush.x) (part.y -ℤ brush.y)) (brushed_at brush ink) key part place old new (work_key _ work) shared.in_b is
+    (tile_changed (brushed_from brush ink (part.x -ℤ brush.x) (part.y -ℤ brush.y)) (brushed_at brush ink) key part place old new known shared.in_b is
     (λ p d h. let i : Steps part.x p.x brush.x (part.x -ℤ brush.x) part.w = steps part.x p.x brush.x (part.x -ℤ brush.x) part.w refl (and_left _ _ h) in
     let j : Steps part.y p.y brush.y (part.y -ℤ brush.y) part.h = steps part.y p.y brush.y (part.y -ℤ brush.y) part.h refl (and_right _ _ h) in
     λ k. brushed brush ink (i.at k) (j.at k) d) laid)

@@ -13,7 +13,6 @@ use Rattle.doc_model.specs.declared.job.Job.TheVariants.{Fill, Dab, Move, Blur}
 use Rattle.doc_model.specs.Jobs.{grown, square, writes}
 use Rattle.doc_model.specs.Lawful.{checks, within_limits}
 use Rattle.job_core.specs.Due.{IsDue}
-use Rattle.job_core.specs.Points.{Spot, IsPointWork}
 use Rattle.job_core.proofs.Values.{HasPoints, some_of_limits, key_met, one_met, world_key}
 
 -- a rectangle of the world with at least one point
@@ -59,10 +58,6 @@ job_key job key c l met = listed_key (writes job) key (writes_there job c l) met
 -- a job that is due
 pub due_key : (job : Job) (s : Sight) (key : Key) → IsDue job s key → IsWorldKey key
 due_key job s key due = job_key job key due.checked due.limits due.met
-
--- a point operation's work
-pub work_key : (w : Spot) → IsPointWork w → IsWorldKey w.key
-work_key w work = job_key w.job w.key work.checked work.limits work.met
 
 -- a tile of a dab meets its square
 pub square_met : (x y : ℤ) (r : ℕ) (a : Area) (key : Key) → a ≡ square x y r → list_any (same_key key) (all_keys_of (square x y r ∷ [])) ≡ true → meets a (tile key) ≡ true

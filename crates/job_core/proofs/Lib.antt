@@ -9,3 +9,4 @@ pub mod MoveValues
 pub mod BlurValues
 pub mod FirstTiles
 pub mod InPlace
+pub mod Runs

@@ -16,7 +16,7 @@ mod task;
 
 pub use made::Made;
 pub use painted::{Painted, paint_tile};
-pub use points::{PointWork, is_point_op};
+pub use points::{PointWork, point_rect};
 
 #[cfg(test)]
 mod tests;

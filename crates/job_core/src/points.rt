@@ -1,15 +1,15 @@
 //! Point operations, laid straight on the pixels of a tile.
 
-ghost use Rattle.std.specs.Prelude.{◌≡◌, true, length, ◌+◌, ◌*◌, IfSome, IsTrue, replicate};
-ghost use Rattle.std.specs.List.{list_any};
+ghost use Rattle.std.specs.Prelude.{◌≡◌, ◌≤◌, ◌∷◌, ◌&&◌, [], true, false, All, length, ◌+◌, ◌*◌, IfSome, IfNone, IsTrue, replicate, slice_get, Some};
+ghost use Rattle.std.specs.List.{list_any, list_all, take_while};
 ghost use Rattle.pixel_core.specs.Rgba.{Rgba};
 ghost use Rattle.geom_core.specs.Points.{Point};
-ghost use Rattle.geom_core.specs.Areas.{IsInWorld, holds, meets};
-ghost use Rattle.geom_core.specs.Grid.{IsWorldKey, same_key, all_keys_of, tile};
+ghost use Rattle.geom_core.specs.Areas.{Area, IsInWorld, holds, lies_in, meets};
+ghost use Rattle.geom_core.specs.Grid.{IsWorldKey, keys_of, same_key, all_keys_of, tile};
 ghost use Rattle.tile_core.specs.Pixels.{Pixels};
 ghost use Rattle.doc_model.specs.Jobs.{writes, in_tile, square as square_of};
 ghost use Rattle.doc_model.specs.Lawful.{checks, within_limits};
-ghost use Rattle.job_core.specs.Points.{is_point_op as is_point_op_of, spot, IsPointWork, LaysPoints};
+ghost use Rattle.job_core.specs.Points.{is_point_op, is_within as is_within_of, spot, IsPointJob, IsPointWork, IsRun, LaysJob, LaysPoints};
 ghost use Rattle.job_core.specs.Laid.{LeavesAll};
 ghost use Rattle.job_core.specs.Tasks.{fill_of, dab_of};
 
@@ -18,26 +18,31 @@ use crate::fills::lay_ink;
 use crate::ink::Ink;
 use crate::part::part_in;
 use crate::task::{Task, task_of};
-use doc_model::Job;
-use geom_core::{Rect, TileKey};
+use doc_model::{Job, Kind, square_round};
+use geom_core::{Rect, TileKey, tile_of};
 use pixel_core::Pixel;
 use std::marker::Model;
 use tile_core::{Lays, Tile, part_in_tile};
 
-/// Whether the job makes each pixel from that pixel alone, as fills and dabs do.
-pub fn is_point_op(job: &Job) -> bool
-    ensures { result ≡ is_point_op_of job.now }
+/// The rectangle that a point operation writes: a job that makes each pixel from that pixel alone, as
+/// fills and dabs do. None exactly where the job is another.
+pub fn point_rect(job: &Job) -> Option<Rect>
+    requires { checks job.now ≡ true }
+    ensures point_op { IfSome result (λ r. is_point_op job.now ≡ true) }
+    ensures written { IfSome result (λ r. writes job.now ≡ r ∷ []) }
+    ensures other { IfNone result (is_point_op job.now ≡ false) }
 {
     match *job {
-        Job::Fill { .. } | Job::Dab { .. } => true,
-        Job::Move { .. } | Job::Blur { .. } => false,
+        Job::Fill { rect, .. } => Some(rect),
+        Job::Dab { x, y, r, .. } => Some(square_round(x, y, r).unwrap()),
+        Job::Move { .. } | Job::Blur { .. } => None,
     }
 }
 
-/// A point operation's work in one tile of its writes.
+/// The work of point operations in one tile of their writes, the first of them first.
 #[derive(Drop)]
 pub struct PointWork<'a> {
-    job: &'a Job,
+    jobs: &'a [(Kind, Job)],
     key: TileKey,
 }
 
@@ -48,21 +53,42 @@ impl<'a> Model for PointWork<'a> {
 
     ghost coded = { spot_code };
 
-    ghost view = { λ w. spot w.job.now w.key };
+    ghost view = { λ w. spot w.jobs.now w.key };
 
-    ghost invariant = { λ w. IsPointWork (spot w.job.now w.key) };
+    ghost invariant = { λ w. IsPointWork (spot w.jobs.now w.key) };
 }
 
 impl<'a> PointWork<'a> {
-    /// The work of a point operation in the key's tile.
-    pub fn new(job: &'a Job, key: TileKey) -> PointWork<'a>
-        requires point_op { is_point_op_of job.now ≡ true }
-        requires checked { checks job.now ≡ true }
-        requires limits { within_limits job.now ≡ true }
-        requires met { list_any (same_key key) (all_keys_of (writes job.now)) ≡ true }
-        ensures { result ≡ spot job.now key }
+    /// The work of point operations in the tile of a key.
+    pub fn new(jobs: &'a [(Kind, Job)], key: TileKey) -> PointWork<'a>
+        requires world { IsWorldKey key }
+        requires each { All (λ j. IsPointJob key j.1) jobs.now }
+        ensures { result ≡ spot jobs.now key }
     {
-        PointWork { job, key }
+        PointWork { jobs, key }
+    }
+
+    /// The work of as many of the jobs, from the first on, as are point operations that write within
+    /// one tile alone. None where it finds none, as for a first job with several tiles.
+    pub fn run(jobs: &'a [(Kind, Job)]) -> Option<PointWork<'a>>
+        requires checked { All (λ j. checks j.1 ≡ true) jobs.now }
+        requires limits { All (λ j. within_limits j.1 ≡ true) jobs.now }
+        ensures { IfSome result (IsRun jobs.now) }
+    {
+        let (_, first) = jobs.first()?;
+        let key = first_tile(&point_rect(first)?);
+        let count = count_within(jobs, &key.rect());
+        if count == 0 {
+            return None;
+        }
+        Some(PointWork::new(&jobs[..count], key))
+    }
+
+    /// How many jobs there are.
+    pub fn job_count(&self) -> usize
+        ensures { result ≡ length self.now.jobs }
+    {
+        self.jobs.len()
     }
 
     /// The key of the tile.
@@ -73,8 +99,8 @@ impl<'a> PointWork<'a> {
         self.key
     }
 
-    /// The one pixel that it leaves at all points of the tile, which has these pixels before it.
-    /// None where it finds none, as for dabs and for fills that don't cover the tile.
+    /// The one pixel that one job leaves at all points of the tile, which has these pixels before it.
+    /// None where it finds none, as for dabs, for fills that don't cover the tile and for several jobs.
     pub fn plain_on(&self, tile: &Tile) -> Option<Pixel>
         ensures { IfSome result (λ c. LaysPoints self.now tile.now (replicate 4096 c)) }
     {
@@ -88,12 +114,12 @@ impl<'a> PointWork<'a> {
         Some(self.covering_ink()?.on(ground))
     }
 
-    /// The ink of a fill that covers the tile.
+    /// The ink of one fill that covers the tile.
     fn covering_ink(&self) -> Option<Ink>
         ensures { IfSome result (λ ink. (old : Pixels) (c : Rgba) → LeavesAll ink old c → LaysPoints self.now old (replicate 4096 c)) }
     {
-        match task_of(self.job) {
-            Task::Fill { rect, ink } => covers(self.key, &rect).then_some(ink),
+        match self.jobs {
+            [(_, job)] => covering(self.key, job),
             _ => None,
         }
     }
@@ -104,13 +130,69 @@ impl Lays for PointWork<'_> {
 
     ghost laid = { λ w old new. LaysPoints w old new };
 
-    /// Lays the job's pixels on those of its writes in the tile.
+    /// Lays the pixels of one job after another on those of its writes in the tile.
     fn lay(&self, tile: &mut [Pixel]) {
-        match task_of(self.job) {
-            Task::Fill { rect, ink } => fill_in(self.key, &rect, &ink, tile),
-            Task::Dab { brush, ink } => dab_in(self.key, &brush, &ink, tile),
-            Task::Move { .. } | Task::Blur { .. } => unreachable!(),
+        for entry in self.jobs {
+            lay_job(self.key, &entry.1, tile);
         }
+    }
+}
+
+/// The tile of a rectangle's first point.
+fn first_tile(rect: &Rect) -> TileKey
+    ensures { IsWorldKey result }
+{
+    tile_of(rect.x(), rect.y())
+}
+
+/// How many of the jobs, from the first on, are point operations that write within a rectangle alone.
+fn count_within(jobs: &[(Kind, Job)], bounds: &Rect) -> usize
+    requires { All (λ j. checks j.1 ≡ true) jobs.now }
+    ensures value { result ≡ length (take_while (λ j. is_within_of bounds.now j.1) jobs.now) }
+    ensures few { result ≤ length jobs.now }
+{
+    for i in 0..jobs.len() {
+        if !is_within(&jobs[i].1, bounds) {
+            return i;
+        }
+    }
+    jobs.len()
+}
+
+/// Whether the job is a point operation that writes within a rectangle alone.
+fn is_within(job: &Job, bounds: &Rect) -> bool
+    requires { checks job.now ≡ true }
+    ensures { result ≡ is_within_of bounds.now job.now }
+{
+    match point_rect(job) {
+        Some(rect) => rect.lies_in(bounds),
+        None => false,
+    }
+}
+
+/// The ink of a fill that covers the key's tile.
+fn covering(key: TileKey, job: &Job) -> Option<Ink>
+    requires key { IsWorldKey key }
+    requires work { IsPointJob key job.now }
+    ensures { IfSome result (λ ink. (old : Pixels) (c : Rgba) → LeavesAll ink old c → LaysJob key job.now old (replicate 4096 c)) }
+{
+    match task_of(job) {
+        Task::Fill { rect, ink } => covers(key, &rect).then_some(ink),
+        _ => None,
+    }
+}
+
+/// Lays a job on the key's tile.
+fn lay_job(key: TileKey, job: &Job, tile: &mut [Pixel])
+    requires key { IsWorldKey key }
+    requires work { IsPointJob key job.now }
+    requires whole { length tile.old ≡ 4096 }
+    ensures { LaysJob key job.now tile.old tile.new }
+{
+    match task_of(job) {
+        Task::Fill { rect, ink } => fill_in(key, &rect, &ink, tile),
+        Task::Dab { brush, ink } => dab_in(key, &brush, &ink, tile),
+        Task::Move { .. } | Task::Blur { .. } => unreachable!(),
     }
 }
 
@@ -126,9 +208,10 @@ fn covers(key: TileKey, rect: &Rect) -> bool
 
 /// Lays a fill on the key's tile.
 fn fill_in(key: TileKey, rect: &Rect, ink: &Ink, tile: &mut [Pixel])
-    requires work { IsPointWork (spot (fill_of rect.now ink.now) key) }
+    requires key { IsWorldKey key }
+    requires work { IsPointJob key (fill_of rect.now ink.now) }
     requires whole { length tile.old ≡ 4096 }
-    ensures { LaysPoints (spot (fill_of rect.now ink.now) key) tile.old tile.new }
+    ensures { LaysJob key (fill_of rect.now ink.now) tile.old tile.new }
 {
     let part = part_in(key, rect);
     lay_ink(tile, part_in_tile(&part), ink);
@@ -136,9 +219,10 @@ fn fill_in(key: TileKey, rect: &Rect, ink: &Ink, tile: &mut [Pixel])
 
 /// Lays a dab on the key's tile.
 fn dab_in(key: TileKey, brush: &Brush, ink: &Ink, tile: &mut [Pixel])
-    requires work { IsPointWork (spot (dab_of brush.now ink.now) key) }
+    requires key { IsWorldKey key }
+    requires work { IsPointJob key (dab_of brush.now ink.now) }
     requires whole { length tile.old ≡ 4096 }
-    ensures { LaysPoints (spot (dab_of brush.now ink.now) key) tile.old tile.new }
+    ensures { LaysJob key (dab_of brush.now ink.now) tile.old tile.new }
 {
     let part = part_in(key, &brush.square());
     lay_dab(tile, 64, part_in_tile(&part), &part, brush, ink);

@@ -1,18 +1,19 @@
 //! Worked values, and that each job's call can succeed.
 
-ghost use Rattle.std.specs.Prelude.{◌≡◌, true};
+ghost use Rattle.std.specs.Prelude.{◌≡◌, ◌↔◌, true, All, IsTrue};
 ghost use Rattle.std.specs.List.{list_any, list_all};
 ghost use Rattle.geom_core.specs.Areas.{lies_in};
 ghost use Rattle.geom_core.specs.Grid.{same_key, all_keys_of};
 ghost use Rattle.doc_model.specs.Jobs.{writes};
-ghost use Rattle.doc_model.specs.Lawful.{checks};
+ghost use Rattle.doc_model.specs.Lawful.{checks, within_limits};
 
 use super::*;
-use doc_model::Job;
+use doc_model::{Job, Kind};
 use geom_core::{NoMemory, Rect, TileKey};
 use pixel_core::{Op, Pixel};
 use std::alloc::Global;
 use std::process::Abort;
+use std::slice;
 use std::test::Fail;
 use tile_core::{Shot, Tile};
 
@@ -233,13 +234,13 @@ fn dabs(rt: HostRuntime) -> Result<(), Fail> {
 }
 
 /// The job's work in its first tile.
-fn work<'a>(rt: &impl Abort, job: &'a Job) -> PointWork<'a> {
-    assert!(rt; is_point_op(job));
-    assert!(rt; job.check().is_ok());
-    assert!(rt; job.is_within_limits());
-    let key = first_tile(rt, job);
+fn work<'a>(rt: &impl Abort, entry: &'a (Kind, Job)) -> PointWork<'a> {
+    assert!(rt; entry.1.check().is_ok());
+    assert!(rt; point_rect(&entry.1).is_some());
+    assert!(rt; entry.1.is_within_limits());
+    let key = first_tile(rt, &entry.1);
     assert_eq!(rt; key, ORIGIN);
-    PointWork::new(job, key)
+    PointWork::new(slice::from_ref(entry), ORIGIN)
 }
 
 /// Lays the job in place on a tile with a red corner, and looks at some of its pixels.
@@ -250,7 +251,7 @@ fn leaves_in_place(
     wanted: &[(u8, u8, [u8; 4])],
 ) -> Result<(), NoMemory> {
     let mut tile = red_tile(alloc)?;
-    assert!(rt; tile.lay_alone(&work(rt, &job)));
+    assert!(rt; tile.lay_alone(&work(rt, &(Kind::Seq, job))));
     for (col, row, want) in wanted {
         assert!(rt; *col < 64 && *row < 64);
         assert_eq!(rt;
@@ -301,14 +302,81 @@ fn plain_tiles(rt: HostRuntime) -> Result<(), Fail> {
     pixels[77] = pixel(RED);
     let spotted = Tile::from_pixels(alloc, pixels)?;
     let blue = [0, 0, 255, 255];
-    let whole = filling(rect(0, 0, 64, 65), blue, 255);
+    let whole = (Kind::Seq, filling(rect(0, 0, 64, 65), blue, 255));
     assert!(rt; work(&rt, &whole).plain_on_ground(pixel(GROUND)) == Some(pixel(blue)));
     assert!(rt; work(&rt, &whole).plain_on(&spotted) == Some(pixel(blue)));
-    let faint = filling(rect(0, 0, 64, 65), blue, 0);
+    let faint = (Kind::Seq, filling(rect(0, 0, 64, 65), blue, 0));
     let plain = Tile::plain(alloc, pixel(GROUND))?;
     assert!(rt; work(&rt, &faint).plain_on(&plain) == Some(pixel(GROUND)));
     assert!(rt; work(&rt, &faint).plain_on(&spotted).is_none());
-    let part = filling(rect(0, 0, 63, 64), blue, 255);
+    let part = (Kind::Seq, filling(rect(0, 0, 63, 64), blue, 255));
     assert!(rt; work(&rt, &part).plain_on_ground(pixel(GROUND)).is_none());
+    Ok(())
+}
+
+/// Whether each of the jobs lies in the world.
+fn all_checked(jobs: &[(Kind, Job)]) -> bool
+    ensures { IsTrue result ↔ All (λ j. checks j.1 ≡ true) jobs.now }
+{
+    jobs.iter().all(|entry| entry.1.check().is_ok())
+}
+
+/// Whether each of the jobs meets the limits.
+fn all_within_limits(jobs: &[(Kind, Job)]) -> bool
+    ensures { IsTrue result ↔ All (λ j. within_limits j.1 ≡ true) jobs.now }
+{
+    jobs.iter().all(|entry| entry.1.is_within_limits())
+}
+
+/// The run at the front of the jobs.
+fn run<'a>(rt: &impl Abort, jobs: &'a [(Kind, Job)]) -> Option<PointWork<'a>> {
+    assert!(rt; all_checked(jobs));
+    assert!(rt; all_within_limits(jobs));
+    PointWork::run(jobs)
+}
+
+#[test]
+fn runs(rt: HostRuntime) -> Result<(), Fail> {
+    let alloc = rt.alloc();
+    let blue = [0, 0, 255, 255];
+    let green = [0, 255, 0, 128];
+    let jobs = [
+        (Kind::Seq, filling(rect(0, 0, 2, 1), blue, 255)),
+        (Kind::Con, filling(rect(1, 0, 1, 1), green, 255)),
+        (Kind::Seq, dab(5, 5, 1, false)),
+        (Kind::Seq, filling(rect(64, 0, 1, 1), blue, 255)),
+        (Kind::Seq, filling(rect(63, 0, 2, 1), blue, 255)),
+        (
+            Kind::Seq,
+            Job::Blur {
+                rect: rect(0, 0, 1, 1),
+                r: 1,
+            },
+        ),
+    ];
+    let all = &jobs[..];
+    let Some(front) = run(&rt, all) else {
+        return Err("no run".into());
+    };
+    assert_eq!(rt; front.job_count(), 3);
+    assert_eq!(rt; front.key(), ORIGIN);
+    let mut tile = red_tile(alloc)?;
+    assert!(rt; tile.lay_alone(&front));
+    for (col, row, want) in [
+        (0, 0, blue),
+        (1, 0, [0, 128, 127, 255]),
+        (5, 5, RED),
+        (2, 0, GROUND),
+    ] {
+        assert_eq!(rt; tile.pixel(col, row).bytes(), want, "{col} {row}");
+    }
+    let Some(next) = run(&rt, &all[3..]) else {
+        return Err("no run".into());
+    };
+    assert_eq!(rt; next.job_count(), 1);
+    assert_eq!(rt; next.key(), TileKey { row: 0, col: 1 });
+    assert!(rt; run(&rt, &all[4..]).is_none());
+    assert!(rt; run(&rt, &all[5..]).is_none());
+    assert!(rt; run(&rt, &all[6..]).is_none());
     Ok(())
 }

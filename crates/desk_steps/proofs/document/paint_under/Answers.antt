@@ -1,5 +1,5 @@
 use Rattle.std.proofs.Common.{◌≡◌}
-use Rattle.job_core.specs.Points.{painted_in}
+use Rattle.job_core.specs.Points.{all_painted_in}
 use Rattle.paint_device.specs.Seen.{layer_of}
 use Rattle.desk_steps.specs.Founds.{GivesBack}
 use Rattle.desk_steps.proofs.Devices.{written_changes, lent_stands, more_ok, more_err}
@@ -9,7 +9,7 @@ pub paint-requires : goal.paint-requires
 paint-requires c = lent_stands _ c.in-Some.device.now c.args.found.now c.in-Some.ensures.value c.requires.there
 
 pub returns-clause-ok : goal.returns-clause-ok
-returns-clause-ok c = more_ok c.paint.result (written_changes c.args.devices.now _ c.args.id (λ old new. layer_of new ≡ painted_in c.args.work.now.job c.args.work.now.key (layer_of old)) c.in-Some.device.now c.paint.new.device c.in-Some.ensures.value (c.get_mut.follows.holds c.paint.new.device)) c.paint.ensures.ok
+returns-clause-ok c = more_ok c.paint.result (written_changes c.args.devices.now _ c.args.id (λ old new. layer_of new ≡ all_painted_in c.args.work.now.jobs c.args.work.now.key (layer_of old)) c.in-Some.device.now c.paint.new.device c.in-Some.ensures.value (c.get_mut.follows.holds c.paint.new.device)) c.paint.ensures.ok
 
 pub returns-clause-back : goal.returns-clause-back
 returns-clause-back c = written_changes c.args.devices.now _ c.args.id (GivesBack c.args.found.now c.paint.new.found) c.in-Some.device.now c.paint.new.device c.in-Some.ensures.value (c.get_mut.follows.holds c.paint.new.device) c.paint.ensures.back

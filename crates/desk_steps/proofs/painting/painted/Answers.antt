@@ -4,11 +4,12 @@ use Rattle.geom_core.specs.Grid.{IsWorldKey}
 use Rattle.memento_core.specs.Planes.{tile_under}
 use Rattle.paint_device.specs.Sheets.{tile_or}
 use Rattle.desk_steps.specs.Tiles.{IsPaintedOn}
-use Rattle.desk_steps.proofs.Lain.{points_laid, stands_at, work_key}
+use Rattle.desk_steps.proofs.Lain.{stands_at}
+use Rattle.desk_steps.proofs.Painted.{points_laid}
 use Rattle.desk_steps.proofs.painting.painted.Goals as goal
 
 pub plain_tile-requires : goal.plain_tile-requires
-plain_tile-requires c = subst IsWorldKey (sym c.key.ensures.value) (work_key c.args.work.now c.key.ensures.known)
+plain_tile-requires c = subst IsWorldKey (sym c.key.ensures.value) c.key.ensures.known.world
 
 pub returns-in-Some : goal.returns-in-Some
 returns-in-Some c =

@@ -5,7 +5,8 @@ use Rattle.memento_core.specs.Planes.{tile_under}
 use Rattle.tile_core.specs.Pixels.{Pixels, pixel_at}
 use Rattle.paint_device.specs.Sheets.{tile_or}
 use Rattle.desk_steps.specs.Tiles.{IsPaintedOn}
-use Rattle.desk_steps.proofs.Lain.{stands_at, points_laid}
+use Rattle.desk_steps.proofs.Lain.{stands_at}
+use Rattle.desk_steps.proofs.Painted.{points_laid}
 use Rattle.desk_steps.proofs.painting.painted_copy.Goals as goal
 
 pub returns : goal.returns

@@ -1,6 +1,6 @@
 use Rattle.std.proofs.Common.{◌≡◌, ap, subst, ◌∙◌}
 use Rattle.doc_model.specs.Forest.{adjusted}
-use Rattle.job_core.specs.Points.{painted_in}
+use Rattle.job_core.specs.Points.{all_painted_in}
 use Rattle.paint_device.specs.Seen.{layer_of}
 use Rattle.desk_steps.specs.Documents.{doc_in, filled, Regains}
 use Rattle.desk_steps.specs.Founds.{GivesBack}
@@ -15,7 +15,7 @@ paint_under-requires-clause-there c = device_stands c.self.inside.tree c.self.in
 
 pub returns-clause-ok : goal.returns-clause-ok
 returns-clause-ok c =
-    let f = painted_in c.args.work.now.job c.args.work.now.key in
+    let f = all_painted_in c.args.work.now.jobs c.args.work.now.key in
     more_ok c.paint_under.result (λ e. doc_adjusted c.self.inside.tree c.self.inside.devices c.paint_under.new.devices c.args.id (λ old new. layer_of new ≡ f (layer_of old)) e f e.holds ∙ ap (λ d. adjusted c.args.id f (doc_in d)) c.self.view_is) c.paint_under.ensures.ok
 
 pub returns-clause-back : goal.returns-clause-back
