@@ -6,3 +6,4 @@ pub mod Points
 pub mod Left
 pub mod Scripts
 pub mod Stories
+pub mod Runs

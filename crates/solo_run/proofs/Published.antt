@@ -1,11 +1,12 @@
 -- A job that is painted tile by tile leaves what it leaves of the whole layer.
-use Rattle.std.proofs.Common.{◌≡◌, ℕ, suc, zero, ◌+◌, Bool, true, false, ◌&&◌, ◌||◌, cond, Option, Some, None, is_some, List, [], ◌∷◌, ◌++◌, take, refl, sym, ap, ◌∙◌, subst, arith}
+use Rattle.std.proofs.Common.{◌≡◌, ℕ, suc, zero, ◌+◌, Bool, true, false, ◌&&◌, ◌||◌, cond, Option, Some, None, is_some, List, [], ◌∷◌, ◌++◌, take, drop, refl, sym, ap, ◌∙◌, subst, arith}
 use Rattle.std.specs.Prelude.{slice_get, int_le, ℤ, pos, ◌+ℤ◌}
 use Rattle.std.specs.List.{list_any, list_all}
 use Rattle.std.specs.FinSet as set
 use Rattle.std.specs.FinSet.{FinSet}
 use Rattle.std.proofs.lemmas.List.{append-nil, append_assoc}
 use Rattle.std.proofs.lemmas.List.Folds.{list_any-append}
+use Rattle.std.proofs.Math.Seq.{take-add}
 use borrow.Author.Differences.{ints}
 use Rattle.pixel_core.specs.Rgba.{Rgba}
 use Rattle.geom_core.specs.Points.{Point}
@@ -26,7 +27,7 @@ use Rattle.doc_model.proofs.Shots.{at-published, default-published, shot_same}
 use Rattle.tile_core.specs.Shots.{Sight}
 use Rattle.machine_model.specs.Effects.{layer_in}
 use Rattle.job_core.specs.Paints.{Paint, layer_of}
-use Rattle.job_core.specs.Points.{Spot, spot, painted_in}
+use Rattle.job_core.specs.Points.{Spot, spot, all_painted_in}
 use Rattle.desk_steps.specs.Archives.{Archive, Way, layer_under_way, with_put, with_painted}
 use Rattle.solo_run.proofs.Fronts.{take_more}
 use Rattle.solo_run.specs.Painting.{Paints, PaintsOn, in_tiles, jobs_only}
@@ -66,18 +67,10 @@ in_tiles-append : (change : Key → Layer → Layer) (ks ls : List Key) (layer :
 in_tiles-append change [] ls layer = refl
 in_tiles-append change (k ∷ ks) ls layer = in_tiles-append change ks ls (change k layer)
 
-apply_all-last : (jobs : List Job) (job : Job) (layer : Layer) → apply_all (jobs ++ job ∷ []) layer ≡ apply job (apply_all jobs layer)
-apply_all-last [] job layer = refl
-apply_all-last (j ∷ jobs) job layer = apply_all-last jobs job (apply j layer)
-
 -- the tiles of some rectangles after those of others
 pub all_keys-append : (ls rs : List Area) → all_keys_of (ls ++ rs) ≡ all_keys_of ls ++ all_keys_of rs
 all_keys-append [] rs = refl
 all_keys-append (a ∷ ls) rs = ap (λ ks. keys_of a ++ ks) (all_keys-append ls rs) ∙ sym (append_assoc (keys_of a) (all_keys_of ls) (all_keys_of rs))
-
-jobs_only-last : (jobs : Jobs) (j : Kind × Job) → jobs_only (jobs ++ j ∷ []) ≡ jobs_only jobs ++ j.1 ∷ []
-jobs_only-last [] j = refl
-jobs_only-last (i ∷ jobs) j = ap (λ js. i.1 ∷ js) (jobs_only-last jobs j)
 
 -- nothing is painted yet
 pub paints_none : (a : Archive) → is_some a.way ≡ true → PaintsOn (λ layer. layer) a a
@@ -133,10 +126,10 @@ put_paints w a h = subst (PaintsOn (published w.job (layer_of w.shot) w.key) a) 
     same (Some way) = refl
 
 -- a tile that was painted
-painted_paints : (w : Spot) (a : Archive) → is_some a.way ≡ true → PaintsOn (painted_in w.job w.key) a (with_painted a.way w a)
-painted_paints w a h = subst (PaintsOn (painted_in w.job w.key) a) (same a.way) (tile_changed (painted_in w.job) w.key a h)
+painted_paints : (w : Spot) (a : Archive) → is_some a.way ≡ true → PaintsOn (all_painted_in w.jobs w.key) a (with_painted a.way w a)
+painted_paints w a h = subst (PaintsOn (all_painted_in w.jobs w.key) a) (same a.way) (tile_changed (all_painted_in w.jobs) w.key a h)
   where
-    same : (o : Way) → changed_in o (painted_in w.job) w.key a ≡ with_painted o w a
+    same : (o : Way) → changed_in o (all_painted_in w.jobs) w.key a ≡ with_painted o w a
     same None = refl
     same (Some way) = refl
 
@@ -152,11 +145,19 @@ rect_more change rects i r a b c e one two = paints_as (λ layer. in_tiles chang
     (λ id layer p. sym (ap (λ ks. in_tiles change ks layer) (ap all_keys_of (take_more rects i r e) ∙ all_keys-append (take i rects) (r ∷ []) ∙ ap (λ ks. all_keys_of (take i rects) ++ ks) (append-nil (keys_of r))) ∙ in_tiles-append change (all_keys_of (take i rects)) (keys_of r) layer))
     (paints_then (in_tiles change (all_keys_of (take i rects))) (in_tiles change (keys_of r)) a b c one two)
 
--- one job more
-pub job_more : (jobs : Jobs) (i : ℕ) (j : Kind × Job) (a b c : Archive) → slice_get jobs i ≡ Some j → PaintsOn (apply_all (jobs_only (take i jobs))) a b → PaintsOn (apply j.1) b c → PaintsOn (apply_all (jobs_only (take (i + 1) jobs))) a c
-job_more jobs i j a b c e one two = paints_as (λ layer. apply j.1 (apply_all (jobs_only (take i jobs)) layer)) (apply_all (jobs_only (take (i + 1) jobs))) a c
-    (λ id layer p. sym (ap (λ js. apply_all js layer) (ap jobs_only (take_more jobs i j e) ∙ jobs_only-last (take i jobs) j) ∙ apply_all-last (jobs_only (take i jobs)) j.1 layer))
-    (paints_then (apply_all (jobs_only (take i jobs))) (apply j.1) a b c one two)
+apply_all-append : (jobs more : List Job) (layer : Layer) → apply_all (jobs ++ more) layer ≡ apply_all more (apply_all jobs layer)
+apply_all-append [] more layer = refl
+apply_all-append (job ∷ jobs) more layer = apply_all-append jobs more (apply job layer)
+
+jobs_only-append : (jobs more : Jobs) → jobs_only (jobs ++ more) ≡ jobs_only jobs ++ jobs_only more
+jobs_only-append [] more = refl
+jobs_only-append (j ∷ jobs) more = ap (λ js. j.1 ∷ js) (jobs_only-append jobs more)
+
+-- more jobs
+pub jobs_more : (jobs : Jobs) (i n : ℕ) (a b c : Archive) → PaintsOn (apply_all (jobs_only (take i jobs))) a b → PaintsOn (apply_all (jobs_only (take n (drop i jobs)))) b c → PaintsOn (apply_all (jobs_only (take (i + n) jobs))) a c
+jobs_more jobs i n a b c one two = paints_as (λ layer. apply_all (jobs_only (take n (drop i jobs))) (apply_all (jobs_only (take i jobs)) layer)) (apply_all (jobs_only (take (i + n) jobs))) a c
+    (λ id layer p. sym (ap (λ js. apply_all (jobs_only js) layer) (take-add i n jobs) ∙ ap (λ js. apply_all js layer) (jobs_only-append (take i jobs) (take n (drop i jobs))) ∙ apply_all-append (jobs_only (take i jobs)) (jobs_only (take n (drop i jobs))) layer))
+    (paints_then (apply_all (jobs_only (take i jobs))) (apply_all (jobs_only (take n (drop i jobs)))) a b c one two)
 
 -- the layer of the stroke under way
 pub seen_layer : (id : ℕ) (layer : Layer) (a : Archive) → Paints id layer a → layer_under_way a.way a.present ≡ layer
@@ -204,6 +205,6 @@ pub put_on : (job : Job) (shot : Sight) (k : Key) (w : Paint) (old new : Archive
 put_on job shot k w old new h j s e is = subst (λ a. PaintsOn (published job (layer_of shot) k) old a) (sym is)
     (paints_as (published w.job (layer_of w.shot) w.key) (published job (layer_of shot) k) old (with_put old.way w old) (λ id layer p i. published (j i) (layer_of (s i)) (e i) layer) (put_paints w old h))
 
--- a tile that was painted by this work
-pub painted_on : (job : Job) (k : Key) (w : Spot) (old new : Archive) → is_some old.way ≡ true → w ≡ spot job k → new ≡ with_painted old.way w old → PaintsOn (painted_in job k) old new
-painted_on job k w old new h e is = subst (λ a. PaintsOn (painted_in job k) old a) (sym (is ∙ ap (λ v. with_painted old.way v old) e)) (painted_paints (spot job k) old h)
+-- jobs that were painted in a tile by this work
+pub painted_on : (jobs : Jobs) (k : Key) (w : Spot) (old new : Archive) → is_some old.way ≡ true → w ≡ spot jobs k → new ≡ with_painted old.way w old → PaintsOn (all_painted_in jobs k) old new
+painted_on jobs k w old new h e is = subst (λ a. PaintsOn (all_painted_in jobs k) old a) (sym (is ∙ ap (λ v. with_painted old.way v old) e)) (painted_paints (spot jobs k) old h)

@@ -14,10 +14,11 @@ ghost use Rattle.solo_run.specs.Painting.{PaintsOn, in_tiles, jobs_only};
 ghost use Rattle.solo_run.specs.Stale.{DamagesRects};
 
 use desk_steps::Store;
-use doc_model::{Job, Kind, square_round};
+use doc_model::{Job, Kind};
 use geom_core::{NoMemory, Rect, TileKey};
-use job_core::{Made, PointWork, is_point_op, paint_tile};
+use job_core::{Made, PointWork, paint_tile, point_rect};
 use std::alloc::Global;
+use std::slice;
 use tile_core::{Damage, Shot};
 
 /// The most tiles of a rectangle that are few.
@@ -34,54 +35,74 @@ pub(crate) fn paint_jobs(
     requires under_way { is_some store.old.way ≡ true }
     ensures { OnOk result (PaintsOn (apply_all (jobs_only jobs.now)) store.old store.new) }
 {
-    for entry in jobs {
-        paint_job(alloc, store, &entry.1)?;
+    let mut done = 0;
+    while done < jobs.len() {
+        let (_, rest) = jobs.split_at(done);
+        done += paint_next(alloc, store, rest)?;
     }
     Ok(())
 }
 
-/// Paints a job. A point operation takes no shot: each of its tiles is painted from what stands
-/// there.
-fn paint_job(alloc: Global, store: &mut Store, job: &Job) -> Result<(), NoMemory>
-    requires checked { checks job.now ≡ true }
-    requires limits { within_limits job.now ≡ true }
+/// Paints the first job, or a run of jobs that write within one tile, and tells how many it painted.
+fn paint_next(
+    alloc: Global,
+    store: &mut Store,
+    jobs: &[(Kind, Job)],
+) -> Result<usize, NoMemory>
+    requires some { 1 ≤ length jobs.now }
+    requires checked { All (λ job. checks job.1 ≡ true) jobs.now }
+    requires limits { All (λ job. within_limits job.1 ≡ true) jobs.now }
     requires under_way { is_some store.old.way ≡ true }
-    ensures { OnOk result (PaintsOn (apply job.now) store.old store.new) }
+    ensures some { IfOk result (λ n. 1 ≤ n) }
+    ensures few { IfOk result (λ n. n ≤ length jobs.now) }
+    ensures paints { IfOk result (λ n. PaintsOn (apply_all (jobs_only (take n jobs.now))) store.old store.new) }
 {
-    if is_point_op(job) {
-        paint_points(alloc, store, job, &point_rect(job))
-    } else if writes_few(job) {
-        paint_few(alloc, store, job)
-    } else {
-        paint_many(alloc, store, job)
+    match PointWork::run(jobs) {
+        Some(work) => {
+            store.paint(alloc, &work)?;
+            Ok(work.job_count())
+        }
+        None => {
+            paint_job(alloc, store, &jobs[0])?;
+            Ok(1)
+        }
     }
 }
 
-/// The rectangle that a point operation writes.
-fn point_rect(job: &Job) -> Rect
-    requires point_op { is_point_op job.now ≡ true }
-    requires checked { checks job.now ≡ true }
-    ensures { writes job.now ≡ result ∷ [] }
+/// Paints a job. A point operation takes no shot: each of its tiles is painted from what stands
+/// there.
+fn paint_job(alloc: Global, store: &mut Store, entry: &(Kind, Job)) -> Result<(), NoMemory>
+    requires checked { checks entry.now.1 ≡ true }
+    requires limits { within_limits entry.now.1 ≡ true }
+    requires under_way { is_some store.old.way ≡ true }
+    ensures { OnOk result (PaintsOn (apply entry.now.1) store.old store.new) }
 {
-    match *job {
-        Job::Fill { rect, .. } => rect,
-        Job::Dab { x, y, r, .. } => square_round(x, y, r).unwrap(),
-        Job::Move { .. } | Job::Blur { .. } => unreachable!(),
+    let job = &entry.1;
+    match point_rect(job) {
+        Some(rect) => paint_points(alloc, store, entry, &rect),
+        None if writes_few(job) => paint_few(alloc, store, job),
+        None => paint_many(alloc, store, job),
     }
 }
 
 /// Paints a point operation in one tile of the rectangle that it writes after another, each from
 /// what stands there.
-fn paint_points(alloc: Global, store: &mut Store, job: &Job, rect: &Rect) -> Result<(), NoMemory>
-    requires point_op { is_point_op job.now ≡ true }
-    requires checked { checks job.now ≡ true }
-    requires limits { within_limits job.now ≡ true }
-    requires written { writes job.now ≡ rect.now ∷ [] }
+fn paint_points(
+    alloc: Global,
+    store: &mut Store,
+    entry: &(Kind, Job),
+    rect: &Rect,
+) -> Result<(), NoMemory>
+    requires point_op { is_point_op entry.now.1 ≡ true }
+    requires checked { checks entry.now.1 ≡ true }
+    requires limits { within_limits entry.now.1 ≡ true }
+    requires written { writes entry.now.1 ≡ rect.now ∷ [] }
     requires under_way { is_some store.old.way ≡ true }
-    ensures { OnOk result (PaintsOn (apply job.now) store.old store.new) }
+    ensures { OnOk result (PaintsOn (apply entry.now.1) store.old store.new) }
 {
+    let alone = slice::from_ref(entry);
     for i in 0..rect.tile_count() {
-        store.paint(alloc, &PointWork::new(job, rect.tile_at(i)))?;
+        store.paint(alloc, &PointWork::new(alone, rect.tile_at(i)))?;
     }
     Ok(())
 }

@@ -1,17 +1,17 @@
-use Rattle.std.proofs.Common.{subst}
+use Rattle.std.proofs.Common.{List, take, subst, arith}
 use Rattle.doc_model.specs.Jobs.{apply_all}
+use Rattle.doc_model.specs.Strokes.{Jobs}
 use Rattle.solo_run.specs.Painting.{PaintsOn, jobs_only}
-use Rattle.solo_run.proofs.Fronts.{item_at, take_all}
-use Rattle.solo_run.proofs.Published.{job_more, paints_none}
+use Rattle.solo_run.proofs.Fronts.{take_all}
+use Rattle.solo_run.proofs.Published.{jobs_more}
 use Rattle.solo_run.proofs.strokes.paint_jobs.Goals as goal
 
-pub loop-entry-init : goal.loop-entry-init
-loop-entry-init c = paints_none c.args.store.now c.requires.under_way
-
-pub loop-entry-preserved : goal.loop-entry-preserved
-loop-entry-preserved c =
-    job_more c.args.jobs.now c.loop-entry.entry-index c.entry-item.result c.args.store.now c.loop-entry.store c.paint_job.new.store
-    (item_at c.args.jobs.now c.loop-entry.entry-index c.entry-item.result c.loop-entry-test.true c.entry-item.is) c.loop-entry.invariant c.in_ok-paint_job.ensures
+pub loop-done-preserved : goal.loop-done-preserved
+loop-done-preserved c = record {
+  in_range = omega (arith, c.in_ok-done.ensures.few, c.split_at.ensures.back_len, c.loop-done.invariant.in_range);
+  so_far = jobs_more c.args.jobs.now c.loop-done.done c.in_ok-done.field-0 c.args.store.now c.loop-done.store c.paint_next.new.store c.loop-done.invariant.so_far
+      (subst (λ (js : Jobs). PaintsOn (apply_all (jobs_only (take c.in_ok-done.field-0 js))) c.loop-done.store c.paint_next.new.store) c.split_at.ensures.back c.in_ok-done.ensures.paints);
+}
 
 pub returns : goal.returns
-returns c = subst (λ jobs. PaintsOn (apply_all (jobs_only jobs)) c.args.store.now c.loop-entry.store) (take_all c.args.jobs.now c.loop-entry.entry-index c.loop-entry-test.false) c.loop-entry.invariant
+returns c = subst (λ jobs. PaintsOn (apply_all (jobs_only jobs)) c.args.store.now c.loop-done.store) (take_all c.args.jobs.now c.loop-done.done c.loop-done-test.false) c.loop-done.invariant.so_far
