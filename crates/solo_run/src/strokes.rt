@@ -44,11 +44,7 @@ pub(crate) fn paint_jobs(
 }
 
 /// Paints the first job, or a run of jobs that write within one tile, and tells how many it painted.
-fn paint_next(
-    alloc: Global,
-    store: &mut Store,
-    jobs: &[(Kind, Job)],
-) -> Result<usize, NoMemory>
+fn paint_next(alloc: Global, store: &mut Store, jobs: &[(Kind, Job)]) -> Result<usize, NoMemory>
     requires some { 1 ≤ length jobs.now }
     requires checked { All (λ job. checks job.1 ≡ true) jobs.now }
     requires limits { All (λ job. within_limits job.1 ≡ true) jobs.now }

@@ -13,14 +13,14 @@ use Rattle.solo_run.proofs.strokes.paint_points.Goals as goal
 pub new-requires-clause-each : goal.new-requires-clause-each
 new-requires-clause-each c = subst (All (λ j. IsPointJob c.tile_at.result j.1)) (sym c.from_ref-alone.ensures.value)
     (All-from_recursion (λ j. IsPointJob c.tile_at.result j.1) (c.args.entry.now ∷ []) (
-    record {
-      point_op = c.requires.point_op;
-      checked = c.requires.checked;
-      limits = c.requires.limits;
-      met = key_met (writes c.args.entry.now.1) 0 c.loop-i.i c.args.rect.now c.tile_at.result (ap (λ rects. slice_get rects 0) c.requires.written) c.tile_at.ensures.value;
-    },
-    tt,
-))
+      record {
+        point_op = c.requires.point_op;
+        checked = c.requires.checked;
+        limits = c.requires.limits;
+        met = key_met (writes c.args.entry.now.1) 0 c.loop-i.i c.args.rect.now c.tile_at.result (ap (λ rects. slice_get rects 0) c.requires.written) c.tile_at.ensures.value;
+      },
+      tt,
+    ))
 
 pub loop-i-init : goal.loop-i-init
 loop-i-init c = paints_none c.args.store.now c.requires.under_way
