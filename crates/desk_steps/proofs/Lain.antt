@@ -1,34 +1,28 @@
 -- What was painted of a tile, laid on the tile.
-use Rattle.std.proofs.Common.{◌≡◌, ℕ, suc, zero, ◌+◌, ◌*◌, ◌≤◌, Bool, true, false, ◌&&◌, ◌||◌, cond, Option, Some, None, List, [], ◌∷◌, length, take, is_some, refl, sym, ap, ◌∙◌, subst, arith, inl, inr, map, replicate}
+use Rattle.std.proofs.Common.{◌≡◌, ℕ, suc, zero, ◌+◌, Bool, true, false, ◌&&◌, ◌||◌, cond, Option, Some, None, List, [], ◌∷◌, length, take, is_some, refl, sym, ap, ◌∙◌, subst, arith, inl, inr, map, replicate}
 use Rattle.std.specs.Prelude.{All, slice_get}
-use Rattle.std.specs.List.{list_any}
 use Rattle.std.specs.FinMap as fin
 use Rattle.std.proofs.lemmas.Option.{slice_get_cases}
 use Rattle.std.proofs.Math.Seq.{take-length}
 use Rattle.geom_core.specs.Points.{Point}
 use Rattle.geom_core.specs.Areas.{holds, any_holds}
-use Rattle.geom_core.specs.Grid.{Key, key_of, same_key, tile, all_keys_of, IsWorldKey, key_cmp_total, key_cmp-IsAntisymmetric}
-use Rattle.geom_core.proofs.Tests.{taken, kept, and_left}
+use Rattle.geom_core.specs.Grid.{Key, key_of, same_key, tile, key_cmp_total, key_cmp-IsAntisymmetric}
+use Rattle.geom_core.proofs.Tests.{taken, kept}
 use Rattle.geom_core.proofs.Tiles.{own_tile, key_same, key_is}
 use Rattle.pixel_core.specs.Rgba.{Rgba}
 use Rattle.tile_core.specs.Pixels.{Pixels, pixel_at, pixel_or}
 use Rattle.tile_core.specs.Blocks.{Piece, piece_at, LaysBlock}
 use Rattle.memento_core.specs.Planes.{tile_under}
 use Rattle.doc_model.specs.declared.job.Job.{Job}
-use Rattle.doc_model.specs.declared.job.Job.TheVariants.{Fill, Dab, Move, Blur}
-use Rattle.doc_model.specs.Lawful.{checks, within_limits}
 use Rattle.doc_model.specs.Layers.{Layer, at, layer_ext}
-use Rattle.doc_model.specs.Jobs.{square, writes, apply, published, in_tile}
+use Rattle.doc_model.specs.Jobs.{writes, apply, published, in_tile}
 use Rattle.doc_model.proofs.Shots.{at-published, default-published}
-use Rattle.doc_model.proofs.JobLaws.{laws_of_jobs}
 use Rattle.job_core.specs.Paints as paints
 use Rattle.job_core.specs.Paints.{Paint, Stuff, Makes, HasValue}
-use Rattle.job_core.specs.Points.{Spot, IsPointWork, is_point_op, LaysPoints}
-use Rattle.job_core.proofs.Values.{world_key, one_met, some_of_limits}
 use Rattle.paint_device.specs.InPlace.{LaysUnder}
 use Rattle.paint_device.specs.Seen.{layer_of}
 use Rattle.paint_device.specs.Sheets.{Sheet, sheet, sheet_at, tile_or, with_under, readied}
-use Rattle.desk_steps.specs.Tiles.{IsLaid, IsLaidFrom, IsPaintedOn}
+use Rattle.desk_steps.specs.Tiles.{IsLaid, IsLaidFrom}
 use Rattle.paint_device.proofs.Shown.{at-layer_of, default-layer_of}
 use Rattle.paint_device.proofs.Writes.{pixel_or-tile_or, seen_after_exchange, ready_keeps_pixels}
 

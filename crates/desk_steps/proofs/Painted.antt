@@ -4,7 +4,6 @@ use Rattle.geom_core.specs.Points.{Point}
 use Rattle.geom_core.specs.Grid.{Key}
 use Rattle.geom_core.proofs.Tests.{taken, kept}
 use Rattle.tile_core.specs.Pixels.{Pixels, pixel_at}
-use Rattle.memento_core.specs.Planes.{tile_under}
 use Rattle.doc_model.specs.Layers.{Layer, at, layer_ext}
 use Rattle.doc_model.specs.Jobs.{in_tile}
 use Rattle.doc_model.specs.Strokes.{Jobs}
