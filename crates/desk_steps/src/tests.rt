@@ -234,18 +234,24 @@ fn two_strokes_and_a_layer_between(rt: HostRuntime) -> Result<(), Fail> {
     let alloc = rt.alloc();
     let mut store = Store::new(alloc)?;
     assert!(rt; add_layer(&mut store, alloc, 1, Pixel::CLEAR));
-    let corner = Job::Fill {
-        rect: Rect::new(0, 0, 8, 8).expect(&rt, "a rectangle of the world"),
-        colour: red(),
-        op: Op::Over,
-        strength: 255,
-    };
-    let middle = Job::Fill {
-        rect: Rect::new(4, 4, 32, 32).expect(&rt, "a rectangle of the world"),
-        colour: blue(),
-        op: Op::Over,
-        strength: 255,
-    };
+    let corner = (
+        Kind::Seq,
+        Job::Fill {
+            rect: Rect::new(0, 0, 8, 8).expect(&rt, "a rectangle of the world"),
+            colour: red(),
+            op: Op::Over,
+            strength: 255,
+        },
+    );
+    let middle = (
+        Kind::Seq,
+        Job::Fill {
+            rect: Rect::new(4, 4, 32, 32).expect(&rt, "a rectangle of the world"),
+            colour: blue(),
+            op: Op::Over,
+            strength: 255,
+        },
+    );
     paint_both(&rt, alloc, &mut store, &corner, &corner)?;
     assert!(rt; add_layer(&mut store, alloc, 2, blue()));
     paint_both(&rt, alloc, &mut store, &middle, &corner)?;
@@ -346,18 +352,24 @@ fn strokes_and_changes_of_the_tree_between(rt: HostRuntime) -> Result<(), Fail> 
     let alloc = rt.alloc();
     let mut store = Store::new(alloc)?;
     assert!(rt; add_layer(&mut store, alloc, 1, Pixel::CLEAR));
-    let corner = Job::Fill {
-        rect: Rect::new(0, 0, 8, 8).expect(&rt, "a rectangle of the world"),
-        colour: red(),
-        op: Op::Over,
-        strength: 255,
-    };
-    let whole = Job::Fill {
-        rect: ORIGIN.rect(),
-        colour: blue(),
-        op: Op::Over,
-        strength: 255,
-    };
+    let corner = (
+        Kind::Seq,
+        Job::Fill {
+            rect: Rect::new(0, 0, 8, 8).expect(&rt, "a rectangle of the world"),
+            colour: red(),
+            op: Op::Over,
+            strength: 255,
+        },
+    );
+    let whole = (
+        Kind::Seq,
+        Job::Fill {
+            rect: ORIGIN.rect(),
+            colour: blue(),
+            op: Op::Over,
+            strength: 255,
+        },
+    );
     paint_both(&rt, alloc, &mut store, &corner, &corner)?;
     assert!(rt; !changes(&mut store, alloc, Change::Remove { id: 7 }));
     assert_eq!(rt; hide_and_move(&mut store, alloc), [true, true, true]);
