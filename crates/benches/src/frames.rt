@@ -93,5 +93,6 @@ pub fn measure(rt: &(impl Print + Clock), alloc: Global) -> io::Result<()> {
     }
     measure_covered(rt, alloc, "clear", Alphas::Clear)?;
     measure_covered(rt, alloc, "alphas of all sizes", Alphas::Mixed)?;
-    measure_covered(rt, alloc, "opaque", Alphas::Opaque)
+    measure_covered(rt, alloc, "opaque", Alphas::Opaque)?;
+    measure_covered(rt, alloc, "one pixel everywhere", Alphas::Plain)
 }

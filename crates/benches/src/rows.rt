@@ -25,6 +25,8 @@ pub(crate) enum Alphas {
     Opaque,
     /// 0 alone.
     Clear,
+    /// One alpha between, in one pixel alone.
+    Plain,
 }
 
 /// What lays a row.
@@ -53,7 +55,7 @@ struct Rows {
     mask: [u8; WIDTH],
 }
 
-/// A pixel with such an alpha that looks like no other nearby.
+/// A pixel with such an alpha that looks like no other nearby, or the plain one.
 #[inline(never)]
 pub(crate) fn scattered(alphas: Alphas, n: u32) -> Pixel {
     let mixed = n.wrapping_mul(2_654_435_761) ^ n.wrapping_mul(n);
@@ -64,6 +66,7 @@ pub(crate) fn scattered(alphas: Alphas, n: u32) -> Pixel {
         Alphas::Mixed => Pixel::new(r, g, b, a),
         Alphas::Opaque => Pixel::new(r, g, b, 255),
         Alphas::Clear => Pixel::CLEAR,
+        Alphas::Plain => Pixel::new(90, 160, 40, 150),
     }
 }
 
@@ -193,6 +196,8 @@ pub fn measure(rt: &(impl Print + Clock)) -> io::Result<()> {
         (Alphas::Mixed, Alphas::Clear),
         (Alphas::Opaque, Alphas::Mixed),
         (Alphas::Clear, Alphas::Mixed),
+        (Alphas::Plain, Alphas::Plain),
+        (Alphas::Plain, Alphas::Mixed),
     ] {
         measure_on(rt, Op::Over, sources, backdrops)?;
     }

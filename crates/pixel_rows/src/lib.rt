@@ -4,6 +4,7 @@
 mod blends;
 mod block;
 mod mixing;
+mod plain;
 mod quotient;
 mod rest;
 mod rows;
@@ -11,4 +12,5 @@ mod shares;
 #[cfg(test)]
 mod tests;
 
+pub use plain::all_are;
 pub use rows::{lay_colour, lay_masked, lay_sources, left_everywhere, tell_canonical};

@@ -6,11 +6,23 @@ ghost use Rattle.pixel_core.specs.Compose.{compose as composed};
 ghost use Rattle.pixel_rows.specs.Rows.{LaysRow, LaysPart, Dims};
 
 use crate::block::{BLOCK, dimmed, lay_block};
+use crate::plain::plain_pixel;
 use crate::rest::{FEW, dimmed_rest, lay_rest, masked_rest};
 use pixel_core::{Op, Pixel, compose};
 
 /// Lays each source on the pixel at its place, all with the same opacity in 255ths.
 pub fn lay_sources(op: Op, sources: &[Pixel], opacity: u8, backdrop: &mut [Pixel])
+    requires each { length sources.now ≡ length backdrop.old }
+    ensures { LaysRow op (λ k. slice_index_or sources.now k clear) (λ _. opacity) backdrop.old backdrop.new }
+{
+    match plain_pixel(sources) {
+        Some(source) => lay_colour(op, source, opacity, backdrop),
+        None => lay_varied_sources(op, sources, opacity, backdrop),
+    }
+}
+
+/// The same for sources that need not be one pixel.
+fn lay_varied_sources(op: Op, sources: &[Pixel], opacity: u8, backdrop: &mut [Pixel])
     requires each { length sources.now ≡ length backdrop.old }
     ensures { LaysRow op (λ k. slice_index_or sources.now k clear) (λ _. opacity) backdrop.old backdrop.new }
 {
@@ -78,16 +90,39 @@ fn lay_few_sources(op: Op, sources: &[Pixel], opacity: u8, backdrop: &mut [Pixel
 pub fn lay_colour(op: Op, colour: Pixel, strength: u8, backdrop: &mut [Pixel])
     ensures { LaysRow op (λ _. colour) (λ _. strength) backdrop.old backdrop.new }
 {
-    match left_everywhere(op, colour, strength) {
+    match left_on(op, colour, strength, backdrop) {
         Some(left) => fill(left, backdrop),
+        None => lay_on_varied(op, colour, strength, backdrop),
+    }
+}
+
+/// What is left of each pixel of the backdrop, where that is one pixel: the colour hides or erases
+/// all, or the backdrop is plain.
+#[inline]
+fn left_on(op: Op, colour: Pixel, strength: u8, backdrop: &[Pixel]) -> Option<Pixel>
+    ensures { IfSome result (λ left. (k : ℕ) → k < length backdrop.now → composed op colour (slice_index_or backdrop.now k clear) strength ≡ left) }
+{
+    match left_everywhere(op, colour, strength) {
+        Some(left) => {
+            tell_canonical(backdrop);
+            Some(left)
+        }
         None => {
-            let whole = backdrop.len() / BLOCK;
-            if whole > 0 {
-                lay_colour_blocks(op, colour, strength, backdrop, whole);
-            }
-            lay_last_colour(op, colour, strength, backdrop, BLOCK * whole);
+            let below = plain_pixel(backdrop)?;
+            Some(compose(op, colour, below, strength))
         }
     }
+}
+
+/// The same on a backdrop that need not be plain.
+fn lay_on_varied(op: Op, colour: Pixel, strength: u8, backdrop: &mut [Pixel])
+    ensures { LaysRow op (λ _. colour) (λ _. strength) backdrop.old backdrop.new }
+{
+    let whole = backdrop.len() / BLOCK;
+    if whole > 0 {
+        lay_colour_blocks(op, colour, strength, backdrop, whole);
+    }
+    lay_last_colour(op, colour, strength, backdrop, BLOCK * whole);
 }
 
 /// What is left of each pixel, where that is the same whatever lies there: an opaque colour at full
@@ -120,11 +155,9 @@ pub fn tell_canonical(pixels: &[Pixel])
 /// Writes one pixel to each place.
 #[inline]
 fn fill(left: Pixel, backdrop: &mut [Pixel])
-    ensures all { (k : ℕ) → k < length backdrop.old → slice_index_or backdrop.new k clear ≡ left }
-    ensures known { (k : ℕ) → k < length backdrop.old → IsCanonical (slice_index_or backdrop.old k clear) }
+    ensures { (k : ℕ) → k < length backdrop.old → slice_index_or backdrop.new k clear ≡ left }
 {
     for i in 0..backdrop.len() {
-        let _known = backdrop[i].bytes();
         backdrop[i] = left;
     }
 }

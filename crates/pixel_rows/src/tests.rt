@@ -16,16 +16,19 @@ enum Kind {
     Mixed,
     Opaque,
     Clear,
+    /// One pixel, which covers in part.
+    Plain,
     /// Blocks that are mixed, clear and opaque by turns.
     Blocks,
     /// Channels whose means lie halfway between two numbers.
     Halves,
 }
 
-const KINDS: [Kind; 5] = [
+const KINDS: [Kind; 6] = [
     Kind::Mixed,
     Kind::Opaque,
     Kind::Clear,
+    Kind::Plain,
     Kind::Blocks,
     Kind::Halves,
 ];
@@ -38,6 +41,7 @@ fn pixel_at(kind: Kind, seed: u32, i: usize) -> Pixel {
         Kind::Mixed => Pixel::new(r, g, b, a ^ b ^ g),
         Kind::Opaque => Pixel::new(r, g, b, 255),
         Kind::Clear => Pixel::CLEAR,
+        Kind::Plain => Pixel::new(90, 160, 40, 150),
         Kind::Blocks => match i / 16 % 3 {
             0 => Pixel::new(r, g, b, a ^ b ^ g),
             1 => Pixel::CLEAR,

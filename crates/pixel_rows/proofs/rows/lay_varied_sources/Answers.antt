@@ -1,7 +1,7 @@
 use Rattle.std.proofs.Common.{◌*◌, ◌+◌, ◌-◌, arith, get_or}
 use Rattle.pixel_core.specs.Rgba.{clear}
 use Rattle.pixel_rows.proofs.Joins.{block_laid}
-use Rattle.pixel_rows.proofs.rows.lay_sources.Goals as goal
+use Rattle.pixel_rows.proofs.rows.lay_varied_sources.Goals as goal
 
 pub loop-i-preserved : goal.loop-i-preserved
 loop-i-preserved c =

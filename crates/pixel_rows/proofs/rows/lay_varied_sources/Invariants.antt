@@ -1,7 +1,7 @@
 use Rattle.std.proofs.Common.{get_or, ◌*◌}
 use Rattle.pixel_core.specs.Rgba.{clear}
 use Rattle.pixel_rows.specs.Rows.{LaysPart}
-use Rattle.pixel_rows.proofs.rows.lay_sources.Given as goal
+use Rattle.pixel_rows.proofs.rows.lay_varied_sources.Given as goal
 
 -- the blocks so far are laid on
 abbrev pub invariant-loop-i : goal.invariant-loop-i
