@@ -53,33 +53,8 @@ fn inked(
     Ok(pixels)
 }
 
-/// Lays the ink on each pixel of a part of a tile.
+/// Lays the ink on each pixel of a part of a tile, row by row, since plain rows are laid soonest.
 pub fn lay_ink(tile: &mut [Pixel], part: Part, ink: &Ink)
-    requires whole { length tile.old ≡ 4096 }
-    requires across { part.left + part.w ≤ 64 }
-    requires down { part.top + part.h ≤ 64 }
-    ensures { ChangesRows (inked_pixel ink.now) 64 part.left part.top part.w part.h tile.old tile.new }
-{
-    if part.w == 64 {
-        lay_on_whole_rows(tile, part.top, part.h, ink);
-    } else {
-        lay_on_rows(tile, part, ink);
-    }
-}
-
-/// The same on all columns of `h` rows, which follow one another.
-fn lay_on_whole_rows(tile: &mut [Pixel], top: usize, h: usize, ink: &Ink)
-    requires whole { length tile.old ≡ 4096 }
-    requires down { top + h ≤ 64 }
-    ensures { ChangesRows (inked_pixel ink.now) 64 0 top 64 h tile.old tile.new }
-{
-    let from = 64 * top;
-    let rows = &mut tile[from..from + 64 * h];
-    lay_colour(ink.op, ink.colour, ink.strength, rows);
-}
-
-/// The same row by row.
-fn lay_on_rows(tile: &mut [Pixel], part: Part, ink: &Ink)
     requires whole { length tile.old ≡ 4096 }
     requires across { part.left + part.w ≤ 64 }
     requires down { part.top + part.h ≤ 64 }

@@ -1,6 +1,6 @@
 //! Worked values, and that each job's call can succeed.
 
-ghost use Rattle.std.specs.Prelude.{◌≡◌, ◌↔◌, true, All, IsTrue};
+ghost use Rattle.std.specs.Prelude.{◌≡◌, ◌↔◌, ◌<◌, true, All, IsTrue};
 ghost use Rattle.std.specs.List.{list_any, list_all};
 ghost use Rattle.geom_core.specs.Areas.{lies_in};
 ghost use Rattle.geom_core.specs.Grid.{same_key, all_keys_of};
@@ -21,6 +21,8 @@ use tile_core::{Shot, Tile};
 const ORIGIN: TileKey = TileKey { row: 0, col: 0 };
 
 const RED: [u8; 4] = [255, 0, 0, 255];
+
+const BLUE: [u8; 4] = [0, 0, 255, 255];
 
 /// The pixel of the shot where nothing was painted.
 const GROUND: [u8; 4] = [1, 2, 3, 77];
@@ -58,17 +60,19 @@ fn dab(x: i32, y: i32, r: u8, soft: bool) -> Job {
     }
 }
 
-/// A tile with a red pixel in its corner, and the ground elsewhere.
-fn red_tile(alloc: Global) -> Result<Tile, NoMemory> {
+/// A tile with a red pixel at a place, and the ground elsewhere.
+fn red_tile(alloc: Global, place: usize) -> Result<Tile, NoMemory>
+    requires { place < 4096 }
+{
     let mut pixels = vec![in alloc; pixel(GROUND); 4096]?;
-    pixels[0] = pixel(RED);
+    pixels[place] = pixel(RED);
     Tile::from_pixels(alloc, pixels)
 }
 
 /// A shot of the world. It has a red pixel at (0, 0), and its ground elsewhere.
 fn red_corner(alloc: Global) -> Result<Shot, NoMemory> {
     let mut shot = Shot::new(alloc, &[rect(-16384, -16384, 32768, 32768)], pixel(GROUND))?;
-    shot.put(ORIGIN, &red_tile(alloc)?)?;
+    shot.put(ORIGIN, &red_tile(alloc, 0)?)?;
     Ok(shot)
 }
 
@@ -142,14 +146,13 @@ fn leaves(
 #[test]
 fn fills(rt: HostRuntime) -> Result<(), Fail> {
     let alloc = rt.alloc();
-    let blue = [0, 0, 255, 255];
     let one = rect(0, 0, 1, 1);
     leaves(
         &rt,
         alloc,
-        filling(one, blue, 255),
+        filling(one, BLUE, 255),
         &[one],
-        &[(0, 0, 0, blue)],
+        &[(0, 0, 0, BLUE)],
     )?;
     let clipped = rect(0, 0, 64, 1);
     leaves(
@@ -250,7 +253,7 @@ fn leaves_in_place(
     job: Job,
     wanted: &[(u8, u8, [u8; 4])],
 ) -> Result<(), NoMemory> {
-    let mut tile = red_tile(alloc)?;
+    let mut tile = red_tile(alloc, 0)?;
     assert!(rt; tile.lay_alone(&work(rt, &(Kind::Seq, job))));
     for (col, row, want) in wanted {
         assert!(rt; *col < 64 && *row < 64);
@@ -266,12 +269,11 @@ fn leaves_in_place(
 #[test]
 fn in_place(rt: HostRuntime) -> Result<(), Fail> {
     let alloc = rt.alloc();
-    let blue = [0, 0, 255, 255];
     leaves_in_place(
         &rt,
         alloc,
-        filling(rect(0, 0, 1, 1), blue, 255),
-        &[(0, 0, blue), (1, 0, GROUND), (0, 1, GROUND)],
+        filling(rect(0, 0, 1, 1), BLUE, 255),
+        &[(0, 0, BLUE), (1, 0, GROUND), (0, 1, GROUND)],
     )?;
     leaves_in_place(
         &rt,
@@ -298,18 +300,15 @@ fn in_place(rt: HostRuntime) -> Result<(), Fail> {
 #[test]
 fn plain_tiles(rt: HostRuntime) -> Result<(), Fail> {
     let alloc = rt.alloc();
-    let mut pixels = vec![in alloc; pixel(GROUND); 4096]?;
-    pixels[77] = pixel(RED);
-    let spotted = Tile::from_pixels(alloc, pixels)?;
-    let blue = [0, 0, 255, 255];
-    let whole = (Kind::Seq, filling(rect(0, 0, 64, 65), blue, 255));
-    assert!(rt; work(&rt, &whole).plain_on_ground(pixel(GROUND)) == Some(pixel(blue)));
-    assert!(rt; work(&rt, &whole).plain_on(&spotted) == Some(pixel(blue)));
-    let faint = (Kind::Seq, filling(rect(0, 0, 64, 65), blue, 0));
+    let spotted = red_tile(alloc, 77)?;
+    let whole = (Kind::Seq, filling(rect(0, 0, 64, 65), BLUE, 255));
+    assert!(rt; work(&rt, &whole).plain_on_ground(pixel(GROUND)) == Some(pixel(BLUE)));
+    assert!(rt; work(&rt, &whole).plain_on(&spotted) == Some(pixel(BLUE)));
+    let faint = (Kind::Seq, filling(rect(0, 0, 64, 65), BLUE, 0));
     let plain = Tile::plain(alloc, pixel(GROUND))?;
     assert!(rt; work(&rt, &faint).plain_on(&plain) == Some(pixel(GROUND)));
     assert!(rt; work(&rt, &faint).plain_on(&spotted).is_none());
-    let part = (Kind::Seq, filling(rect(0, 0, 63, 64), blue, 255));
+    let part = (Kind::Seq, filling(rect(0, 0, 63, 64), BLUE, 255));
     assert!(rt; work(&rt, &part).plain_on_ground(pixel(GROUND)).is_none());
     Ok(())
 }
@@ -338,14 +337,13 @@ fn run<'a>(rt: &impl Abort, jobs: &'a [(Kind, Job)]) -> Option<PointWork<'a>> {
 #[test]
 fn runs(rt: HostRuntime) -> Result<(), Fail> {
     let alloc = rt.alloc();
-    let blue = [0, 0, 255, 255];
     let green = [0, 255, 0, 128];
     let jobs = [
-        (Kind::Seq, filling(rect(0, 0, 2, 1), blue, 255)),
+        (Kind::Seq, filling(rect(0, 0, 2, 1), BLUE, 255)),
         (Kind::Con, filling(rect(1, 0, 1, 1), green, 255)),
         (Kind::Seq, dab(5, 5, 1, false)),
-        (Kind::Seq, filling(rect(64, 0, 1, 1), blue, 255)),
-        (Kind::Seq, filling(rect(63, 0, 2, 1), blue, 255)),
+        (Kind::Seq, filling(rect(64, 0, 1, 1), BLUE, 255)),
+        (Kind::Seq, filling(rect(63, 0, 2, 1), BLUE, 255)),
         (
             Kind::Seq,
             Job::Blur {
@@ -360,10 +358,10 @@ fn runs(rt: HostRuntime) -> Result<(), Fail> {
     };
     assert_eq!(rt; front.job_count(), 3);
     assert_eq!(rt; front.key(), ORIGIN);
-    let mut tile = red_tile(alloc)?;
+    let mut tile = red_tile(alloc, 0)?;
     assert!(rt; tile.lay_alone(&front));
     for (col, row, want) in [
-        (0, 0, blue),
+        (0, 0, BLUE),
         (1, 0, [0, 128, 127, 255]),
         (5, 5, RED),
         (2, 0, GROUND),

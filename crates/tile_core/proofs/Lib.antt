@@ -9,7 +9,6 @@ pub mod OnPaper
 pub mod LaidColours
 pub mod PartsOf
 pub mod FrameRows
-pub mod SameRows
 pub mod TileLaws
 pub mod PictureRows
 pub mod DamagedParts

@@ -4,6 +4,7 @@ ghost use Rattle.std.specs.Prelude.{◌^◌, IfOk, vec_len, ◌≡◌, ℕ, ◌+
 ghost use Rattle.tile_core.specs.Parts.{LaysPart, TakesPart, LaysTile};
 
 use pixel_core::Pixel;
+use pixel_rows::all_are;
 use std::alloc::{AllocError, Global};
 
 /// A part of rows of pixels: `w` columns from the column `left` on, in `h` rows from the row `top` on.
@@ -95,17 +96,6 @@ fn ends_are(tile: &[Pixel], p: Pixel) -> bool
     ensures { tile.now ≡ replicate 4096 p → IsTrue result }
 {
     tile[0] == p && tile[4095] == p
-}
-
-/// Whether all pixels are `p`. It goes through all of them, with no branch.
-fn all_are(pixels: &[Pixel], p: Pixel) -> bool
-    ensures { IsTrue result ↔ (pixels.now ≡ replicate (length pixels.now) p) }
-{
-    let mut all = true;
-    for i in 0..pixels.len() {
-        all = all & (pixels[i] == p);
-    }
-    all
 }
 
 /// Lays a part of a tile, from its column `tile_left` and its row `tile_top` on, over a part of

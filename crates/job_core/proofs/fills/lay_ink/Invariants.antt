@@ -1,6 +1,6 @@
 use Rattle.job_core.specs.Laid.{inked}
 use Rattle.job_core.proofs.RowChanges.{ChangedSoFar}
-use Rattle.job_core.proofs.fills.lay_on_rows.Given as goal
+use Rattle.job_core.proofs.fills.lay_ink.Given as goal
 
 -- the ink lies on the rows so far
 abbrev pub invariant-loop-row : goal.invariant-loop-row

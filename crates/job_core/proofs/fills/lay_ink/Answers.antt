@@ -1,7 +1,7 @@
 use Rattle.std.proofs.Common.{arith}
 use Rattle.job_core.specs.Laid.{inked}
 use Rattle.job_core.proofs.RowChanges.{row_changed, slice_changed}
-use Rattle.job_core.proofs.fills.lay_on_rows.Goals as goal
+use Rattle.job_core.proofs.fills.lay_ink.Goals as goal
 
 pub loop-row-preserved : goal.loop-row-preserved
 loop-row-preserved c = row_changed (inked c.args.ink.now) _ _ _ _ _ _ _ _ _ c.loop-row.invariant c.requires.across
