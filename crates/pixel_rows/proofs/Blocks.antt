@@ -2,7 +2,7 @@
 use Rattle.std.proofs.Common.{◌≡◌, ◌≢◌, ℕ, ◌<◌, List, length, get_or, arith, ap, sym, ◌∙◌}
 use Rattle.pixel_core.specs.declared.blending.Op.{Op}
 use Rattle.pixel_core.specs.declared.blending.Op.TheVariants.{Over, Erase}
-use Rattle.pixel_core.specs.Rgba.{Rgba, clear}
+use Rattle.pixel_core.specs.Rgba.{Rgba, clear, IsCanonical}
 use Rattle.pixel_core.specs.Compose.{compose}
 use Rattle.pixel_core.proofs.Rounding.{whole}
 use Rattle.pixel_core.proofs.ComposeLaws.{unseen_leaves, opaque_hides, on_clear}
@@ -17,12 +17,12 @@ abbrev pub LaysBlock : Op → List Rgba → List Rgba → List Rgba → Type 0
 LaysBlock op sources old new = LaysRow op (λ k. get_or sources k clear) (λ _. 255) old new
 
 -- clear sources change nothing
-pub unseen_block : (op : Op) (sources row : List Rgba) (least most below above : ℕ) → length row ≡ 16 → most ≡ 0 → AllCoverWithin least most sources → AllCoverWithin below above row
+pub unseen_block : (op : Op) (sources row : List Rgba) (least most : ℕ) → length row ≡ 16 → most ≡ 0 → AllCoverWithin least most sources → ((k : ℕ) → k < length row → IsCanonical (get_or row k clear))
     → LaysBlock op sources row row
-unseen_block op sources row least most below above n e h g k t =
+unseen_block op sources row least most n e h known k t =
     let s = h k (omega (arith, n, t)) in
     let z : (get_or sources k clear).a ≡ 0 = omega (arith, s.not_above) in
-    sym (unseen_leaves op (get_or sources k clear) (get_or row k clear) 255 (whole (get_or sources k clear).a ∙ z) (g k (omega (arith, n, t))).canonical)
+    sym (unseen_leaves op (get_or sources k clear) (get_or row k clear) 255 (whole (get_or sources k clear).a ∙ z) (known k t))
 
 -- sources that hide what they are laid over
 pub hiding_block : (sources old : List Rgba) (least most below above : ℕ) → length old ≡ 16 → least ≡ 255 → AllCoverWithin least most sources → AllCoverWithin below above old

@@ -1,7 +1,7 @@
 //! Blocks of pixels laid on others, at full strength.
 
 ghost use Rattle.std.specs.Prelude.{◌≡◌, ◌<◌, ℕ, length, slice_index_or};
-ghost use Rattle.pixel_core.specs.Rgba.{clear};
+ghost use Rattle.pixel_core.specs.Rgba.{clear, IsCanonical};
 ghost use Rattle.pixel_core.specs.declared.blending.Op.TheVariants.{Over};
 ghost use Rattle.pixel_core.specs.Compose.{compose as composed};
 ghost use Rattle.pixel_rows.specs.Rows.{CoversWithin, Dims, LaysRow};
@@ -30,10 +30,11 @@ pub(crate) fn lay_block(op: Op, sources: &[Pixel], row: &mut [Pixel])
     ensures { LaysRow op (λ k. slice_index_or sources.now k clear) (λ _. 255) row.old row.new }
 {
     let above = alphas_of(sources);
-    let below = alphas_of(row);
     if above.most == 0 {
+        tell_canonical(row);
         return;
     }
+    let below = alphas_of(row);
     match op {
         Op::Erase => lay_guessed::<Erasing>(op, sources, row),
         _ if below.most == 0 => row.copy_from_slice(sources),
@@ -41,6 +42,16 @@ pub(crate) fn lay_block(op: Op, sources: &[Pixel], row: &mut [Pixel])
         Op::Multiply => lay_guessed::<Multiplying>(op, sources, row),
         Op::Screen => lay_guessed::<Screening>(op, sources, row),
         Op::Addition => lay_guessed::<Adding>(op, sources, row),
+    }
+}
+
+/// Tells that each pixel is canonical. It looks at them for that alone.
+#[inline]
+pub fn tell_canonical(pixels: &[Pixel])
+    ensures { (k : ℕ) → k < length pixels.now → IsCanonical (slice_index_or pixels.now k clear) }
+{
+    for i in 0..pixels.len() {
+        let _known = pixels[i].bytes();
     }
 }
 

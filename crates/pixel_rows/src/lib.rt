@@ -12,5 +12,6 @@ mod shares;
 #[cfg(test)]
 mod tests;
 
+pub use block::tell_canonical;
 pub use plain::all_are;
-pub use rows::{lay_colour, lay_masked, lay_sources, left_everywhere, tell_canonical};
+pub use rows::{lay_colour, lay_masked, lay_sources, left_everywhere};

@@ -5,7 +5,7 @@ ghost use Rattle.pixel_core.specs.Rgba.{Rgba, clear, IsCanonical};
 ghost use Rattle.pixel_core.specs.Compose.{compose as composed};
 ghost use Rattle.pixel_rows.specs.Rows.{LaysRow, LaysPart, Dims};
 
-use crate::block::{BLOCK, dimmed, lay_block};
+use crate::block::{BLOCK, dimmed, lay_block, tell_canonical};
 use crate::plain::plain_pixel;
 use crate::rest::{FEW, dimmed_rest, lay_rest, masked_rest};
 use pixel_core::{Op, Pixel, compose};
@@ -139,16 +139,6 @@ pub fn left_everywhere(op: Op, colour: Pixel, strength: u8) -> Option<Pixel>
         Op::Over => Some(colour),
         Op::Erase => Some(Pixel::CLEAR),
         _ => None,
-    }
-}
-
-/// Tells that each pixel is canonical. It looks at them for that alone.
-#[inline]
-pub fn tell_canonical(pixels: &[Pixel])
-    ensures { (k : ℕ) → k < length pixels.now → IsCanonical (slice_index_or pixels.now k clear) }
-{
-    for i in 0..pixels.len() {
-        let _known = pixels[i].bytes();
     }
 }
 

@@ -1,6 +1,6 @@
 use Rattle.std.proofs.Common.{ℕ, ◌<◌, get_or}
 use Rattle.pixel_core.specs.Rgba.{clear, IsCanonical}
-use Rattle.pixel_rows.proofs.rows.tell_canonical.Given as goal
+use Rattle.pixel_rows.proofs.block.tell_canonical.Given as goal
 
 -- the pixels so far are
 abbrev pub invariant-loop-i : goal.invariant-loop-i
