@@ -114,7 +114,7 @@ fn left_on(op: Op, colour: Pixel, strength: u8, backdrop: &[Pixel]) -> Option<Pi
     }
 }
 
-/// The same on a backdrop that need not be plain.
+/// Lays one colour on each pixel of a backdrop that need not be plain.
 fn lay_on_varied(op: Op, colour: Pixel, strength: u8, backdrop: &mut [Pixel])
     ensures { LaysRow op (λ _. colour) (λ _. strength) backdrop.old backdrop.new }
 {
