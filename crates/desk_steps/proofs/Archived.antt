@@ -42,9 +42,9 @@ use Rattle.desk_steps.specs.declared.entry.Entry.{Entry}
 use Rattle.desk_steps.specs.declared.entry.Entry.TheVariants as entry
 use Rattle.desk_steps.specs.declared.entry.Way.{Way}
 use Rattle.desk_steps.specs.Archives.{Archive, IsUnderWay, layer_under_way, reverted, undone, redone}
-use Rattle.desk_steps.specs.Documents.{Tiled, Regains, SameLayers, doc_in}
+use Rattle.desk_steps.specs.Documents.{Tiled, Regains, doc_in}
 use Rattle.desk_steps.specs.Founds.{keys_in, patched}
-use Rattle.desk_steps.specs.Entries.{doc_of, reach_in, FitsOn, laid, base_of, way_of, archive_of, IsKept, Standing, StandsAs, Grows, standing, FitsKeys, AllFit, TradesKeys, WayFits, KeysStand}
+use Rattle.desk_steps.specs.Entries.{doc_of, reach_in, FitsOn, laid, base_of, way_of, archive_of, IsKept, Standing, StandsAs, Grows, standing, FitsKeys, keys_after, AllFit, TradesKeys, WayFits, KeysStand}
 use Rattle.desk_steps.proofs.Filled.{adjusted_nothing, some_adjusted}
 use Rattle.desk_steps.proofs.Devices.{false-true, some_in}
 use Rattle.desk_steps.proofs.Patched.{patched-empty, keys_in-empty}
@@ -401,19 +401,11 @@ regains_grow id found after old new r = record {
   keys = r.keys;
 }
 
--- after a change that leaves the same layers
-pub rearrange_stands : (old next : Tiled) (t : Forest (Unit {0})) (history new : Stack Entry) (way : Option Way) → way_of way ≡ None → new.past ≡ entry.Tree t ∷ history.past → new.future ≡ [] → StandsAs (standing old) (standing next) → SameLayers t next
-    → KeysStand (standing old) history way → KeysStand (standing next) new way
-rearrange_stands old next t history new way free past future same layers s = record {
-  past = subst (AllFit (standing next)) (sym past) (layers, same_fit (standing old) (standing next) same history.past s.past);
-  future = subst (AllFit (standing next)) (sym future) tt;
-  under_way = no_way way free (λ e. subst (WayFits (standing next)) (sym e) tt);
-}
-
--- after a change of the tree
-pub change_stands : (doc next : Tiled) (history new : Stack Entry) (way : Option Way) → way_of way ≡ None → new.past ≡ entry.Whole doc ∷ history.past → new.future ≡ [] → KeysStand (standing doc) history way → KeysStand (standing next) new way
-change_stands doc next history new way free past future s = record {
-  past = subst (AllFit (standing next)) (sym past) (tt, s.past);
+-- after a change of the tree, which the entry takes back
+pub change_stands : (doc next : Tiled) (e : Entry) (history new : Stack Entry) (way : Option Way) → way_of way ≡ None → new.past ≡ e ∷ history.past → new.future ≡ [] → FitsKeys (standing next) e → StandsAs (standing doc) (keys_after (standing next) e)
+    → KeysStand (standing doc) history way → KeysStand (standing next) new way
+change_stands doc next e history new way free past future fits same s = record {
+  past = subst (AllFit (standing next)) (sym past) (fits, same_fit (standing doc) (keys_after (standing next) e) same history.past s.past);
   future = subst (AllFit (standing next)) (sym future) tt;
   under_way = no_way way free (λ e. subst (WayFits (standing next)) (sym e) tt);
 }

@@ -17,8 +17,8 @@ use Rattle.desk_steps.specs.Founds.{keys_in, patched}
 
 -- the document that an entry gives back, from the one that it is laid on
 abbrev pub doc_of : Doc → Entry → Doc
-doc_of now (Whole doc) = doc_in doc
-doc_of now (Tree t) = with_tree t now
+doc_of now (Whole doc) = doc_in doc.value
+doc_of now (Tree t) = with_tree t.value now
 doc_of now (Layer id found) = adjusted id (patched found) now
 
 -- how far the change between the two reaches
@@ -59,14 +59,14 @@ pub record Grows (old new : Standing) : Type 0 where
 
 -- those of the document that an entry gives back
 abbrev pub keys_after : Standing → Entry → Standing
-keys_after ks (Whole doc) = standing doc
+keys_after ks (Whole doc) = standing doc.value
 keys_after ks (Tree t) = ks
 keys_after ks (Layer id found) = ks
 
 -- a tree is laid on a document of the same layers, an entry of a layer where its keys stand
 abbrev pub FitsKeys : Standing → Entry → Type 0
 FitsKeys ks (Whole doc) = Unit {0}
-FitsKeys ks (Tree t) = (q : ℕ) → is_some (content q t) ≡ ks.layers q
+FitsKeys ks (Tree t) = (q : ℕ) → is_some (content q t.value) ≡ ks.layers q
 FitsKeys ks (Layer id found) = (k : Key) → map.contains_key found k ≡ true → ks.keys id k ≡ true
 
 -- so is each of entries that are laid one after another

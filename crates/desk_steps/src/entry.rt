@@ -18,9 +18,9 @@ use tree_core::Tree;
 #[derive(Drop)]
 pub enum Entry {
     /// The document.
-    Whole(Document),
+    Whole(Box<Document>),
     /// The tree of the same layers.
-    Tree(Tree),
+    Tree(Box<Tree>),
     /// What stood in some tiles of a layer, which alone differ.
     Layer { id: u16, found: Found },
 }
@@ -48,12 +48,12 @@ impl Entry {
     {
         match self {
             Entry::Whole(other) => {
-                mem::swap(doc, other);
+                mem::swap(doc, &mut **other);
                 let _tree = doc.tree();
                 Reach::Whole
             }
             Entry::Tree(tree) => {
-                doc.exchange_tree(tree);
+                doc.exchange_tree(&mut **tree);
                 let _tree = doc.tree();
                 Reach::Whole
             }

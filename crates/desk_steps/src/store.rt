@@ -207,14 +207,14 @@ impl Store {
     {
         match change {
             Change::Group { .. } | Change::Place { .. } | Change::Look { .. } => {
-                self.rearrange(change)
+                self.rearrange(alloc, change)
             }
             Change::Layer { .. } | Change::Remove { .. } => self.renew(alloc, change),
         }
     }
 
     /// Makes a change that leaves the same layers. It costs a copy of the tree, and touches no tile.
-    fn rearrange(&mut self, change: &Change) -> Result<Reach, TreeRefusal>
+    fn rearrange(&mut self, alloc: Global, change: &Change) -> Result<Reach, TreeRefusal>
         requires free { self.old.way ≡ None }
         requires layers { keeps_layers change.now ≡ true }
         ensures whole { IfOk result (λ r. r ≡ tells.Whole) }
@@ -222,9 +222,9 @@ impl Store {
         ensures tree { (fault : TreeFault) → result ≡ Err (refusal.Tree fault) → changed plain change.now self.old.base ≡ Err fault }
         ensures err { OnErr result (self.new ≡ self.old) }
     {
-        let mut tree = self.doc.rearranged(change)?;
+        let mut tree = boxed(alloc, self.doc.rearranged(change)?)?;
         self.history.reserve(1)?;
-        self.doc.exchange_tree(&mut tree);
+        self.doc.exchange_tree(&mut *tree);
         self.history.commit(Entry::Tree(tree));
         self.room = false;
         Ok(Reach::Whole)
@@ -238,10 +238,10 @@ impl Store {
         ensures tree { (fault : TreeFault) → result ≡ Err (refusal.Tree fault) → changed plain change.now self.old.base ≡ Err fault }
         ensures err { OnErr result (self.new ≡ self.old) }
     {
-        let next = self.doc.changed(alloc, change)?;
+        let mut other = boxed(alloc, self.doc.changed(alloc, change)?)?;
         self.history.reserve(1)?;
-        let before = mem::replace(&mut self.doc, next);
-        self.history.commit(Entry::Whole(before));
+        mem::swap(&mut self.doc, &mut *other);
+        self.history.commit(Entry::Whole(other));
         self.room = false;
         Ok(Reach::Whole)
     }
@@ -311,4 +311,11 @@ impl Store {
             None => Pixel::CLEAR,
         }
     }
+}
+
+/// The value in a block of its own.
+fn boxed<T: Drop>(alloc: Global, value: T) -> Result<Box<T>, NoMemory>
+    ensures { IfOk result (λ b. b.value ≡ value) }
+{
+    Ok(Box::new(alloc, value)?)
 }
