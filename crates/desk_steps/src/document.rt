@@ -70,10 +70,7 @@ impl Document {
         ensures some { IfSome result (λ d. content id (doc_in self.now) ≡ Some (layer_of d.now)) }
         ensures none { IfNone result (content id (doc_in self.now) ≡ None) }
     {
-        match self.slots.get(&id) {
-            Some(slot) => slot.as_ref(),
-            None => None,
-        }
+        self.slots.get(&id)?.as_ref()
     }
 
     /// Exchanges what was noted with the tiles of a paint layer under the same keys, which are there.

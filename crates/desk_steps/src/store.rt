@@ -225,9 +225,8 @@ impl Store {
         Some(entry.exchange(&mut self.doc, steps))
     }
 
-    /// Redoes the change that was undone last. None exactly where there is none. No memory. The tiles of
-    /// a stroke are exchanged, a step each; after a change of the tree the tree is, with the devices that
-    /// differ.
+    /// Redoes the change that was undone last. None exactly where there is none. No memory, and the
+    /// steps of `undo`.
     pub fn redo<L: Ledger>(&mut self, steps: &mut Steps<L>) -> Option<Reach>
         requires { self.old.way ≡ None }
         ensures none { IsNone result ↔ (self.old.future ≡ []) }
