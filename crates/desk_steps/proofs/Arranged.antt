@@ -1,8 +1,8 @@
 -- Documents in other arrangements.
-use Rattle.std.proofs.Common.{◌≡◌, ℕ, suc, ◌+◌, ◌<◌, Bool, true, false, cond, Option, Some, None, is_some, Ok, List, [], ◌∷◌, ◌++◌, length, take, drop, refl, sym, ap, ◌∙◌, subst, arith, eqb, get_or, set, ◌⊎◌, inl, inr}
+use Rattle.std.proofs.Common.{◌≡◌, ℕ, ◌+◌, ◌<◌, Bool, true, false, cond, Option, Some, None, is_some, Ok, List, [], ◌∷◌, ◌++◌, length, take, drop, refl, sym, ap, ◌∙◌, subst, arith, eqb, get_or, set, ◌⊎◌, inl, inr}
 use Rattle.std.specs.Prelude.{reverse}
 use Rattle.std.proofs.lemmas.Bool.Decides.{nat_tests}
-use Rattle.std.proofs.lemmas.List.{reverse-append, drop_more, drop-set-lt, take_more_set, drop_all, take_all, append-nil}
+use Rattle.std.proofs.lemmas.List.{reverse-append, drop_more, drop-set-lt, take_more_set, drop_all, take_all}
 use Rattle.std.specs.Option.{unwrap_or}
 use Rattle.std.specs.Ordering.{nat_cmp}
 use Rattle.std.specs.Cmp.{unsigned_tied}
@@ -10,10 +10,8 @@ use Rattle.std.specs.FinMap as map
 use Rattle.std.specs.BTreeMap as btree
 use Rattle.std.specs.BTreeMap.{is_at}
 use Rattle.std.specs.Map.{lookup}
-use Rattle.pixel_core.specs.Rgba.{Rgba}
-use Rattle.geom_core.specs.Grid.{Key}
 use Rattle.geom_core.proofs.Tests.{taken, kept}
-use Rattle.doc_model.specs.Layers.{Layer, plain}
+use Rattle.doc_model.specs.Layers.{plain}
 use Rattle.doc_model.specs.Forest.{Forest, content, each}
 use Rattle.doc_model.specs.Changes.{changed}
 use Rattle.doc_model.specs.declared.tree.Change.{Change}
@@ -21,7 +19,6 @@ use Rattle.doc_model.specs.declared.tree.Change.TheVariants as change
 use Rattle.doc_model.proofs.Parents.{Distinct}
 use Rattle.machine_model.specs.Effects.{layer_in}
 use Rattle.paint_device.specs.Sheets.{Sheet, sheet}
-use Rattle.paint_device.specs.Seen.{layer_of}
 use Rattle.desk_steps.specs.Founds.{has_key}
 use Rattle.desk_steps.specs.Slots.{Slots, AllHave, device_in, devices_after, has_slot, layer_or, once_filled, standing}
 use Rattle.desk_steps.specs.Documents.{Fits, arranged, arranged_standing, doc_in}

@@ -1,5 +1,5 @@
 -- Which layers stand in a tree after a change.
-use Rattle.std.proofs.Common.{◌≡◌, ℕ, suc, zero, Bool, true, false, ◌||◌, not, cond, Option, Some, None, is_some, Ok, refl, sym, ap, ◌∙◌, subst, arith, eqb, inl, inr}
+use Rattle.std.proofs.Common.{◌≡◌, ℕ, suc, zero, Bool, true, false, ◌||◌, not, cond, Some, None, is_some, Ok, refl, sym, ap, ◌∙◌, subst, arith, eqb, inl, inr}
 use Rattle.std.proofs.lemmas.Bool.Decides.{nat_tests}
 use Rattle.geom_core.proofs.Tests.{or_left, or_right}
 use Rattle.pixel_core.specs.Rgba.{Rgba}

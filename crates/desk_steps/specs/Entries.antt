@@ -1,5 +1,5 @@
 -- A store as its present document, its entries and the stroke under way.
-use Rattle.std.specs.Prelude.{◌≡◌, ◌≤◌, ℕ, true, Bool, is_some, Option, Some, None, List, [], ◌∷◌}
+use Rattle.std.specs.Prelude.{◌≡◌, ◌≤◌, true, Bool, is_some, Option, Some, None, List, [], ◌∷◌}
 use Rattle.std.specs.FinMap as map
 use Rattle.geom_core.specs.Grid.{Key}
 use Rattle.doc_model.specs.Forest.{content, adjusted}

@@ -1,9 +1,7 @@
-use Rattle.std.proofs.Common.{◌≡◌, ◌⊎◌, inl, inr, Bool, true, false, not, Option, Some, None, is_some, ◌∷◌, [], refl, rules, subst, sym, ap, ◌∙◌}
-use Rattle.std.specs.Ordering.{nat_cmp}
+use Rattle.std.proofs.Common.{◌≡◌, inl, inr, rules, subst, sym, ◌∙◌}
 use Rattle.std.specs.Map.Iter.{deref_pair}
 use Rattle.std.proofs.lemmas.Map.Iter.{btree_map_turn, rest_all}
 use Rattle.std.proofs.lemmas.Cmp.{nat_cmp_total}
-use Rattle.doc_model.specs.Forest.{content}
 use Rattle.desk_steps.proofs.Arranged.{Emptied, none_emptied, one_left, one_emptied, all_emptied}
 use Rattle.desk_steps.proofs.Devices.{none_is}
 use Rattle.desk_steps.proofs.arrangement.emptied.Goals.{else-is_some-via-then-is_some+else-not-is_paint, else-is_some-via-else-is_some}

@@ -1,8 +1,7 @@
-use Rattle.std.proofs.Common.{◌≡◌, Ok, Err, is_some, sym, ap, subst, ◌∙◌}
+use Rattle.std.proofs.Common.{◌≡◌, Ok, Err, sym, ap, ◌∙◌}
 use Rattle.doc_model.specs.Changes.{changed}
 use Rattle.doc_model.proofs.Weights.{tree_distinct}
 use Rattle.desk_steps.specs.Slots.{device_in, devices_after}
-use Rattle.desk_steps.specs.Documents.{doc_in}
 use Rattle.desk_steps.proofs.Devices.{doc_refused, refusal_same}
 use Rattle.desk_steps.proofs.Arranged.{change_shown, change_fits}
 use Rattle.desk_steps.proofs.document.Document.changed.Goals as goal

@@ -1,7 +1,6 @@
-use Rattle.std.proofs.Common.{◌≡◌, refl, sym, ap, ◌∙◌}
-use Rattle.desk_steps.specs.Slots.{device_in}
-use Rattle.desk_steps.specs.Founds.{Exchanges, StandIn, patched}
-use Rattle.desk_steps.proofs.Devices.{lent_stands, devices_stay, doc_adjusted, doc_back, standing_same, own_stands}
+use Rattle.std.proofs.Common.{sym}
+use Rattle.desk_steps.specs.Founds.{Exchanges, patched}
+use Rattle.desk_steps.proofs.Devices.{lent_stands, doc_adjusted, doc_back, standing_same, own_stands}
 use Rattle.desk_steps.proofs.Patched.{exchange_laid, exchange_back, exchange_keys, exchange_notes, exchange_stands}
 use Rattle.desk_steps.proofs.document.Document.exchange.Goals as goal
 
