@@ -41,14 +41,16 @@ use Rattle.history_core.specs.Stacks.{Stack, IsUndone, IsRedone}
 use Rattle.desk_steps.specs.declared.entry.Entry.{Entry}
 use Rattle.desk_steps.specs.declared.entry.Entry.TheVariants as entry
 use Rattle.desk_steps.specs.declared.entry.Way.{Way}
-use Rattle.desk_steps.specs.Archives.{Archive, IsUnderWay, layer_under_way, reverted, undone, redone}
-use Rattle.desk_steps.specs.Documents.{Tiled, Regains, SameLayers, doc_in}
+use Rattle.desk_steps.specs.Archives.{Archive, IsArchive, IsUnderWay, layer_under_way, reverted, undone, redone}
 use Rattle.desk_steps.specs.Founds.{keys_in, patched}
-use Rattle.desk_steps.specs.Entries.{doc_of, reach_in, FitsOn, laid, base_of, way_of, archive_of, IsKept, Standing, StandsAs, Grows, standing, FitsKeys, AllFit, TradesKeys, WayFits, KeysStand}
-use Rattle.desk_steps.proofs.Filled.{adjusted_nothing, some_adjusted}
-use Rattle.desk_steps.proofs.Devices.{false-true, some_in}
+use Rattle.desk_steps.specs.Entries.{doc_of, reach_in, FitsOn, laid, base_of, way_of, archive_of, IsKept, standing_after, FitsKeys, AllFit, Trades, WayFits, KeysStand, IsStored}
+use Rattle.desk_steps.specs.Slots.{Standing, standing, Grows}
+use Rattle.desk_steps.specs.Documents.{doc_in}
+use Rattle.desk_steps.specs.declared.document.Document.{Document}
+use Rattle.desk_steps.proofs.Filled.{adjusted_nothing}
+use Rattle.desk_steps.proofs.Devices.{false-true}
 use Rattle.desk_steps.proofs.Patched.{patched-empty, keys_in-empty}
-use Rattle.desk_steps.proofs.Exchanged.{fits_new, fits_old, laid_back, laid_take, past_take, more_fit, same_fit, take_fit, next_fit, back_fit}
+use Rattle.desk_steps.proofs.Exchanged.{fits_new, fits_old, laid_back, laid_take, past_take, more_fit, take_fit, next_fit, back_fit}
 
 -- another content keeps a document within the limits
 pub is_document_with : {A : Type 0} (q : ℕ) (x : A) (f : Forest A) → IsDocument f → IsDocument (with_content q x f)
@@ -391,31 +393,35 @@ finish_stands ks history new way after w is gone past future s = record {
 }
 
 -- or taken back
-pub revert_stands : (ks others : Standing) (history : Stack Entry) (way after : Option Way) → after ≡ None → StandsAs ks others → KeysStand ks history way → KeysStand others history after
-revert_stands ks others history way after gone same s = record { past = same_fit ks others same history.past s.past; future = same_fit ks others same history.future s.future; under_way = subst (WayFits others) (sym gone) tt }
+pub revert_stands : (ks others : Standing) (history : Stack Entry) (way after : Option Way) → after ≡ None → ks ≡ others → KeysStand ks history way → KeysStand others history after
+revert_stands ks others history way after gone same s = record { past = subst (λ k. AllFit k history.past) same s.past; future = subst (λ k. AllFit k history.future) same s.future; under_way = subst (WayFits others) (sym gone) tt }
 
--- of the document after a stroke put a tile
-pub regains_grow : (id : ℕ) (found after : Keyed Pixels) (old new : Tiled) → Regains id found after old new → Grows (standing old) (standing new)
-regains_grow id found after old new r = record {
-  layers = λ q. sym (some_in q new) ∙ sym (some_adjusted q id (patched after) (doc_in new)) ∙ ap (λ d. is_some (content q d)) r.same ∙ some_adjusted q id (patched found) (doc_in old) ∙ some_in q old;
-  keys = r.keys;
-}
+-- once there is more room for layers
+pub grow_stands : (ks more : Standing) (history : Stack Entry) (way : Option Way) → Grows ks more → KeysStand ks history way → KeysStand more history way
+grow_stands ks more history way grows s = record { past = more_fit ks more grows history.past s.past; future = more_fit ks more grows history.future s.future; under_way = go way s.under_way }
+  where
+    go : (way : Option Way) → WayFits ks way → WayFits more way
+    go None h = tt
+    go (Some w) h = λ k i. grows.keys w.id k (h k i)
 
--- after a change that leaves the same layers
-pub rearrange_stands : (old next : Tiled) (t : Forest (Unit {0})) (history new : Stack Entry) (way : Option Way) → way_of way ≡ None → new.past ≡ entry.Tree t ∷ history.past → new.future ≡ [] → StandsAs (standing old) (standing next) → SameLayers t next
-    → KeysStand (standing old) history way → KeysStand (standing next) new way
-rearrange_stands old next t history new way free past future same layers s = record {
-  past = subst (AllFit (standing next)) (sym past) (layers, same_fit (standing old) (standing next) same history.past s.past);
-  future = subst (AllFit (standing next)) (sym future) tt;
-  under_way = no_way way free (λ e. subst (WayFits (standing next)) (sym e) tt);
-}
+pub grown : (old new : Document) (history after : Stack Entry) (way : Option Way) (room : Bool) → doc_in new ≡ doc_in old → Grows (standing old.slots) (standing new.slots) → after.past ≡ history.past → after.future ≡ history.future → history.spare ≤ after.spare
+    → IsStored old history way room → IsStored new after way room
+grown old new history after way room same grows past future spare s =
+    let stands = grow_stands (standing old.slots) (standing new.slots) history way grows s.stand in
+    record {
+      kept = record {
+        archive = subst IsArchive (λ i. record { past = laid (base_of way (sym same i)) (sym past i); base = base_of way (sym same i); present = sym same i; future = laid (base_of way (sym same i)) (sym future i); way = way_of way; room = room }) s.kept.archive;
+        spare = λ e. (let h = s.kept.spare e in omega (arith, h, spare));
+      };
+      stand = record { past = subst (AllFit (standing new.slots)) (sym past) stands.past; future = subst (AllFit (standing new.slots)) (sym future) stands.future; under_way = stands.under_way };
+    }
 
--- after a change of the tree
-pub change_stands : (doc next : Tiled) (history new : Stack Entry) (way : Option Way) → way_of way ≡ None → new.past ≡ entry.Whole doc ∷ history.past → new.future ≡ [] → KeysStand (standing doc) history way → KeysStand (standing next) new way
-change_stands doc next history new way free past future s = record {
-  past = subst (AllFit (standing next)) (sym past) (tt, s.past);
-  future = subst (AllFit (standing next)) (sym future) tt;
-  under_way = no_way way free (λ e. subst (WayFits (standing next)) (sym e) tt);
+-- after a change of the tree, which the entry takes back
+pub change_stands : (ks next : Standing) (e : Entry) (history new : Stack Entry) (way : Option Way) → way_of way ≡ None → new.past ≡ e ∷ history.past → new.future ≡ [] → FitsKeys next e → standing_after next e ≡ ks → KeysStand ks history way → KeysStand next new way
+change_stands ks next e history new way free past future fits back s = record {
+  past = subst (AllFit next) (sym past) (fits, subst (λ k. AllFit k history.past) (sym back) s.past);
+  future = subst (AllFit next) (sym future) tt;
+  under_way = no_way way free (λ e. subst (WayFits next) (sym e) tt);
 }
 
 -- after a purge
@@ -427,17 +433,17 @@ pub first_stands : (ks : Standing) (es : List Entry) (was : Entry) → take 1 es
 first_stands ks es was first h = (subst (AllFit ks) (first_is es was first) h).0
 
 -- and after it was
-module _ (old new : Tiled) (history after : Stack Entry) (way : Option Way) (was is : Entry) (free : way_of way ≡ None) (trades : TradesKeys old new was is) (s : KeysStand (standing old) history way) where
-  pub undo_stands : take 1 history.past ≡ was ∷ [] → IsUndone history after is → KeysStand (standing new) after way
+module _ (old new : Standing) (history after : Stack Entry) (way : Option Way) (was is : Entry) (free : way_of way ≡ None) (trades : Trades old new was is) (s : KeysStand old history way) where
+  pub undo_stands : take 1 history.past ≡ was ∷ [] → IsUndone history after is → KeysStand new after way
   undo_stands first u = record {
-    past = subst (AllFit (standing new)) (sym u.past) (next_fit old new was is trades (drop 1 history.past) (subst (AllFit (standing old)) (first_is history.past was first) s.past));
-    future = subst (AllFit (standing new)) (sym u.future) (back_fit old new was is trades history.future s.future);
-    under_way = no_way way free (λ e. subst (WayFits (standing new)) (sym e) tt);
+    past = subst (AllFit new) (sym u.past) (next_fit old new was is trades (drop 1 history.past) (subst (AllFit old) (first_is history.past was first) s.past));
+    future = subst (AllFit new) (sym u.future) (back_fit old new was is trades history.future s.future);
+    under_way = no_way way free (λ e. subst (WayFits new) (sym e) tt);
   }
 
-  pub redo_stands : take 1 history.future ≡ was ∷ [] → IsRedone history after is → KeysStand (standing new) after way
+  pub redo_stands : take 1 history.future ≡ was ∷ [] → IsRedone history after is → KeysStand new after way
   redo_stands first u = record {
-    past = subst (AllFit (standing new)) (sym u.past) (back_fit old new was is trades history.past s.past);
-    future = subst (AllFit (standing new)) (sym u.future) (next_fit old new was is trades (drop 1 history.future) (subst (AllFit (standing old)) (first_is history.future was first) s.future));
-    under_way = no_way way free (λ e. subst (WayFits (standing new)) (sym e) tt);
+    past = subst (AllFit new) (sym u.past) (back_fit old new was is trades history.past s.past);
+    future = subst (AllFit new) (sym u.future) (next_fit old new was is trades (drop 1 history.future) (subst (AllFit old) (first_is history.future was first) s.future));
+    under_way = no_way way free (λ e. subst (WayFits new) (sym e) tt);
   }

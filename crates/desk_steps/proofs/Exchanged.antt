@@ -1,10 +1,8 @@
 -- Entries that are laid on documents.
-use Rattle.std.proofs.Common.{◌≡◌, ℕ, zero, suc, true, false, Some, is_some, List, [], ◌∷◌, take, refl, sym, ap, ◌∙◌, eqb, ◌||◌}
+use Rattle.std.proofs.Common.{◌≡◌, ℕ, zero, suc, Bool, true, false, cond, Some, is_some, List, [], ◌∷◌, take, refl, sym, ap, ◌∙◌, subst, eqb, ◌||◌}
 use Rattle.std.specs.FinSet.{FinSet}
 use Rattle.geom_core.specs.Grid.{Key, key_cmp}
 use Rattle.geom_core.specs.declared.Touched.{Touched}
-use Rattle.memento_core.specs.Planes.{Keyed}
-use Rattle.tile_core.specs.Pixels.{Pixels}
 use Rattle.doc_model.specs.Layers.{Layer}
 use Rattle.doc_model.specs.Forest.{Forest, has, content, adjusted, parent}
 use Rattle.doc_model.specs.Changes.{there}
@@ -17,11 +15,15 @@ use Rattle.desk_steps.specs.declared.reach.Reach.TheVariants as tells
 use Rattle.desk_steps.specs.declared.entry.Entry.{Entry}
 use Rattle.desk_steps.specs.declared.entry.Entry.TheVariants as entry
 use Rattle.desk_steps.specs.Archives.{HasTouched, TellsReach, shape}
-use Rattle.desk_steps.specs.Documents.{Tiled, doc_in, key_stands}
-use Rattle.desk_steps.specs.Founds.{StandIn, patched}
-use Rattle.desk_steps.specs.Entries.{doc_of, reach_in, FitsOn, laid, Standing, StandsAs, Grows, standing, keys_after, AllFit, TradesKeys}
+use Rattle.desk_steps.specs.declared.arrangement.Arrangement.{Arrangement}
+use Rattle.desk_steps.specs.declared.arrangement.Slot.{Slot}
+use Rattle.desk_steps.specs.Slots.{Standing, Grows, once_filled}
+use Rattle.desk_steps.specs.Documents.{arranged_standing}
+use Rattle.desk_steps.specs.Founds.{has_key, patched}
+use Rattle.desk_steps.specs.Entries.{doc_of, reach_in, FitsOn, laid, standing_after, AllFit, Trades}
+use Rattle.desk_steps.proofs.Arranged.{have_more}
 use Rattle.desk_steps.proofs.Filled.{has_each, parent_each, some_adjusted}
-use Rattle.desk_steps.proofs.Devices.{some_is, some_in, false-true}
+use Rattle.desk_steps.proofs.Devices.{some_is, false-true}
 
 -- a layer of a document stands in its tree
 pub stands : (id : ℕ) (doc : Doc) (t : Forest (Unit {0})) → t ≡ shape doc → is_some (content id doc) ≡ true → has id t ≡ false → ⊥
@@ -41,13 +43,11 @@ still_there id f old new e is = ap (λ d. is_some (content id d)) e ∙ some_adj
 
 -- a reach between two documents lets the entry be laid on either
 pub fits_new : (now : Doc) (e : Entry) → Reaches (reach_in e) (doc_of now e) now → FitsOn now e
-fits_new now (entry.Whole doc) r = tt
-fits_new now (entry.Tree t) r = tt
+fits_new now (entry.Tree a) r = tt
 fits_new now (entry.Layer id found) r = ap (λ d. is_some (content id d)) r.changed ∙ ap is_some (content-with_content id r.after r.before (adjusted id (patched found) now) r.was)
 
 pub fits_old : (now : Doc) (e : Entry) → Reaches (reach_in e) now (doc_of now e) → FitsOn now e
-fits_old now (entry.Whole doc) r = tt
-fits_old now (entry.Tree t) r = tt
+fits_old now (entry.Tree a) r = tt
 fits_old now (entry.Layer id found) r = ap is_some r.was
 
 -- an entry that gives back the old document is its neighbour
@@ -64,34 +64,39 @@ past_take zero past now h = tt
 past_take (suc n) [] now h = tt
 past_take (suc n) (e ∷ past) now h = (h.0, past_take n past e.0 h.1)
 
--- more keys stand
+filled_more : (slots : List Slot) (f g : ℕ → Key → Bool) → ((q : ℕ) (k : Key) → f q k ≡ true → g q k ≡ true) → (q : ℕ) (k : Key) → once_filled has_key f slots q k ≡ true → once_filled has_key g slots q k ≡ true
+filled_more [] f g more = more
+filled_more (s ∷ rest) f g more = filled_more rest (λ q. cond (eqb s.id q) (has_key s.device) (f q)) (λ q. cond (eqb s.id q) (has_key s.device) (g q)) (λ q k. go (eqb s.id q) q k)
+  where
+    go : (b : Bool) (q : ℕ) (k : Key) → cond b (has_key s.device) (f q) k ≡ true → cond b (has_key s.device) (g q) k ≡ true
+    go true q k h = h
+    go false q k h = more q k h
+
+arranged_grows : (a : Arrangement) (ks more : Standing) → Grows ks more → Grows (arranged_standing a ks) (arranged_standing a more)
+arranged_grows a ks more grows = record {
+  slots = grows.slots;
+  layers = λ q. λ i. once_filled is_some (λ p. grows.layers p i) a.slots.items q;
+  keys = filled_more a.slots.items ks.keys more.keys grows.keys;
+}
+
+-- more stands
 pub more_fit : (ks more : Standing) → Grows ks more → (es : List Entry) → AllFit ks es → AllFit more es
 more_fit ks more grows [] h = tt
-more_fit ks more grows (entry.Whole doc ∷ es) h = h
-more_fit ks more grows (entry.Tree t ∷ es) h = ((λ q. h.0 q ∙ sym (grows.layers q)), more_fit ks more grows es h.1)
+more_fit ks more grows (entry.Tree a ∷ es) h = (
+  record { layers = λ q. h.0.layers q ∙ (λ i. once_filled is_some (λ p. sym (grows.layers p) i) a.slots.items q); slots = have_more ks.slots more.slots grows.slots a.slots.items h.0.slots },
+  more_fit (arranged_standing a ks) (arranged_standing a more) (arranged_grows a ks more grows) es h.1,
+)
 more_fit ks more grows (entry.Layer id found ∷ es) h = ((λ k i. grows.keys id k (h.0 k i)), more_fit ks more grows es h.1)
-
-pub same_fit : (ks others : Standing) → StandsAs ks others → (es : List Entry) → AllFit ks es → AllFit others es
-same_fit ks others same es = more_fit ks others (record { layers = same.layers; keys = λ q k h. same.keys q k ∙ h }) es
 
 pub take_fit : (n : ℕ) (ks : Standing) (es : List Entry) → AllFit ks es → AllFit ks (take n es)
 take_fit zero ks es h = tt
 take_fit (suc n) ks [] h = tt
-take_fit (suc n) ks (e ∷ es) h = (h.0, take_fit n (keys_after ks e) es h.1)
+take_fit (suc n) ks (e ∷ es) h = (h.0, take_fit n (standing_after ks e) es h.1)
 
--- once an entry was exchanged, the keys stand for those that come after it, and for it on the other side
-module _ (old new : Tiled) (was is : Entry) (t : TradesKeys old new was is) where
-  pub next_fit : (es : List Entry) → AllFit (standing old) (was ∷ es) → AllFit (standing new) es
-  next_fit es h = same_fit (keys_after (standing old) was) (standing new) t.now es h.1
+-- once an entry was exchanged, those that come after it fit, and it does on the other side
+module _ (old new : Standing) (was is : Entry) (t : Trades old new was is) where
+  pub next_fit : (es : List Entry) → AllFit old (was ∷ es) → AllFit new es
+  next_fit es h = subst (λ ks. AllFit ks es) t.now h.1
 
-  pub back_fit : (es : List Entry) → AllFit (standing old) es → AllFit (standing new) (is ∷ es)
-  back_fit es h = (t.fits, same_fit (standing old) (keys_after (standing new) is) t.back es h)
-
--- the pixels of a layer change
-pub adjusted_stands : (id : ℕ) (f : Layer → Layer) (old new : Tiled) → doc_in new ≡ adjusted id f (doc_in old) → ((q : ℕ) (k : Key) → key_stands new q k ≡ key_stands old q k) → StandsAs (standing old) (standing new)
-adjusted_stands id f old new is keys = record { layers = λ q. sym (some_in q new) ∙ ap (λ d. is_some (content q d)) is ∙ some_adjusted q id f (doc_in old) ∙ some_in q old; keys = keys }
-
--- a layer's tiles were exchanged
-pub layer_trades : (id : ℕ) (found after : Keyed Pixels) (old new : Tiled) → doc_in new ≡ adjusted id (patched found) (doc_in old) → ((q : ℕ) (k : Key) → key_stands new q k ≡ key_stands old q k) → StandIn after (content id new)
-    → TradesKeys old new (entry.Layer id found) (entry.Layer id after)
-layer_trades id found after old new is keys stand = record { now = adjusted_stands id (patched found) old new is keys; back = adjusted_stands id (patched found) old new is keys; fits = stand }
+  pub back_fit : (es : List Entry) → AllFit old es → AllFit new (is ∷ es)
+  back_fit es h = (t.fits, subst (λ ks. AllFit ks es) (sym t.back) h)

@@ -1,6 +1,5 @@
 -- Changes of a tree are natural in the contents of its paint nodes.
 use Rattle.std.proofs.Common.{◌≡◌, ℕ, suc, zero, ◌+◌, Bool, true, false, ◌||◌, not, cond, Option, Some, None, is_some, Result, Ok, Err, [], ◌∷◌, refl, sym, ap, ◌∙◌, arith, eqb, ltb, max, inl, inr}
-use Rattle.std.specs.Option.{option_map}
 use Rattle.std.proofs.lemmas.Bool.Decides.{nat_tests}
 use Rattle.pixel_core.specs.Rgba.{Rgba}
 use Rattle.geom_core.proofs.Tests.{none_right, true_or_false, kept}
@@ -23,7 +22,7 @@ cond_same b f g i = cond b (f i) (g i)
 test_same : {A : Type 0} {b c : Bool} {x y z w : A} → b ≡ c → x ≡ y → z ≡ w → cond b x z ≡ cond c y w
 test_same e f g i = cond (e i) (f i) (g i)
 
-through_cond : {A B : Type 0} (f : A → B) (b : Bool) (x y : A) → f (cond b x y) ≡ cond b (f x) (f y)
+pub through_cond : {A B : Type 0} (f : A → B) (b : Bool) (x y : A) → f (cond b x y) ≡ cond b (f x) (f y)
 through_cond f true x y = refl
 through_cond f false x y = refl
 
@@ -64,26 +63,6 @@ pub each_shape : {B : Type 0} (g : ℕ → B) (f : Forest (Unit {0})) → each (
 each_shape g none = refl
 each_shape g (paint id look x rest) = ap (paint id look tt) (each_shape g rest)
 each_shape g (group id look nodes rest) = same_group id look (each_shape g nodes) (each_shape g rest)
-
--- contents one after another
-pub each_each : {A B C : Type 0} (f : B → C) (g : ℕ → B) (t : Forest A) → each (λ q y. f y) (each (λ q x. g q) t) ≡ each (λ q x. f (g q)) t
-each_each f g none = refl
-each_each f g (paint id look x rest) = ap (paint id look (f (g id))) (each_each f g rest)
-each_each f g (group id look nodes rest) = same_group id look (each_each f g nodes) (each_each f g rest)
-
-through_or_else : {A B : Type 0} (f : A → B) (a b : Option A) → or_else (option_map f a) (option_map f b) ≡ option_map f (or_else a b)
-through_or_else f None b = refl
-through_or_else f (Some x) b = refl
-
--- the content of an id by a function of the contents
-pub content_through : {A B : Type 0} (f : A → B) (q : ℕ) (t : Forest A) → content q (each (λ id x. f x) t) ≡ option_map f (content q t)
-content_through f q none = refl
-content_through {A = A} f q (paint id look x rest) = go (eqb q id) (content_through f q rest)
-  where
-    go : (b : Bool) → content q (each (λ id x. f x) rest) ≡ option_map f (content q rest) → cond b (Some (f x)) (content q (each (λ id x. f x) rest)) ≡ option_map f (cond b (Some x) (content q rest))
-    go true e = refl
-    go false e = e
-content_through f q (group id look nodes rest) = (λ i. or_else (content_through f q nodes i) (content_through f q rest i)) ∙ through_or_else f (content q nodes) (content q rest)
 
 -- the content of an id
 abbrev pub content_by : {A B : Type 0} → B → Option A → Option B

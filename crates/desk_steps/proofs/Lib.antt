@@ -5,6 +5,7 @@ pub mod Sets
 pub mod Patched
 pub mod Traded
 pub mod Rearranged
+pub mod Arranged
 pub mod Exchanged
 pub mod Archived
 pub mod Painted

@@ -1,26 +1,20 @@
--- Changes of a tree that leave the same layers.
-use Rattle.std.proofs.Common.{◌≡◌, ℕ, suc, zero, Bool, true, false, ◌||◌, not, cond, Option, Some, None, is_some, Ok, refl, sym, ap, ◌∙◌, subst, arith, eqb, inl, inr}
+-- Which layers stand in a tree after a change.
+use Rattle.std.proofs.Common.{◌≡◌, ℕ, suc, zero, Bool, true, false, ◌||◌, not, cond, Some, None, is_some, Ok, refl, sym, ap, ◌∙◌, subst, arith, eqb, inl, inr}
 use Rattle.std.proofs.lemmas.Bool.Decides.{nat_tests}
-use Rattle.std.specs.Option.{unwrap_or}
-use Rattle.geom_core.specs.Grid.{Key}
 use Rattle.geom_core.proofs.Tests.{or_left, or_right}
-use Rattle.pixel_core.specs.Rgba.{Rgba, clear}
+use Rattle.pixel_core.specs.Rgba.{Rgba}
 use Rattle.doc_model.specs.declared.tree.Look.{Look}
 use Rattle.doc_model.specs.declared.tree.Change.{Change}
 use Rattle.doc_model.specs.declared.tree.Change.TheVariants as change
-use Rattle.doc_model.specs.Layers.{Layer, plain}
-use Rattle.doc_model.specs.Forest.{Forest, none, paint, group, has, is_group, join, lower, upper, inserted, within, without, only, with_look, content, each}
-use Rattle.doc_model.specs.Changes.{changed, set_in, takes, new_look}
+use Rattle.doc_model.specs.Forest.{Forest, none, paint, group, has, is_group, join, lower, upper, inserted, within, without, only, with_look, content}
+use Rattle.doc_model.specs.Changes.{changed, no_new, set_in, takes, new_look}
 use Rattle.doc_model.proofs.Parents.{Distinct}
 use Rattle.doc_model.proofs.Paths.{or_cases}
 use Rattle.doc_model.proofs.Heights.{group_without}
-use Rattle.doc_model.proofs.TreeChanges.{answered, place_may}
+use Rattle.doc_model.proofs.TreeChanges.{answered, new_may, place_may}
 use Rattle.doc_model.proofs.TreeLaws.{without_none}
-use Rattle.machine_model.specs.Effects.{layer_in}
-use Rattle.desk_steps.specs.Documents.{Tiled, Devices, HasDevices, SameLayers, doc_in, filled, keeps_layers, key_stands, sheet_under, with_tree}
-use Rattle.desk_steps.specs.Founds.{has_key}
-use Rattle.desk_steps.proofs.Filled.{each_same, content_by, content_each, after, with_contents, changed_each, sets_in, after_old, content_before}
-use Rattle.desk_steps.proofs.Devices.{false-true, by_some, content_device, doc_in-filled, layer_under, or_else_tests}
+use Rattle.desk_steps.proofs.Filled.{sets_in, content_before}
+use Rattle.desk_steps.proofs.Devices.{false-true, or_else_tests}
 
 -- whether a paint node has the id
 abbrev drawn : {A : Type 0} → ℕ → Forest A → Bool
@@ -162,9 +156,16 @@ not_false : (b : Bool) → not b ≡ false → b ≡ true
 not_false true e = refl
 not_false false e = sym e
 
--- such a change takes no layer away
+-- whether a change takes no layer away
+abbrev pub keeps_layers : Change → Bool
+keeps_layers (change.Layer id above place pixel) = true
+keeps_layers (change.Group id above place) = true
+keeps_layers (change.Remove id) = false
+keeps_layers (change.Place id above place) = true
+keeps_layers (change.Look id look) = true
+
 drawn_stays : {A : Type 0} (fresh : Rgba → A) (c : Change) (f new : Forest A) (q : ℕ) → keeps_layers c ≡ true → changed fresh c f ≡ Ok new → Distinct f → drawn q f ≡ true → drawn q new ≡ true
-drawn_stays fresh (change.Layer id above place pixel) f new q k e d h = false-true k
+drawn_stays fresh (change.Layer id above place pixel) f new q k e d h = subst (λ n. drawn q n ≡ true) (answered _ _ _ e).1 (set_in_old q above place (paint id new_look (fresh pixel) none) f h)
 drawn_stays fresh (change.Group id above place) f new q k e d h = subst (λ n. drawn q n ≡ true) (answered _ _ _ e).1 (set_in_old q above place (group id new_look none none) f h)
 drawn_stays fresh (change.Remove id) f new q k e d h = false-true k
 drawn_stays fresh (change.Place id above place) f new q k e d h =
@@ -173,67 +174,22 @@ drawn_stays fresh (change.Place id above place) f new q k e d h =
     subst (λ n. drawn q n ≡ true) a.1 (drawn_placed q id above place f d (not_false (takes above f) may.2) may.3 h)
 drawn_stays fresh (change.Look id look) f new q k e d h = subst (λ n. drawn q n ≡ true) (answered _ _ _ e).1 (drawn_look q id look f ∙ h)
 
-sets_none : (c : Change) (q : ℕ) → keeps_layers c ≡ true → sets_in c q ≡ false
-sets_none (change.Layer id above place pixel) q k = false-true k
-sets_none (change.Group id above place) q k = refl
-sets_none (change.Remove id) q k = refl
-sets_none (change.Place id above place) q k = refl
-sets_none (change.Look id look) q k = refl
-
 both_ways : (a b : Bool) → (a ≡ true → b ≡ true) → (b ≡ true → a ≡ true) → a ≡ b
 both_ways true b f g = sym (f refl)
 both_ways false true f g = g refl
 both_ways false false f g = refl
 
--- it leaves the same layers
-pub layers_stay : {A : Type 0} (fresh : Rgba → A) (c : Change) (f new : Forest A) → keeps_layers c ≡ true → changed fresh c f ≡ Ok new → Distinct f → SameLayers new f
-layers_stay fresh c f new k e d q = both_ways (is_some (content q new)) (is_some (content q f))
-    (content_before fresh c f new q e (sets_none c q k))
+-- and those that it doesn't set in are the same
+pub layers_stay : {A : Type 0} (fresh : Rgba → A) (c : Change) (f new : Forest A) (q : ℕ) → keeps_layers c ≡ true → sets_in c q ≡ false → changed fresh c f ≡ Ok new → Distinct f → is_some (content q new) ≡ is_some (content q f)
+layers_stay fresh c f new q k other e d = both_ways (is_some (content q new)) (is_some (content q f))
+    (content_before fresh c f new q e other)
     (λ h. drawn_is q new ∙ drawn_stays fresh c f new q k e d (sym (drawn_is q f) ∙ h))
 
-some_by : {A B : Type 0} (y : B) (o : Option A) → is_some (content_by y o) ≡ is_some o
-some_by y None = refl
-some_by y (Some x) = refl
-
-pub some_each : {A B : Type 0} (g : ℕ → B) (q : ℕ) (f : Forest A) → is_some (content q (each (λ q x. g q) f)) ≡ is_some (content q f)
-some_each g q f = ap is_some (content_each g q f) ∙ some_by (g q) (content q f)
-
--- a tree has the pixels of the layers, whichever tree of the same layers had them before
-tree_with : (g : ℕ → Layer) (a b : Forest (Unit {0})) → SameLayers a b → with_tree a (each (λ q u. g q) b) ≡ each (λ q u. g q) a
-tree_with g a b same = each_same (λ q. layer_in q (each (λ q u. g q) b)) g a (λ q is. ap (λ o. unwrap_or o (plain clear)) (content_each g q b ∙ by_some (g q) (content q b) (sym (same q) ∙ is)))
-
-pub tree_over : (a b : Forest (Unit {0})) (m : Devices) → SameLayers a b → with_tree a (doc_in (filled b m)) ≡ doc_in (filled a m)
-tree_over a b m same = ap (with_tree a) (doc_in-filled b m) ∙ tree_with (layer_under m) a b same ∙ sym (doc_in-filled a m)
-
--- the document after such a change is the one with the new tree
-pub doc_rearranged : (c : Change) (t new : Forest (Unit {0})) (m : Devices) → keeps_layers c ≡ true → changed (λ pixel. tt) c t ≡ Ok new → SameLayers new t → changed plain c (doc_in (filled t m)) ≡ Ok (with_tree new (doc_in (filled t m)))
-doc_rearranged c t new m k e same =
-    ap (changed plain c) (doc_in-filled t m) ∙ changed_each plain (layer_under m) (λ pixel. tt) c t ∙ ap (with_contents (after plain c (layer_under m))) e
-    ∙ ap Ok (each_same (after plain c (layer_under m)) (layer_under m) new (λ q is. after_old plain c (layer_under m) q (sets_none c q k)) ∙ sym (doc_in-filled new m) ∙ sym (tree_over new t m same))
-
--- the layers of a document are those of its tree
-pub same_as_filled : (a t : Forest (Unit {0})) (m : Devices) (doc : Tiled) → filled t m ≡ doc → SameLayers a t → SameLayers a doc
-same_as_filled a t m doc view same q = same q ∙ sym (some_each (sheet_under m) q t) ∙ ap (λ d. is_some (content q d)) view
-
-pub same_as_tree : (a t : Forest (Unit {0})) (m : Devices) (doc : Tiled) → filled t m ≡ doc → SameLayers a doc → SameLayers a t
-same_as_tree a t m doc view same q = same q ∙ ap (λ d. is_some (content q d)) (sym view) ∙ some_each (sheet_under m) q t
-
--- the tree is exchanged with another of the same layers
-module _ (t new : Forest (Unit {0})) (m : Devices) (doc : Tiled) (view : filled t m ≡ doc) (same : SameLayers new doc) where
-  pub tree_new : doc_in (filled new m) ≡ with_tree new (doc_in doc)
-  tree_new = sym (tree_over new t m (same_as_tree new t m doc view same)) ∙ ap (λ d. with_tree new (doc_in d)) view
-
-  pub tree_back : with_tree t (doc_in (filled new m)) ≡ doc_in doc
-  tree_back = tree_over t new m (λ q. sym (same_as_tree new t m doc view same q)) ∙ ap doc_in view
-
-  pub tree_layers : SameLayers (filled new m) doc
-  tree_layers q = some_each (sheet_under m) q new ∙ same q
-
-  pub tree_same : SameLayers t (filled new m)
-  tree_same q = sym (same_as_tree new t m doc view same q) ∙ sym (some_each (sheet_under m) q new)
-
-  pub tree_devices : HasDevices t m → HasDevices new m
-  tree_devices has q = has q ∙ sym (same_as_tree new t m doc view same q)
-
-  pub tree_keys : HasDevices t m → (q : ℕ) (k : Key) → key_stands (filled new m) q k ≡ key_stands doc q k
-  tree_keys has q k = ap (λ o. has_key o k) (content_device new m (filled new m) refl (tree_devices has) q ∙ sym (content_device t m doc view has q))
+-- a new layer is there
+pub layer_comes : {A : Type 0} (fresh : Rgba → A) (id above place : ℕ) (pixel : Rgba) (f new : Forest A) → changed fresh (change.Layer id above place pixel) f ≡ Ok new → is_some (content id new) ≡ true
+layer_comes fresh id above place pixel f new e =
+    let a : (no_new id above place f ≡ None) × (set_in above place (paint id new_look (fresh pixel) none) f ≡ new) = answered _ _ _ e in
+    drawn_is id new ∙ subst (λ n. drawn id n ≡ true) a.1 (set_in_new id above place (paint id new_look (fresh pixel) none) f (not_false (takes above f) (new_may id above place f a.0).2) (or_left (eqb id id) false (own id)))
+  where
+    own : (q : ℕ) → eqb q q ≡ true
+    own q = grind (arith, nat_tests)

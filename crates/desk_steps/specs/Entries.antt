@@ -1,5 +1,5 @@
 -- A store as its present document, its entries and the stroke under way.
-use Rattle.std.specs.Prelude.{◌≡◌, ◌≤◌, ℕ, true, Bool, is_some, Option, Some, None, List, [], ◌∷◌}
+use Rattle.std.specs.Prelude.{◌≡◌, ◌≤◌, true, Bool, is_some, Option, Some, None, List, [], ◌∷◌}
 use Rattle.std.specs.FinMap as map
 use Rattle.geom_core.specs.Grid.{Key}
 use Rattle.doc_model.specs.Forest.{content, adjusted}
@@ -8,29 +8,28 @@ use Rattle.machine_model.specs.State.{Reach}
 use Rattle.machine_model.specs.State as state
 use Rattle.history_core.specs.Stacks.{Stack}
 use Rattle.desk_steps.specs.declared.entry.Entry.{Entry}
-use Rattle.desk_steps.specs.declared.entry.Entry.TheVariants.{Whole, Tree, Layer}
+use Rattle.desk_steps.specs.declared.entry.Entry.TheVariants.{Tree, Layer}
 use Rattle.desk_steps.specs.declared.entry.Way.{Way}
 use Rattle.desk_steps.specs.Archives.{Archive, IsArchive}
 use Rattle.desk_steps.specs.Archives as archives
-use Rattle.desk_steps.specs.Documents.{Tiled, doc_in, key_stands, with_tree}
+use Rattle.desk_steps.specs.declared.document.Document.{Document}
+use Rattle.desk_steps.specs.Slots.{Standing, standing}
+use Rattle.desk_steps.specs.Documents.{doc_in, arranged, arranged_standing, Fits}
 use Rattle.desk_steps.specs.Founds.{keys_in, patched}
 
 -- the document that an entry gives back, from the one that it is laid on
 abbrev pub doc_of : Doc → Entry → Doc
-doc_of now (Whole doc) = doc_in doc
-doc_of now (Tree t) = with_tree t now
+doc_of now (Tree a) = arranged a now
 doc_of now (Layer id found) = adjusted id (patched found) now
 
 -- how far the change between the two reaches
 abbrev pub reach_in : Entry → Reach
-reach_in (Whole doc) = state.Whole
-reach_in (Tree t) = state.Whole
+reach_in (Tree a) = state.Whole
 reach_in (Layer id found) = state.Part id (keys_in found)
 
 -- an entry of a layer is laid on a document with that paint layer
 abbrev pub FitsOn : Doc → Entry → Type 0
-FitsOn now (Whole doc) = Unit {0}
-FitsOn now (Tree t) = Unit {0}
+FitsOn now (Tree a) = Unit {0}
 FitsOn now (Layer id found) = is_some (content id now) ≡ true
 
 -- the documents that entries give back one after another, each with its reach
@@ -38,47 +37,26 @@ abbrev pub laid : Doc → List Entry → List (Doc × Reach)
 laid now [] = []
 laid now (e ∷ es) = (doc_of now e, reach_in e) ∷ laid (doc_of now e) es
 
--- which layers there are, and which keys stand in each
-pub record Standing : Type 0 where
-  pub layers : ℕ → Bool
-  pub keys : ℕ → Key → Bool
+-- what stands in the document that an entry gives back
+abbrev pub standing_after : Standing → Entry → Standing
+standing_after ks (Tree a) = arranged_standing a ks
+standing_after ks (Layer id found) = ks
 
--- those of a document
-abbrev pub standing : Tiled → Standing
-standing doc = record { layers = λ q. is_some (content q doc); keys = key_stands doc }
-
--- the same layers and keys
-pub record StandsAs (old new : Standing) : Type 0 where
-  pub layers : (q : ℕ) → new.layers q ≡ old.layers q
-  pub keys : (q : ℕ) (k : Key) → new.keys q k ≡ old.keys q k
-
--- the same layers, and the keys or more
-pub record Grows (old new : Standing) : Type 0 where
-  pub layers : (q : ℕ) → new.layers q ≡ old.layers q
-  pub keys : (q : ℕ) (k : Key) → old.keys q k ≡ true → new.keys q k ≡ true
-
--- those of the document that an entry gives back
-abbrev pub keys_after : Standing → Entry → Standing
-keys_after ks (Whole doc) = standing doc
-keys_after ks (Tree t) = ks
-keys_after ks (Layer id found) = ks
-
--- a tree is laid on a document of the same layers, an entry of a layer where its keys stand
+-- an arrangement fits the slots, and the keys of an entry of a layer stand
 abbrev pub FitsKeys : Standing → Entry → Type 0
-FitsKeys ks (Whole doc) = Unit {0}
-FitsKeys ks (Tree t) = (q : ℕ) → is_some (content q t) ≡ ks.layers q
+FitsKeys ks (Tree a) = Fits a ks
 FitsKeys ks (Layer id found) = (k : Key) → map.contains_key found k ≡ true → ks.keys id k ≡ true
 
--- so is each of entries that are laid one after another
+-- so does each of entries that are laid one after another
 abbrev pub AllFit : Standing → List Entry → Type 0
 AllFit ks [] = Unit {0}
-AllFit ks (e ∷ es) = FitsKeys ks e × AllFit (keys_after ks e) es
+AllFit ks (e ∷ es) = FitsKeys ks e × AllFit (standing_after ks e) es
 
--- the entry gives back the layers and keys of the one document, and then those of the other
-pub record TradesKeys (old new : Tiled) (was is : Entry) : Type 0 where
-  pub now : StandsAs (keys_after (standing old) was) (standing new)
-  pub back : StandsAs (standing old) (keys_after (standing new) is)
-  pub fits : FitsKeys (standing new) is
+-- the entry gives back what stands in the one document, and then what stood in the other
+pub record Trades (old new : Standing) (was is : Entry) : Type 0 where
+  pub now : standing_after old was ≡ new
+  pub back : standing_after new is ≡ old
+  pub fits : FitsKeys new is
 
 -- the document from before the stroke under way
 abbrev pub base_of : Option Way → Doc → Doc
@@ -118,6 +96,6 @@ pub record KeysStand (ks : Standing) (history : Stack Entry) (way : Option Way) 
   pub under_way : WayFits ks way
 
 -- a store whose layers are devices
-pub record IsStored (doc : Tiled) (history : Stack Entry) (way : Option Way) (room : Bool) : Type 0 where
+pub record IsStored (doc : Document) (history : Stack Entry) (way : Option Way) (room : Bool) : Type 0 where
   pub kept : IsKept (doc_in doc) history way room
-  pub stand : KeysStand (standing doc) history way
+  pub stand : KeysStand (standing doc.slots) history way

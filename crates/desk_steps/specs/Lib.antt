@@ -1,6 +1,7 @@
 pub mod Archives
 pub mod KeySets
 pub mod Founds
+pub mod Slots
 pub mod Documents
 pub mod Entries
 pub mod Tiles

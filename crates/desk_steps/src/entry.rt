@@ -4,23 +4,21 @@ ghost use Rattle.std.specs.Prelude.{◌≡◌, ◌≤◌, ◌+◌};
 ghost use Rattle.doc_model.specs.Laws.{IsDocument};
 ghost use Rattle.desk_steps.specs.Archives.{TellsReach, tiles_in};
 ghost use Rattle.desk_steps.specs.Documents.{doc_in};
-ghost use Rattle.desk_steps.specs.Entries.{doc_of, reach_in, standing, FitsOn, FitsKeys, TradesKeys};
+ghost use Rattle.desk_steps.specs.Entries.{doc_of, reach_in, FitsOn, FitsKeys, Trades};
+ghost use Rattle.desk_steps.specs.Slots.{standing};
 
+use crate::arrangement::Arrangement;
 use crate::document::Document;
 use crate::found::Found;
 use crate::reach::Reach;
 use memento_core::Steps;
-use std::mem;
 use std::sync::ledger::Ledger;
-use tree_core::Tree;
 
 /// What gives back the document from before a change, or after it.
 #[derive(Drop)]
 pub enum Entry {
-    /// The document.
-    Whole(Document),
-    /// The tree of the same layers.
-    Tree(Tree),
+    /// The other tree, with the devices that it brings or takes.
+    Tree(Arrangement),
     /// What stood in some tiles of a layer, which alone differ.
     Layer { id: u16, found: Found },
 }
@@ -37,23 +35,18 @@ impl Entry {
     /// between them reaches. One step for each tile of a layer, and no memory.
     pub fn exchange<L: Ledger>(&mut self, doc: &mut Document, steps: &mut Steps<L>) -> Reach
         requires layer { FitsOn (doc_in doc.old) self.old }
-        requires there { FitsKeys (standing doc.old) self.old }
+        requires there { FitsKeys (standing doc.old.slots) self.old }
         ensures doc { doc_in doc.new ≡ doc_of (doc_in doc.old) self.old }
         ensures back { doc_of (doc_in doc.new) self.new ≡ doc_in doc.old }
         ensures same { reach_in self.new ≡ reach_in self.old }
-        ensures keys { TradesKeys doc.old doc.new self.old self.new }
+        ensures keys { Trades (standing doc.old.slots) (standing doc.new.slots) self.old self.new }
         ensures reach { TellsReach (reach_in self.old) (doc_in doc.new) result }
         ensures known { IsDocument (doc_in doc.new) }
         ensures counts { steps.new ≤ steps.old + tiles_in (reach_in self.old) }
     {
         match self {
-            Entry::Whole(other) => {
-                mem::swap(doc, other);
-                let _tree = doc.tree();
-                Reach::Whole
-            }
-            Entry::Tree(tree) => {
-                doc.exchange_tree(tree);
+            Entry::Tree(other) => {
+                doc.arrange(other);
                 let _tree = doc.tree();
                 Reach::Whole
             }

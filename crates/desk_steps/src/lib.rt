@@ -1,6 +1,7 @@
 //! Documents with their history, and the stroke that is painted on them.
 #![tactic(auto)]
 
+mod arrangement;
 mod document;
 mod entry;
 mod found;

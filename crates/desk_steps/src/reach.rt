@@ -4,6 +4,7 @@ ghost use Rattle.std.specs.Prelude.{◌≡◌};
 
 use doc_model::TreeFault;
 use geom_core::{NoMemory, Touched};
+use std::alloc::AllocFailed;
 
 /// How a stroke began.
 #[derive(Clone, Copy, Debug, PartialEq, Eq)]
@@ -40,6 +41,16 @@ impl From<NoMemory> for TreeRefusal {
     ghost from_gives = { λ _ e. e ≡ TreeRefusal.NoMemory };
 
     fn from(_e: NoMemory) -> TreeRefusal {
+        TreeRefusal::NoMemory
+    }
+}
+
+impl<T: Drop> From<AllocFailed<T>> for TreeRefusal {
+    ghost use Rattle.desk_steps.specs.declared.reach.TreeRefusal.{TreeRefusal};
+
+    ghost from_gives = { λ _ e. e ≡ TreeRefusal.NoMemory };
+
+    fn from(_e: AllocFailed<T>) -> TreeRefusal {
         TreeRefusal::NoMemory
     }
 }

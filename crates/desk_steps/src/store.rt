@@ -16,7 +16,6 @@ ghost use Rattle.desk_steps.specs.declared.reach.Reach.TheVariants as tells;
 ghost use Rattle.desk_steps.specs.declared.reach.TreeRefusal.TheVariants as refusal;
 ghost use Rattle.desk_steps.specs.declared.reach.Begun.TheVariants.{Ready, NoLayer, NotPaint};
 ghost use Rattle.desk_steps.specs.Archives.{Archive, IsArchive, Changes, HasTouched, TellsFirst, empty_archive, layer_under_way, shape, with_put, with_painted, finished, reverted, undone, redone, tiles_in_first};
-ghost use Rattle.desk_steps.specs.Documents.{keeps_layers};
 
 use crate::document::Document;
 use crate::entry::{Entry, Way};
@@ -30,16 +29,15 @@ use memento_core::Steps;
 use pixel_core::Pixel;
 use std::alloc::Global;
 use std::marker::Model;
-use std::mem;
 use std::sync::ledger::Ledger;
 use tile_core::{Shot, Tile};
 use tree_core::Tree;
 
 /// A document of layers and groups, what can be undone and redone, and the stroke under way.
 ///
-/// A stroke notes what stood in each tile that it puts. A look, a move or a new group notes the tree, a
-/// new layer or a removal the whole document with its tiles shared. To undo or redo is to exchange
-/// them, so no tile is ever copied back.
+/// A stroke notes what stood in each tile that it puts, and a change of the tree the other tree with the
+/// devices of the layers that it brings or takes. To undo or redo is to exchange them, so no tile is
+/// ever copied back.
 #[derive(Drop)]
 pub struct Store {
     alloc: Global,
@@ -205,49 +203,16 @@ impl Store {
         ensures tree { (fault : TreeFault) → result ≡ Err (refusal.Tree fault) → changed plain change.now self.old.base ≡ Err fault }
         ensures err { OnErr result (self.new ≡ self.old) }
     {
-        match change {
-            Change::Group { .. } | Change::Place { .. } | Change::Look { .. } => {
-                self.rearrange(change)
-            }
-            Change::Layer { .. } | Change::Remove { .. } => self.renew(alloc, change),
-        }
-    }
-
-    /// Makes a change that leaves the same layers. It costs a copy of the tree, and touches no tile.
-    fn rearrange(&mut self, change: &Change) -> Result<Reach, TreeRefusal>
-        requires free { self.old.way ≡ None }
-        requires layers { keeps_layers change.now ≡ true }
-        ensures whole { IfOk result (λ r. r ≡ tells.Whole) }
-        ensures ok { OnOk result (Changes change.now self.old self.new) }
-        ensures tree { (fault : TreeFault) → result ≡ Err (refusal.Tree fault) → changed plain change.now self.old.base ≡ Err fault }
-        ensures err { OnErr result (self.new ≡ self.old) }
-    {
-        let mut tree = self.doc.rearranged(change)?;
+        let mut other = self.doc.changed(alloc, change)?;
         self.history.reserve(1)?;
-        self.doc.exchange_tree(&mut tree);
-        self.history.commit(Entry::Tree(tree));
-        self.room = false;
-        Ok(Reach::Whole)
-    }
-
-    /// Makes a change that keeps the document from before it, with the tiles of all layers shared.
-    fn renew(&mut self, alloc: Global, change: &Change) -> Result<Reach, TreeRefusal>
-        requires { self.old.way ≡ None }
-        ensures whole { IfOk result (λ r. r ≡ tells.Whole) }
-        ensures ok { OnOk result (Changes change.now self.old self.new) }
-        ensures tree { (fault : TreeFault) → result ≡ Err (refusal.Tree fault) → changed plain change.now self.old.base ≡ Err fault }
-        ensures err { OnErr result (self.new ≡ self.old) }
-    {
-        let next = self.doc.changed(alloc, change)?;
-        self.history.reserve(1)?;
-        let before = mem::replace(&mut self.doc, next);
-        self.history.commit(Entry::Whole(before));
+        self.doc.arrange(&mut other);
+        self.history.commit(Entry::Tree(other));
         self.room = false;
         Ok(Reach::Whole)
     }
 
     /// Undoes the newest change. None exactly where there is none. No memory. The tiles of a stroke are
-    /// exchanged, a step each; after a change of the tree the tree is, or the document as a whole.
+    /// exchanged, a step each; after a change of the tree the tree is, with the devices that differ.
     pub fn undo<L: Ledger>(&mut self, steps: &mut Steps<L>) -> Option<Reach>
         requires { self.old.way ≡ None }
         ensures none { IsNone result ↔ (self.old.past ≡ []) }
@@ -260,9 +225,8 @@ impl Store {
         Some(entry.exchange(&mut self.doc, steps))
     }
 
-    /// Redoes the change that was undone last. None exactly where there is none. No memory. The tiles of
-    /// a stroke are exchanged, a step each; after a change of the tree the tree is, or the document as a
-    /// whole.
+    /// Redoes the change that was undone last. None exactly where there is none. No memory, and the
+    /// steps of `undo`.
     pub fn redo<L: Ledger>(&mut self, steps: &mut Steps<L>) -> Option<Reach>
         requires { self.old.way ≡ None }
         ensures none { IsNone result ↔ (self.old.future ≡ []) }

@@ -1,6 +1,6 @@
 //! Worked histories, and that each call can succeed.
 
-ghost use Rattle.std.specs.Prelude.{◌≡◌, ◌<◌, ◌≤◌, None, OnOk, is_some};
+ghost use Rattle.std.specs.Prelude.{◌≡◌, ◌<◌, ◌≤◌, None, OnOk};
 
 use super::*;
 use doc_model::{Change, Job, Kind, Look};
@@ -28,98 +28,25 @@ fn blue() -> Pixel {
 
 fn crosses<T: Send>(_x: &T) {}
 
-/// Sets a layer of one pixel in, at the top. Whether it came.
-fn add_layer(store: &mut Store, alloc: Global, id: u16, ground: Pixel) -> bool
-    requires { store.old.way ≡ None }
-    ensures { store.new.way ≡ None }
-{
-    let change = Change::Layer {
+/// Fills a rectangle.
+fn fill(rect: Rect, colour: Pixel) -> (Kind, Job) {
+    let fill = Job::Fill {
+        rect,
+        colour,
+        op: Op::Over,
+        strength: 255,
+    };
+    (Kind::Seq, fill)
+}
+
+/// Sets a layer of one pixel in, at the bottom.
+fn layer(id: u16, ground: Pixel) -> Change {
+    Change::Layer {
         id,
         parent: 0,
         place: 0,
         ground,
-    };
-    match store.change(alloc, &change) {
-        Ok(_) => true,
-        Err(_) => false,
     }
-}
-
-/// A stroke that puts nothing, where it can begin.
-fn stroke(store: &mut Store, id: u16) -> Result<Begun, NoMemory>
-    requires { store.old.way ≡ None }
-    ensures { store.new.way ≡ None }
-{
-    store.prepare()?;
-    match store.begin(id)? {
-        Begun::Ready => {
-            store.finish();
-            Ok(Begun::Ready)
-        }
-        begun => Ok(begun),
-    }
-}
-
-/// How many undos find something to undo, up to 4.
-fn undos<L: Ledger>(store: &mut Store, steps: &mut Steps<L>) -> u8
-    requires { store.old.way ≡ None }
-    ensures { store.new.way ≡ None }
-{
-    for i in 0..4 {
-        if store.undo(steps).is_none() {
-            return i;
-        }
-    }
-    4
-}
-
-/// How many redos find something to redo, up to 4.
-fn redos<L: Ledger>(store: &mut Store, steps: &mut Steps<L>) -> u8
-    requires { store.old.way ≡ None }
-    ensures { store.new.way ≡ None }
-{
-    for i in 0..4 {
-        if store.redo(steps).is_none() {
-            return i;
-        }
-    }
-    4
-}
-
-/// Everything undone, redone, forgotten but for the newest, and undone again.
-fn back_and_forth<L: Ledger>(store: &mut Store, blank: Blank) -> [u8; 3]
-    requires name { blank.name ≡ L.name }
-    requires parts { blank.parts ≡ L.parts }
-    requires some { 0 < blank.parts }
-    requires rest { store.old.way ≡ None }
-    ensures { store.new.way ≡ None }
-{
-    let mut steps = Steps::<L>::new(blank);
-    let undone = undos(store, &mut steps);
-    let redone = redos(store, &mut steps);
-    store.purge(1);
-    [undone, redone, undos(store, &mut steps)]
-}
-
-#[test]
-fn a_stroke_and_two_layers(rt: HostRuntime) -> Result<(), Fail> {
-    let alloc = rt.alloc();
-    let red = red();
-    let mut store = Store::new(alloc)?;
-    assert_eq!(rt; stroke(&mut store, 9)?, Begun::NoLayer);
-    assert_eq!(rt; stroke(&mut store, 0)?, Begun::NotPaint);
-    assert!(rt; add_layer(&mut store, alloc, 1, red));
-    assert!(rt; add_layer(&mut store, alloc, 2, Pixel::CLEAR));
-    assert!(rt; !add_layer(&mut store, alloc, 1, red));
-    assert_eq!(rt; stroke(&mut store, 2)?, Begun::Ready);
-    assert_eq!(rt;
-        back_and_forth::<Brand>(&mut store, Blank::new(1)),
-        [3, 3, 1]
-    );
-    assert!(rt; store.tree().has(2));
-    assert!(rt; store.tile(1, ORIGIN).is_none());
-    crosses(&store);
-    Ok(())
 }
 
 /// The work of a point operation that writes in one tile.
@@ -131,39 +58,35 @@ fn work<'a>(rt: &impl Abort, entry: &'a (Kind, Job)) -> PointWork<'a> {
     work
 }
 
-/// A stroke on layer 1 that paints two jobs, one after the other.
-fn paint_both(
+/// A stroke that paints two jobs, one after the other, on a layer where it can begin.
+fn stroke(
     rt: &impl Abort,
     alloc: Global,
     store: &mut Store,
-    first: &(Kind, Job),
-    second: &(Kind, Job),
-) -> Result<(), NoMemory>
+    id: u16,
+    jobs: &[(Kind, Job); 2],
+) -> Result<Begun, NoMemory>
     requires { store.old.way ≡ None }
     ensures { OnOk result (store.new.way ≡ None) }
 {
     store.prepare()?;
-    match store.begin(1)? {
+    match store.begin(id)? {
         Begun::Ready => {
-            store.paint(alloc, &work(rt, first))?;
-            store.paint(alloc, &work(rt, second))?;
+            store.paint(alloc, &work(rt, &jobs[0]))?;
+            store.paint(alloc, &work(rt, &jobs[1]))?;
             store.finish();
-            Ok(())
+            Ok(Begun::Ready)
         }
-        _ => Err(NoMemory),
+        begun => Ok(begun),
     }
 }
 
-/// Whether there was something to undo.
-fn undone<L: Ledger>(store: &mut Store, blank: Blank) -> bool
-    requires name { blank.name ≡ L.name }
-    requires parts { blank.parts ≡ L.parts }
-    requires some { 0 < blank.parts }
-    requires rest { store.old.way ≡ None }
+/// Whether the change of the tree was made.
+fn changes(store: &mut Store, alloc: Global, change: Change) -> bool
+    requires { store.old.way ≡ None }
     ensures { store.new.way ≡ None }
 {
-    let mut steps = Steps::<L>::new(blank);
-    store.undo(&mut steps).is_some()
+    store.change(alloc, &change).is_ok()
 }
 
 /// The pixel of layer 1 in a column and a row of that tile. None where no tile stands there.
@@ -178,13 +101,8 @@ fn pixel_of(store: &Store, col: u8, row: u8) -> Option<Pixel>
 fn a_fill_and_a_dab(rt: HostRuntime) -> Result<(), Fail> {
     let alloc = rt.alloc();
     let mut store = Store::new(alloc)?;
-    assert!(rt; add_layer(&mut store, alloc, 1, Pixel::CLEAR));
-    let fill = Job::Fill {
-        rect: Rect::new(0, 0, 32, 32).expect(&rt, "a rectangle of the world"),
-        colour: red(),
-        op: Op::Over,
-        strength: 255,
-    };
+    assert!(rt; changes(&mut store, alloc, layer(1, Pixel::CLEAR)));
+    let corner = Rect::new(0, 0, 32, 32).expect(&rt, "a rectangle of the world");
     let dab = Job::Dab {
         x: 16,
         y: 16,
@@ -194,207 +112,130 @@ fn a_fill_and_a_dab(rt: HostRuntime) -> Result<(), Fail> {
         op: Op::Over,
         strength: 255,
     };
-    let fill = (Kind::Seq, fill);
-    paint_both(&rt, alloc, &mut store, &fill, &(Kind::Seq, dab))?;
+    let jobs = [fill(corner, red()), (Kind::Seq, dab)];
+    assert_eq!(rt; stroke(&rt, alloc, &mut store, 1, &jobs)?, Begun::Ready);
     assert!(rt; pixel_of(&store, 0, 0) == Some(red()));
     assert!(rt; pixel_of(&store, 16, 16) == Some(blue()));
     assert!(rt; pixel_of(&store, 40, 40) == Some(Pixel::CLEAR));
-    let whole = Job::Fill {
-        rect: ORIGIN.rect(),
-        colour: blue(),
-        op: Op::Over,
-        strength: 255,
+    assert_eq!(rt; stroke(&rt, alloc, &mut store, 9, &jobs)?, Begun::NoLayer);
+    assert_eq!(rt; stroke(&rt, alloc, &mut store, 0, &jobs)?, Begun::NotPaint);
+    assert!(rt; !changes(&mut store, alloc, layer(1, red())));
+    assert!(rt; !changes(&mut store, alloc, Change::Remove { id: 7 }));
+    crosses(&store);
+    Ok(())
+}
+
+/// What is made of a document: a change of the tree, or a stroke on layer 1.
+#[derive(Clone, Copy)]
+enum Step {
+    Tree(Change),
+    Stroke([(Kind, Job); 2]),
+}
+
+/// Whether the step was made.
+fn makes(rt: &impl Abort, alloc: Global, store: &mut Store, step: Step) -> Result<bool, NoMemory>
+    requires { store.old.way ≡ None }
+    ensures { OnOk result (store.new.way ≡ None) }
+{
+    match step {
+        Step::Tree(change) => Ok(changes(store, alloc, change)),
+        Step::Stroke(jobs) => Ok(stroke(rt, alloc, store, 1, &jobs)? == Begun::Ready),
+    }
+}
+
+/// A history: layer 1 is painted, hidden and moved into a group, painted again, and removed with it.
+/// Another layer gets its id.
+fn history(corner: Rect) -> [Step; 9] {
+    let group = Change::Group {
+        id: 7,
+        parent: 0,
+        place: 1,
     };
-    paint_both(&rt, alloc, &mut store, &(Kind::Seq, whole), &fill)?;
-    assert!(rt; pixel_of(&store, 0, 0) == Some(red()));
-    assert!(rt; pixel_of(&store, 40, 40) == Some(blue()));
-    assert!(rt; undone::<Brand>(&mut store, Blank::new(1)));
-    assert!(rt; pixel_of(&store, 0, 0) == Some(red()));
-    assert!(rt; pixel_of(&store, 40, 40) == Some(Pixel::CLEAR));
-    assert!(rt; undone::<Brand>(&mut store, Blank::new(1)));
-    assert!(rt; store.tree().has(1));
-    assert!(rt; pixel_of(&store, 0, 0).is_none());
-    Ok(())
-}
-
-/// Whether there was something to redo.
-fn redone<L: Ledger>(store: &mut Store, blank: Blank) -> bool
-    requires name { blank.name ≡ L.name }
-    requires parts { blank.parts ≡ L.parts }
-    requires some { 0 < blank.parts }
-    requires rest { store.old.way ≡ None }
-    ensures { store.new.way ≡ None }
-{
-    let mut steps = Steps::<L>::new(blank);
-    store.redo(&mut steps).is_some()
-}
-
-#[test]
-fn two_strokes_and_a_layer_between(rt: HostRuntime) -> Result<(), Fail> {
-    let alloc = rt.alloc();
-    let mut store = Store::new(alloc)?;
-    assert!(rt; add_layer(&mut store, alloc, 1, Pixel::CLEAR));
-    let corner = (
-        Kind::Seq,
-        Job::Fill {
-            rect: Rect::new(0, 0, 8, 8).expect(&rt, "a rectangle of the world"),
-            colour: red(),
+    let look = Change::Look {
+        id: 1,
+        look: Look {
+            opacity: 255,
             op: Op::Over,
-            strength: 255,
+            visible: false,
         },
-    );
-    let middle = (
-        Kind::Seq,
-        Job::Fill {
-            rect: Rect::new(4, 4, 32, 32).expect(&rt, "a rectangle of the world"),
-            colour: blue(),
-            op: Op::Over,
-            strength: 255,
-        },
-    );
-    paint_both(&rt, alloc, &mut store, &corner, &corner)?;
-    assert!(rt; add_layer(&mut store, alloc, 2, blue()));
-    paint_both(&rt, alloc, &mut store, &middle, &corner)?;
-    assert!(rt; pixel_of(&store, 4, 4) == Some(red()));
-    assert!(rt; pixel_of(&store, 30, 30) == Some(blue()));
-    for _ in 0..2 {
-        assert!(rt; undone::<Brand>(&mut store, Blank::new(1)));
-        assert!(rt; pixel_of(&store, 4, 4) == Some(red()));
-        assert!(rt; pixel_of(&store, 30, 30) == Some(Pixel::CLEAR));
-        assert!(rt; undone::<Brand>(&mut store, Blank::new(1)));
-        assert!(rt; !store.tree().has(2));
-        assert!(rt; undone::<Brand>(&mut store, Blank::new(1)));
-        assert!(rt; pixel_of(&store, 4, 4).is_none());
-        assert!(rt; redone::<Brand>(&mut store, Blank::new(1)));
-        assert!(rt; pixel_of(&store, 4, 4) == Some(red()));
-        assert!(rt; pixel_of(&store, 30, 30) == Some(Pixel::CLEAR));
-        assert!(rt; redone::<Brand>(&mut store, Blank::new(1)));
-        assert!(rt; store.tree().has(2));
-        assert!(rt; redone::<Brand>(&mut store, Blank::new(1)));
-        assert!(rt; pixel_of(&store, 4, 4) == Some(red()));
-        assert!(rt; pixel_of(&store, 30, 30) == Some(blue()));
-    }
-    Ok(())
-}
-
-/// How many undos find something to undo, or redos to redo, up to 4.
-fn up_to_four<L: Ledger>(store: &mut Store, blank: Blank, redo: bool) -> u8
-    requires name { blank.name ≡ L.name }
-    requires parts { blank.parts ≡ L.parts }
-    requires some { 0 < blank.parts }
-    requires rest { store.old.way ≡ None }
-    ensures { store.new.way ≡ None }
-{
-    let mut steps = Steps::<L>::new(blank);
-    if redo {
-        redos(store, &mut steps)
-    } else {
-        undos(store, &mut steps)
-    }
-}
-
-/// Whether the change of the tree was made.
-fn changes(store: &mut Store, alloc: Global, change: Change) -> bool
-    requires { store.old.way ≡ None }
-    ensures { store.new.way ≡ None }
-{
-    store.change(alloc, &change).is_ok()
-}
-
-/// Layer 1 is hidden, a group comes above it, and it moves into the group. Whether each was made.
-fn hide_and_move(store: &mut Store, alloc: Global) -> [bool; 3]
-    requires { store.old.way ≡ None }
-    ensures { store.new.way ≡ None }
-{
-    let hidden = Look {
-        opacity: 255,
-        op: Op::Over,
-        visible: false,
+    };
+    let into = Change::Place {
+        id: 1,
+        parent: 7,
+        place: 0,
     };
     [
-        changes(
-            store,
-            alloc,
-            Change::Look {
-                id: 1,
-                look: hidden,
-            },
-        ),
-        changes(
-            store,
-            alloc,
-            Change::Group {
-                id: 7,
-                parent: 0,
-                place: 1,
-            },
-        ),
-        changes(
-            store,
-            alloc,
-            Change::Place {
-                id: 1,
-                parent: 7,
-                place: 0,
-            },
-        ),
+        Step::Tree(layer(1, Pixel::CLEAR)),
+        Step::Stroke([fill(corner, red()), fill(corner, red())]),
+        Step::Tree(layer(2, blue())),
+        Step::Tree(look),
+        Step::Tree(group),
+        Step::Tree(into),
+        Step::Stroke([fill(ORIGIN.rect(), blue()), fill(corner, red())]),
+        Step::Tree(Change::Remove { id: 7 }),
+        Step::Tree(layer(1, red())),
     ]
 }
 
-/// Whether layer 1 is shown, and the group round it.
-fn shown_in(store: &Store) -> Option<(bool, u16)> {
-    let look = store.tree().look(1)?;
-    Some((look.visible, store.tree().parent(1)?))
+/// What is seen of layers 1 and 2.
+#[derive(Clone, Copy, PartialEq, Eq)]
+struct Seen {
+    corner: Option<Pixel>,
+    middle: Option<Pixel>,
+    look: Option<Look>,
+    group: Option<u16>,
+    second: bool,
+}
+
+fn see(store: &Store) -> Seen {
+    Seen {
+        corner: pixel_of(store, 4, 4),
+        middle: pixel_of(store, 30, 30),
+        look: store.tree().look(1),
+        group: store.tree().parent(1),
+        second: store.tree().has(2),
+    }
+}
+
+/// Undoes all and redoes it: what was seen is seen again. Behind the newest that is kept nothing is.
+fn back_and_forth<L: Ledger>(rt: &impl Abort, store: &mut Store, blank: Blank, seen: &[Seen])
+    requires name { blank.name ≡ L.name }
+    requires parts { blank.parts ≡ L.parts }
+    requires some { 0 < blank.parts }
+    requires rest { store.old.way ≡ None }
+    ensures { store.new.way ≡ None }
+{
+    let mut steps = Steps::<L>::new(blank);
+    for i in 1..seen.len() {
+        assert!(rt; store.undo(&mut steps).is_some());
+        assert!(rt; see(store) == seen[seen.len() - 1 - i]);
+    }
+    assert!(rt; store.undo(&mut steps).is_none());
+    for i in 1..seen.len() {
+        assert!(rt; store.redo(&mut steps).is_some());
+        assert!(rt; see(store) == seen[i]);
+    }
+    assert!(rt; store.redo(&mut steps).is_none());
 }
 
 #[test]
-fn strokes_and_changes_of_the_tree_between(rt: HostRuntime) -> Result<(), Fail> {
+fn each_step_is_undone_and_redone(rt: HostRuntime) -> Result<(), Fail> {
     let alloc = rt.alloc();
     let mut store = Store::new(alloc)?;
-    assert!(rt; add_layer(&mut store, alloc, 1, Pixel::CLEAR));
-    let corner = (
-        Kind::Seq,
-        Job::Fill {
-            rect: Rect::new(0, 0, 8, 8).expect(&rt, "a rectangle of the world"),
-            colour: red(),
-            op: Op::Over,
-            strength: 255,
-        },
-    );
-    let whole = (
-        Kind::Seq,
-        Job::Fill {
-            rect: ORIGIN.rect(),
-            colour: blue(),
-            op: Op::Over,
-            strength: 255,
-        },
-    );
-    paint_both(&rt, alloc, &mut store, &corner, &corner)?;
-    assert!(rt; !changes(&mut store, alloc, Change::Remove { id: 7 }));
-    assert_eq!(rt; hide_and_move(&mut store, alloc), [true, true, true]);
-    assert_eq!(rt; hide_and_move(&mut store, alloc), [true, false, true]);
-    paint_both(&rt, alloc, &mut store, &whole, &whole)?;
-    assert!(rt; changes(&mut store, alloc, Change::Remove { id: 7 }));
-    assert!(rt; pixel_of(&store, 0, 0).is_none());
-    for _ in 0..2 {
-        assert!(rt; undone::<Brand>(&mut store, Blank::new(1)));
-        assert!(rt; pixel_of(&store, 40, 40) == Some(blue()));
-        assert!(rt; shown_in(&store) == Some((false, 7)));
-        assert!(rt; undone::<Brand>(&mut store, Blank::new(1)));
-        assert!(rt; pixel_of(&store, 40, 40) == Some(Pixel::CLEAR));
-        assert_eq!(rt; up_to_four::<Brand>(&mut store, Blank::new(1), false), 4);
-        assert!(rt; shown_in(&store) == Some((false, 0)));
-        assert!(rt; undone::<Brand>(&mut store, Blank::new(1)));
-        assert!(rt; shown_in(&store) == Some((true, 0)));
-        assert!(rt; pixel_of(&store, 0, 0) == Some(red()));
-        assert_eq!(rt; up_to_four::<Brand>(&mut store, Blank::new(1), false), 2);
-        assert_eq!(rt; up_to_four::<Brand>(&mut store, Blank::new(1), true), 4);
-        assert_eq!(rt; up_to_four::<Brand>(&mut store, Blank::new(1), true), 4);
-        assert!(rt; pixel_of(&store, 0, 0) == Some(blue()));
-        assert!(rt; shown_in(&store) == Some((false, 7)));
-        assert!(rt; redone::<Brand>(&mut store, Blank::new(1)));
-        assert!(rt; shown_in(&store).is_none());
+    let corner = Rect::new(0, 0, 8, 8).expect(&rt, "a rectangle of the world");
+    let mut seen = vec![in alloc; see(&store); 1]?;
+    for step in history(corner) {
+        assert!(rt; makes(&rt, alloc, &mut store, step)?);
+        seen.push(see(&store))?;
     }
+    assert!(rt; seen.len() == 10);
+    assert!(rt; seen[7].corner == Some(red()));
+    assert!(rt; seen[7].middle == Some(blue()));
+    assert!(rt; seen[7].group == Some(7));
+    assert!(rt; seen[9].corner.is_none());
+    back_and_forth::<Brand>(&rt, &mut store, Blank::new(1), &seen);
+    back_and_forth::<Brand>(&rt, &mut store, Blank::new(1), &seen);
+    store.purge(2);
+    back_and_forth::<Brand>(&rt, &mut store, Blank::new(1), &seen[7..10]);
     Ok(())
 }

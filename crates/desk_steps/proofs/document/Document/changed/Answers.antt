@@ -1,21 +1,30 @@
 use Rattle.std.proofs.Common.{◌≡◌, Ok, Err, sym, ap, ◌∙◌}
-use Rattle.doc_model.specs.Layers.{plain}
 use Rattle.doc_model.specs.Changes.{changed}
-use Rattle.desk_steps.specs.Documents.{doc_in}
-use Rattle.desk_steps.proofs.Devices.{devices_kept, doc_changed, doc_refused, refusal_same}
+use Rattle.doc_model.proofs.Weights.{tree_distinct}
+use Rattle.desk_steps.specs.Slots.{device_in, devices_after}
+use Rattle.desk_steps.proofs.Devices.{doc_refused, refusal_same}
+use Rattle.desk_steps.proofs.Arranged.{change_shown, change_fits}
 use Rattle.desk_steps.proofs.document.Document.changed.Goals as goal
 
-pub invariant_of-result : goal.invariant_of-result
-invariant_of-result c =
-    let made : changed {A = Unit {0}} (λ pixel. tt) c.args.change.now c.self.inside.tree ≡ Ok c.change.new.self = ap (changed {A = Unit {0}} (λ pixel. tt) c.args.change.now) (sym c.copy-tree.ensures) ∙ c.in-Ok.ensures.ok in
-    devices_kept c.args.change.now c.self.inside.tree c.change.new.self c.self.inside.devices c.in-Ok-devices_of.devices made c.in-Ok-devices_of.ensures c.self.invariant
+pub returns-in_ok-tree-in-Ok-clause-ok : goal.returns-in_ok-tree-in-Ok-clause-ok
+returns-in_ok-tree-in-Ok-clause-ok c =
+    let made : changed {A = Unit {0}} (λ pixel. tt) c.args.change.now c.args.self.now.tree ≡ Ok c.in_ok-tree-in-Ok.tree.value =
+    ap (changed {A = Unit {0}} (λ pixel. tt) c.args.change.now) (sym c.copy-tree.ensures) ∙ c.in-Ok.ensures.ok ∙ ap Ok (sym c.in_ok-tree-in-Ok.ensures.ok) in
+    change_shown c.args.change.now c.args.self.now.tree c.in_ok-tree-in-Ok.tree.value (device_in c.args.self.now.slots) made c.args.self.now.fits c.in_ok-slots-in-Ok.slots.items
+    (λ q. c.in_ok-slots-in-Ok.ensures.ok q ∙ ap (λ t. devices_after c.args.change.now t (device_in c.args.self.now.slots) q) (sym c.in_ok-tree-in-Ok.ensures.ok))
 
-pub returns-in-Ok-devices_of-clause-ok : goal.returns-in-Ok-devices_of-clause-ok
-returns-in-Ok-devices_of-clause-ok c =
-    let made : changed {A = Unit {0}} (λ pixel. tt) c.args.change.now c.self.inside.tree ≡ Ok c.change.new.self = ap (changed {A = Unit {0}} (λ pixel. tt) c.args.change.now) (sym c.copy-tree.ensures) ∙ c.in-Ok.ensures.ok in
-    ap (λ d. changed plain c.args.change.now (doc_in d)) (sym c.self.view_is) ∙ doc_changed c.args.change.now c.self.inside.tree c.change.new.self c.self.inside.devices c.in-Ok-devices_of.devices made c.in-Ok-devices_of.ensures
+pub returns-in_ok-tree-in-Ok-clause-fits : goal.returns-in_ok-tree-in-Ok-clause-fits
+returns-in_ok-tree-in-Ok-clause-fits c =
+    let made : changed {A = Unit {0}} (λ pixel. tt) c.args.change.now c.args.self.now.tree ≡ Ok c.in_ok-tree-in-Ok.tree.value =
+    ap (changed {A = Unit {0}} (λ pixel. tt) c.args.change.now) (sym c.copy-tree.ensures) ∙ c.in-Ok.ensures.ok ∙ ap Ok (sym c.in_ok-tree-in-Ok.ensures.ok) in
+    record {
+      layers = change_fits c.args.change.now c.args.self.now.tree c.in_ok-tree-in-Ok.tree.value (device_in c.args.self.now.slots) made c.args.self.now.fits c.in_ok-slots-in-Ok.slots.items
+          (λ q. c.in_ok-slots-in-Ok.ensures.ok q ∙ ap (λ t. devices_after c.args.change.now t (device_in c.args.self.now.slots) q) (sym c.in_ok-tree-in-Ok.ensures.ok))
+          (tree_distinct c.args.self.now.tree c.node_count-count.ensures.limits.tree) c.slots_of.new.devices c.slots_of.ensures.same;
+      slots = c.in_ok-slots-in-Ok.ensures.there;
+    }
 
 pub returns-in-Err-clause-tree : goal.returns-in-Err-clause-tree
 returns-in-Err-clause-tree c fault same =
-    let refused : changed {A = Unit {0}} (λ pixel. tt) c.args.change.now c.self.inside.tree ≡ Err c.in-Err.fault = ap (changed {A = Unit {0}} (λ pixel. tt) c.args.change.now) (sym c.copy-tree.ensures) ∙ c.in-Err.ensures.err in
-    ap (λ d. changed plain c.args.change.now (doc_in d)) (sym c.self.view_is) ∙ doc_refused c.args.change.now c.self.inside.tree c.self.inside.devices c.in-Err.fault refused ∙ ap Err (refusal_same c.in-Err.fault fault same)
+    let refused : changed {A = Unit {0}} (λ pixel. tt) c.args.change.now c.args.self.now.tree ≡ Err c.in-Err.fault = ap (changed {A = Unit {0}} (λ pixel. tt) c.args.change.now) (sym c.copy-tree.ensures) ∙ c.in-Err.ensures.err in
+    doc_refused c.args.change.now c.args.self.now.tree (device_in c.args.self.now.slots) c.in-Err.fault refused ∙ ap Err (refusal_same c.in-Err.fault fault same)

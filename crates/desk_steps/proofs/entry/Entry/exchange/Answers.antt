@@ -1,20 +1,21 @@
 use Rattle.std.proofs.Common.{◌≡◌, refl, true, is_some, sym, subst, ◌∙◌}
 use Rattle.doc_model.specs.Forest.{content}
 use Rattle.desk_steps.specs.Archives.{HasTouched, TellsReach}
+use Rattle.desk_steps.specs.Slots.{standing}
 use Rattle.desk_steps.specs.Documents.{doc_in}
 use Rattle.desk_steps.specs.Founds.{keys_in, patched}
-use Rattle.desk_steps.specs.Entries.{reach_in, standing, FitsOn, FitsKeys, TradesKeys}
+use Rattle.desk_steps.specs.Entries.{reach_in, FitsOn, FitsKeys, Trades}
 use Rattle.desk_steps.specs.declared.entry.Entry.TheVariants as entry
 use Rattle.desk_steps.specs.declared.reach.Reach.TheVariants as tells
 use Rattle.desk_steps.proofs.Devices.{some_in}
-use Rattle.desk_steps.proofs.Exchanged.{layer_trades, stands, told_part, still_there}
+use Rattle.desk_steps.proofs.Exchanged.{stands, told_part, still_there}
 use Rattle.desk_steps.proofs.entry.Entry.exchange.Goals as goal
 
 pub exchange-requires-clause-layer : goal.exchange-requires-clause-layer
 exchange-requires-clause-layer g c = sym (some_in c.in-Layer.id c.args.doc.now) ∙ subst (FitsOn (doc_in c.args.doc.now)) c.in-Layer.is c.requires.layer
 
 pub exchange-requires-clause-there : goal.exchange-requires-clause-there
-exchange-requires-clause-there g c = subst (FitsKeys (standing c.args.doc.now)) c.in-Layer.is c.requires.there
+exchange-requires-clause-there g c = subst (FitsKeys (standing c.args.doc.now.slots)) c.in-Layer.is c.requires.there
 
 pub unreachable-requires : goal.unreachable-requires
 unreachable-requires g c =
@@ -29,5 +30,5 @@ returns-in-Some-clause-reach g c = subst (λ e. TellsReach (reach_in e) (doc_in 
     (subst (λ s. HasTouched s c.touched.result) c.exchange.ensures.keys c.touched.ensures))
 
 pub returns-in-Some-clause-keys : goal.returns-in-Some-clause-keys
-returns-in-Some-clause-keys g c = subst (λ e. TradesKeys c.args.doc.now c.exchange.new.self e (entry.Layer c.in-Layer.id c.exchange.new.found)) (sym c.in-Layer.is)
-    (layer_trades c.in-Layer.id c.in-Layer.found c.exchange.new.found c.args.doc.now c.exchange.new.self c.exchange.ensures.new c.exchange.ensures.kept c.exchange.ensures.stand)
+returns-in-Some-clause-keys g c = subst (λ e. Trades (standing c.args.doc.now.slots) (standing c.exchange.new.self.slots) e (entry.Layer c.in-Layer.id c.exchange.new.found)) (sym c.in-Layer.is)
+    (record { now = c.exchange.ensures.kept; back = sym c.exchange.ensures.kept; fits = c.exchange.ensures.stand })
