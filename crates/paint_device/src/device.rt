@@ -14,7 +14,7 @@ ghost use Rattle.paint_device.specs.Grabs.{Grabs};
 ghost use Rattle.paint_device.specs.InPlace.{LaysUnder};
 ghost use Rattle.paint_device.specs.Extents.{IsExtent};
 
-use crate::keyed::{extent_of, lay_alone_under, put_under, shared, swap_under, tile_in};
+use crate::keyed::{extent_of, lay_alone_under, put_under, swap_under, tile_in};
 use geom_core::{NoMemory, Rect, TileKey, tile_of};
 use memento_core::{Plane, Steps};
 use pixel_core::Pixel;
@@ -95,16 +95,6 @@ impl Device {
         ensures none { IfNone result ((k : Key) → tile_under self.now.tiles k ≡ None) }
     {
         extent_of(&self.tiles)
-    }
-
-    /// A device of the same value. Its tiles are shared, not copied.
-    pub fn share(&self) -> Result<Device, NoMemory>
-        ensures { IfOk result (λ d. d ≡ self.now) }
-    {
-        Ok(Device {
-            ground: self.ground,
-            tiles: shared(&self.tiles)?,
-        })
     }
 }
 

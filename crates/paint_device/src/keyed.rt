@@ -1,6 +1,6 @@
 //! Maps from keys to a tile or None.
 
-ghost use Rattle.std.specs.Prelude.{◌≡◌, ◌&&◌, true, false, Some, None, is_some, IsSome, IfSome, IfNone, IfOk, OnOk, OnErr};
+ghost use Rattle.std.specs.Prelude.{◌≡◌, ◌&&◌, true, false, Some, None, is_some, IsSome, IfSome, IfNone, OnOk, OnErr};
 ghost use Rattle.std.specs.Option.{option_copied, unwrap_or};
 ghost use Rattle.std.specs.FinMap as map;
 ghost use Rattle.std.specs.BTreeMap as tree;
@@ -80,15 +80,6 @@ pub fn tile_in(tiles: &BTreeMap<TileKey, Option<Tile>>, key: TileKey) -> Option<
         Some(tile) => tile.as_ref(),
         None => None,
     }
-}
-
-/// A map of the same keys, each with the same tile or None. The tiles are shared, not copied.
-pub fn shared(
-    tiles: &BTreeMap<TileKey, Option<Tile>>,
-) -> Result<BTreeMap<TileKey, Option<Tile>>, NoMemory>
-    ensures { IfOk result (λ m. (q : Key) → tree.get key_cmp m q ≡ tree.get key_cmp tiles.now q) }
-{
-    Ok(tiles.clone()?)
 }
 
 /// The least rectangle round all tiles. None exactly where there are none.

@@ -53,9 +53,9 @@ fn a_block_in_place(rt: HostRuntime) -> Result<(), Fail> {
     if device.has(ORIGIN) {
         device.set_tile(ORIGIN, Tile::clear(alloc)?);
     }
-    let copy = device.share()?;
+    let shot = device.grab(alloc, &[one])?;
     assert!(rt; !device.lay_alone(ORIGIN, &block));
-    drop(copy);
+    drop(shot);
     assert!(rt; device.lay_alone(ORIGIN, &block));
     assert_eq!(rt; device.at(0, 0), red);
     assert_eq!(rt; device.at(1, 0), Pixel::CLEAR);
@@ -104,24 +104,23 @@ fn a_tile_back_and_forth(rt: HostRuntime) -> Result<(), Fail> {
 }
 
 #[test]
-fn a_copy_and_untouched_points(rt: HostRuntime) -> Result<(), Fail> {
+fn a_shot_and_untouched_points(rt: HostRuntime) -> Result<(), Fail> {
     let alloc = rt.alloc();
     let ground = Pixel::new(1, 2, 3, 77);
     let red = Pixel::new(255, 0, 0, 255);
     let mut device = Device::new(alloc, ground);
     assert_eq!(rt; device.at(-16384, 16383), ground);
     device.ready(ORIGIN)?;
-    let copy = device.share()?;
-    assert!(rt; device.has(ORIGIN));
+    let corner = Rect::new(63, 63, 1, 1).expect(&rt, "a rectangle of the world");
+    let shot = device.grab(alloc, &[corner])?;
     if device.has(ORIGIN) {
         device.set_tile(ORIGIN, Tile::plain(alloc, red)?);
     }
     assert_eq!(rt; device.at(63, 63), red);
     assert_eq!(rt; device.at(64, 63), ground);
-    assert_eq!(rt; copy.at(63, 63), ground);
-    assert!(rt; copy.has(ORIGIN));
-    assert!(rt; copy.tile(ORIGIN).is_none());
-    assert_eq!(rt; device.share()?.at(0, 0), red);
+    assert_eq!(rt; shot.at(63, 63), ground);
+    let later = device.grab(alloc, &[corner])?;
+    assert_eq!(rt; later.at(63, 63), red);
     crosses(&device);
     Ok(())
 }
