@@ -13,7 +13,7 @@ use crate::Block;
 use crate::rows::{Part, is_plain, lay_part, part_of, with_part};
 use geom_core::{NoMemory, Rect, TileKey};
 use pixel_core::Pixel;
-use std::alloc::{AllocError, Global};
+use std::alloc::Global;
 use std::marker::Model;
 use std::sync::Arc;
 
@@ -34,17 +34,6 @@ impl Model for Tile {
     ghost view = { λ t. t.pixels.value.items };
 
     ghost invariant = { λ t. length t.pixels.value.items ≡ 4096 };
-}
-
-impl Clone for Tile {
-    ghost is_clone = { λ a b. b ≡ a };
-
-    /// One more reference to the same pixels. It fails only where the count of references is full.
-    fn clone(&self) -> Result<Tile, AllocError> {
-        Ok(Tile {
-            pixels: Arc::try_clone(&self.pixels)?,
-        })
-    }
 }
 
 /// A change that is made to a tile's pixels in place.
@@ -118,7 +107,9 @@ impl Tile {
     pub fn share(&self) -> Result<Tile, NoMemory>
         ensures { IfOk result (λ t. t ≡ self.now) }
     {
-        Ok(self.clone()?)
+        Ok(Tile {
+            pixels: Arc::try_clone(&self.pixels)?,
+        })
     }
 
     /// A new tile with the block's pixels on the block's rectangle and this tile's elsewhere.
