@@ -30,7 +30,7 @@ use Rattle.paint_device.specs.Seen.{layer_of}
 use Rattle.paint_device.proofs.Shown.{at-layer_of, default-layer_of}
 use Rattle.machine_model.specs.Effects.{layer_in}
 use Rattle.desk_steps.specs.declared.document.Document.{Document}
-use Rattle.desk_steps.specs.Slots.{Slots, has_slot, device_in, layer_or, HasDevices, ChangesDevice, standing, Grows}
+use Rattle.desk_steps.specs.Slots.{Slots, has_slot, device_in, layer_or, ChangesDevice, standing, Grows}
 use Rattle.desk_steps.specs.Documents.{doc_in, Regains}
 use Rattle.desk_steps.specs.Founds.{GivesBack, StandIn, has_key, patched}
 use Rattle.desk_steps.specs.declared.reach.TreeRefusal.{TreeRefusal}
@@ -98,7 +98,7 @@ lent_none id d None e = content_shown d.tree (device_in d.slots) d.fits id ∙ a
 lent_none id d (Some s) e = tt
 
 -- another device under an id
-module _ (t : Forest (Unit {0})) (m n : Slots) (id : ℕ) (R : Sheet → Sheet → Type 0) (c : ChangesDevice m n id R) where
+module _ (m n : Slots) (id : ℕ) (R : Sheet → Sheet → Type 0) (c : ChangesDevice m n id R) where
   -- it is there, and under all other ids what was there
   either_device : (q : ℕ) → ((id ≡ q) × ((device_in n q ≡ Some c.device) × (device_in m q ≡ Some c.before))) ⊎ ((eqb id q ≡ false) × (device_in n q ≡ device_in m q))
   either_device q = go (eqb id q) refl
@@ -112,10 +112,6 @@ module _ (t : Forest (Unit {0})) (m n : Slots) (id : ℕ) (R : Sheet → Sheet �
   layers_stay : (q : ℕ) → is_some (device_in n q) ≡ is_some (device_in m q)
   layers_stay q = elim (either_device q) [ inl h ↦ ap is_some h.1.0 ∙ sym (ap is_some h.1.1) | inr h ↦ ap is_some h.1 ]
 
-  -- just the paint layers have devices
-  pub devices_stay : HasDevices t m → HasDevices t n
-  devices_stay has q = layers_stay q ∙ has q
-
   both_layers : (F G : Layer → Layer) → F (layer_of c.device) ≡ G (layer_of c.before) → (q : ℕ) → cond (eqb id q) (F (layer_or (device_in n q))) (layer_or (device_in n q)) ≡ cond (eqb id q) (G (layer_or (device_in m q))) (layer_or (device_in m q))
   both_layers F G e q = elim (either_device q) [
     | inl h ↦
@@ -123,21 +119,6 @@ module _ (t : Forest (Unit {0})) (m n : Slots) (id : ℕ) (R : Sheet → Sheet �
         taken (eqb id q) _ _ own ∙ ap (λ o. F (layer_or o)) h.1.0 ∙ e ∙ sym (taken (eqb id q) _ _ own ∙ ap (λ o. G (layer_or o)) h.1.1)
     | inr h ↦ kept (eqb id q) _ _ h.0 ∙ ap layer_or h.1 ∙ sym (kept (eqb id q) _ _ h.0)
   ]
-
-  -- where F makes of its layer what G makes of the one before, they make one document of both
-  pub both_adjusted : (F G : Layer → Layer) → F (layer_of c.device) ≡ G (layer_of c.before) → adjusted id F (shown t (device_in n)) ≡ adjusted id G (shown t (device_in m))
-  both_adjusted F G e =
-      sym (adjusted_each (layer_under (device_in n)) (λ q. cond (eqb id q) (F (layer_or (device_in n q))) (layer_or (device_in n q))) id F t (λ q. refl))
-      ∙ adjusted_each (layer_under (device_in m)) (λ q. cond (eqb id q) (F (layer_or (device_in n q))) (layer_or (device_in n q))) id G t (both_layers F G e)
-
-  pub doc_adjusted : (f : Layer → Layer) → layer_of c.device ≡ f (layer_of c.before) → shown t (device_in n) ≡ adjusted id f (shown t (device_in m))
-  doc_adjusted f e = sym (adjusted_nothing id (shown t (device_in n))) ∙ both_adjusted (λ l. l) f e
-
-  pub doc_same : layer_of c.device ≡ layer_of c.before → shown t (device_in n) ≡ shown t (device_in m)
-  doc_same e = doc_adjusted (λ l. l) e ∙ adjusted_nothing id (shown t (device_in m))
-
-  pub doc_back : (f : Layer → Layer) → f (layer_of c.device) ≡ layer_of c.before → adjusted id f (shown t (device_in n)) ≡ shown t (device_in m)
-  doc_back f e = both_adjusted f (λ l. l) e ∙ adjusted_nothing id (shown t (device_in m))
 
   -- what stands
   keys_of_either : (P : Bool → Bool → Type 0) → ((b : Bool) → P b b) → ((k : Key) → P (map.contains_key c.before.tiles k) (map.contains_key c.device.tiles k)) → (q : ℕ) (k : Key) → P (has_key (device_in m q) k) (has_key (device_in n q) k)
@@ -158,12 +139,28 @@ module _ (t : Forest (Unit {0})) (m n : Slots) (id : ℕ) (R : Sheet → Sheet �
       own : (q : ℕ) → eqb q q ≡ true
       own q = grind (arith, nat_tests)
 
+  module _ (t : Forest (Unit {0})) where
+    -- where F makes of its layer what G makes of the one before, they make one document of both
+    pub both_adjusted : (F G : Layer → Layer) → F (layer_of c.device) ≡ G (layer_of c.before) → adjusted id F (shown t (device_in n)) ≡ adjusted id G (shown t (device_in m))
+    both_adjusted F G e =
+        sym (adjusted_each (layer_under (device_in n)) (λ q. cond (eqb id q) (F (layer_or (device_in n q))) (layer_or (device_in n q))) id F t (λ q. refl))
+        ∙ adjusted_each (layer_under (device_in m)) (λ q. cond (eqb id q) (F (layer_or (device_in n q))) (layer_or (device_in n q))) id G t (both_layers F G e)
+
+    pub doc_adjusted : (f : Layer → Layer) → layer_of c.device ≡ f (layer_of c.before) → shown t (device_in n) ≡ adjusted id f (shown t (device_in m))
+    doc_adjusted f e = sym (adjusted_nothing id (shown t (device_in n))) ∙ both_adjusted (λ l. l) f e
+
+    pub doc_same : layer_of c.device ≡ layer_of c.before → shown t (device_in n) ≡ shown t (device_in m)
+    doc_same e = doc_adjusted (λ l. l) e ∙ adjusted_nothing id (shown t (device_in m))
+
+    pub doc_back : (f : Layer → Layer) → f (layer_of c.device) ≡ layer_of c.before → adjusted id f (shown t (device_in n)) ≡ shown t (device_in m)
+    doc_back f e = both_adjusted f (λ l. l) e ∙ adjusted_nothing id (shown t (device_in m))
+
 -- what was noted gives back the same document
 pub regained : (old new : Document) (id : ℕ) (found after : Keyed Pixels) → new.tree ≡ old.tree → (c : ChangesDevice old.slots new.slots id (GivesBack found after)) → Regains id found after old new
 regained old new id found after tree c = record {
-  same = ap (λ t. adjusted id (patched after) (shown t (device_in new.slots))) tree ∙ both_adjusted old.tree old.slots new.slots id (GivesBack found after) c (patched after) (patched found) c.holds.same;
-  grows = standing_grows old.tree old.slots new.slots id (GivesBack found after) c c.holds.keys;
-  stand = own_stands old.tree old.slots new.slots id (GivesBack found after) c after c.holds.stand;
+  same = ap (λ t. adjusted id (patched after) (shown t (device_in new.slots))) tree ∙ both_adjusted old.slots new.slots id (GivesBack found after) c old.tree (patched after) (patched found) c.holds.same;
+  grows = standing_grows old.slots new.slots id (GivesBack found after) c c.holds.keys;
+  stand = own_stands old.slots new.slots id (GivesBack found after) c after c.holds.stand;
 }
 
 -- whether a node is a paint layer, by whether it is there and no group

@@ -7,13 +7,13 @@ use Rattle.desk_steps.proofs.document.Document.exchange.Goals as goal
 pub returns-clause-new : goal.returns-clause-new
 returns-clause-new g c =
     let e = c.exchange_under.ensures.exchanges in
-    doc_adjusted c.args.self.now.tree c.args.self.now.slots c.exchange_under.new.devices c.args.id (Exchanges c.args.found.now c.exchange_under.new.found) e (patched c.args.found.now)
+    doc_adjusted c.args.self.now.slots c.exchange_under.new.devices c.args.id (Exchanges c.args.found.now c.exchange_under.new.found) e c.args.self.now.tree (patched c.args.found.now)
     (exchange_laid c.args.found.now c.exchange_under.new.found e.before e.device e.holds)
 
 pub returns-clause-back : goal.returns-clause-back
 returns-clause-back g c =
     let e = c.exchange_under.ensures.exchanges in
-    doc_back c.args.self.now.tree c.args.self.now.slots c.exchange_under.new.devices c.args.id (Exchanges c.args.found.now c.exchange_under.new.found) e (patched c.exchange_under.new.found)
+    doc_back c.args.self.now.slots c.exchange_under.new.devices c.args.id (Exchanges c.args.found.now c.exchange_under.new.found) e c.args.self.now.tree (patched c.exchange_under.new.found)
     (sym (exchange_laid c.exchange_under.new.found c.args.found.now e.device e.before (exchange_back c.args.found.now c.exchange_under.new.found e.before e.device e.holds)))
 
 pub returns-clause-keys : goal.returns-clause-keys
@@ -24,11 +24,11 @@ returns-clause-keys g c =
 pub returns-clause-stand : goal.returns-clause-stand
 returns-clause-stand g c =
     let e = c.exchange_under.ensures.exchanges in
-    own_stands c.args.self.now.tree c.args.self.now.slots c.exchange_under.new.devices c.args.id (Exchanges c.args.found.now c.exchange_under.new.found) e c.exchange_under.new.found
+    own_stands c.args.self.now.slots c.exchange_under.new.devices c.args.id (Exchanges c.args.found.now c.exchange_under.new.found) e c.exchange_under.new.found
     (exchange_stands c.args.found.now c.exchange_under.new.found e.before e.device e.holds (lent_stands _ e.before c.args.found.now (sym e.was) c.requires.there))
 
 pub returns-clause-kept : goal.returns-clause-kept
 returns-clause-kept g c =
     let e = c.exchange_under.ensures.exchanges in
-    standing_same c.args.self.now.tree c.args.self.now.slots c.exchange_under.new.devices c.args.id (Exchanges c.args.found.now c.exchange_under.new.found) e
+    standing_same c.args.self.now.slots c.exchange_under.new.devices c.args.id (Exchanges c.args.found.now c.exchange_under.new.found) e
     (exchange_keys c.args.found.now c.exchange_under.new.found e.before e.device e.holds (lent_stands _ e.before c.args.found.now (sym e.was) c.requires.there))
