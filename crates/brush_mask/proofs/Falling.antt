@@ -37,3 +37,11 @@ falls whole n p some small most = by_part 255 n whole p some (omega (arith, mul-
 -- a share of a whole is at most 255 of its 255ths
 pub quotient_byte : (whole n : ℕ) → n ≤ whole → 255 * n / whole < 256
 quotient_byte whole n most = let e : 255 * n / whole ≤ 255 = div-le_of_le-mul whole (let f : 255 * n ≤ whole * 255 = omega arith in f) in omega arith
+
+-- the products of a whole
+pub product : (whole n part p : ℕ) → 0 < whole → part ≡ 255 * p / whole + 1 → n ≤ whole → n * part ≤ 255 * p + whole
+product whole n part p some e most =
+    let u : whole * (255 * p / whole) ≤ 255 * p = mul-div-le (255 * p) whole in
+    let v : n * part ≤ whole * part = mul-le-mul_right part most in
+    let w : whole * part ≡ whole * (255 * p / whole + 1) = ap (λ x. whole * x) e in
+    omega (arith, u, v, w)

@@ -2,6 +2,9 @@
 
 ghost use Rattle.std.specs.Prelude.{◌≡◌, ◌≤◌, ◌<◌, ◌*◌, ◌/◌, ◌^◌, ◌+◌, ℕ};
 
+/// A whole below this has products that fit 32 bits.
+pub(crate) const NARROW: u16 = 4096;
+
 /// The quotients 255 * n / whole for each n up to `whole`, by one multiplication each.
 #[derive(Clone, Copy, Debug)]
 pub(crate) struct Fall {
@@ -11,6 +14,7 @@ pub(crate) struct Fall {
     shift: u32,
     ghost bound: { whole ≤ 16385 × shift ≤ 29 },
     ghost exact: { (n : ℕ) → n ≤ whole → n * part / 2 ^ shift ≡ 255 * n / whole },
+    ghost narrow: { whole < 4096 → whole * part < 2 ^ 32 },
 }
 
 impl Fall {
@@ -38,15 +42,27 @@ impl Fall {
     {
         ((n as u64 * self.part as u64) >> self.shift) as u8
     }
+
+    /// The same by a product of 32 bits, of which twice as many are made at a time.
+    #[inline]
+    pub(crate) fn narrow_at(self, n: u16) -> u8
+        requires small { self.whole < NARROW }
+        requires within { n ≤ self.whole }
+        ensures { result ≡ 255 * n / self.whole }
+    {
+        ((n as u32 * self.part) >> self.shift) as u8
+    }
 }
 
-/// As many bits as the quotients need to be exact, while a part of them fits 32 bits.
+/// As many bits as the quotients need to be exact, while a part of them fits 32 bits, and the products
+/// of a narrow whole do.
 fn shift_of(whole: u16) -> u32
     requires some { 0 < whole }
     requires small { whole ≤ 16385 }
     ensures small { result ≤ 29 }
     ensures enough { whole * whole < 2 ^ result }
     ensures fits { 255 * 2 ^ result + whole < 2 ^ 32 * whole }
+    ensures narrow { whole < NARROW → 255 * 2 ^ result + whole < 2 ^ 32 }
 {
-    if whole < 32 { 24 } else { 29 }
+    if whole < NARROW { 24 } else { 29 }
 }

@@ -1,10 +1,10 @@
 //! Rows of masks.
 
-ghost use Rattle.std.specs.Prelude.{◌≡◌, ◌≤◌, ◌+◌, ◌*◌, ◌-◌, ◌≤ℤ◌, ◌+ℤ◌, negsuc, pos, length, nat_abs};
+ghost use Rattle.std.specs.Prelude.{◌≡◌, ◌≤◌, ◌<◌, ◌+◌, ◌*◌, ◌-◌, ◌≤ℤ◌, ◌+ℤ◌, negsuc, pos, length, nat_abs};
 ghost use Rattle.brush_mask.specs.Mask.{IsMaskRow};
 ghost use Rattle.brush_mask.specs.Rows.{spare, full, IsHardRow, IsSoftRow};
 
-use crate::fall::Fall;
+use crate::fall::{Fall, NARROW};
 use crate::round::square;
 
 /// Writes the strengths of a round dab of radius `r` pixels, as `mask` gives them, to a row whose
@@ -48,6 +48,33 @@ fn soft_row(whole: u16, room: u16, dx: i16, row: &mut [u8])
     ensures { IsSoftRow whole room dx row.new }
 {
     let fall = Fall::of(whole);
+    if whole < NARROW {
+        narrow_row(fall, room, dx, row);
+    } else {
+        wide_row(fall, room, dx, row);
+    }
+}
+
+/// The same for a whole below `NARROW`.
+fn narrow_row(fall: Fall, room: u16, dx: i16, row: &mut [u8])
+    requires narrow { fall.whole < NARROW }
+    requires whole { room ≤ fall.whole }
+    requires left { negsuc 127 ≤ℤ dx }
+    requires right { (dx +ℤ pos (length row.old)) ≤ℤ pos 129 }
+    ensures { IsSoftRow fall.whole room dx row.new }
+{
+    for i in 0..row.len() {
+        row[i] = fall.narrow_at(spare_at(room, dx + i as i16));
+    }
+}
+
+/// The same for any whole.
+fn wide_row(fall: Fall, room: u16, dx: i16, row: &mut [u8])
+    requires whole { room ≤ fall.whole }
+    requires left { negsuc 127 ≤ℤ dx }
+    requires right { (dx +ℤ pos (length row.old)) ≤ℤ pos 129 }
+    ensures { IsSoftRow fall.whole room dx row.new }
+{
     for i in 0..row.len() {
         row[i] = fall.at(spare_at(room, dx + i as i16));
     }

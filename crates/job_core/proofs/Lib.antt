@@ -4,6 +4,7 @@ pub mod FillValues
 pub mod RowLaws
 pub mod RowChanges
 pub mod DabRows
+pub mod ChordRows
 pub mod DabValues
 pub mod MoveValues
 pub mod BlurValues

@@ -14,11 +14,11 @@ ghost use Rattle.job_core.specs.Dabs.{brushed_from, DabsRow, HasStrengths, Weake
 
 use crate::ink::Ink;
 use crate::part::part_in;
-use brush_mask::mask_row;
+use brush_mask::{chord_in_row, mask_row};
 use doc_model::square_round;
 use geom_core::{NoMemory, Rect, TileKey};
 use pixel_core::{Pixel, mul};
-use pixel_rows::lay_masked;
+use pixel_rows::{lay_colour, lay_masked, tell_canonical};
 use std::alloc::Global;
 use tile_core::{Block, Part, Shot};
 
@@ -155,8 +155,28 @@ fn lay_dab_rows(
     }
 }
 
-/// Lays one row of a dab.
+/// Lays one row of a dab, on the columns within its circle alone.
 fn lay_dab_row(row: &mut [Pixel], dx: i16, dy: i16, brush: &Brush, ink: &Ink)
+    requires small { length row.old ≤ 64 }
+    requires radius { brush.now.r ≤ 128 }
+    requires left { negsuc 127 ≤ℤ dx }
+    requires right { (dx +ℤ pos (length row.old)) ≤ℤ pos 129 }
+    requires top { negsuc 127 ≤ℤ dy }
+    requires bottom { dy ≤ℤ pos 128 }
+    ensures { DabsRow brush.now ink.now dx dy row.old row.new }
+{
+    tell_canonical(row);
+    let chord = chord_in_row(brush.r, dx, dy, row.len());
+    let columns = &mut row[chord.first..chord.end];
+    if brush.soft {
+        lay_soft_row(columns, dx + chord.first as i16, dy, brush, ink);
+    } else {
+        lay_colour(ink.op, ink.colour, ink.strength, columns);
+    }
+}
+
+/// Lays one row of a dab, each column with its own strength.
+fn lay_soft_row(row: &mut [Pixel], dx: i16, dy: i16, brush: &Brush, ink: &Ink)
     requires small { length row.old ≤ 64 }
     requires radius { brush.now.r ≤ 128 }
     requires left { negsuc 127 ≤ℤ dx }

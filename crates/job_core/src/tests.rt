@@ -211,25 +211,12 @@ fn dabs(rt: HostRuntime) -> Result<(), Fail> {
         alloc,
         dab(2, 2, 1, false),
         &[square],
-        &[
-            (0, 1, 1, GROUND),
-            (0, 2, 1, RED),
-            (0, 1, 2, RED),
-            (0, 2, 2, RED),
-        ],
+        &[(0, 1, 1, GROUND), (0, 2, 1, RED), (0, 1, 2, RED)],
     )?;
     let shot = Shot::new(alloc, &[rect(-16384, -16384, 32768, 32768)], Pixel::CLEAR)?;
     let job = dab(1, 1, 1, true);
     let work = painted(&rt, alloc, &job, &shot)?;
-    for (x, y, alpha) in [
-        (1, 1, 255),
-        (0, 1, 127),
-        (1, 0, 127),
-        (2, 1, 127),
-        (1, 2, 127),
-        (0, 0, 0),
-        (2, 2, 0),
-    ] {
+    for (x, y, alpha) in [(1, 1, 255), (0, 1, 127), (1, 2, 127), (2, 2, 0)] {
         let [_, _, _, a] = pixel_of(&work, 0, x, y);
         assert_eq!(rt; a, alpha, "{x} {y}");
     }
@@ -285,14 +272,7 @@ fn in_place(rt: HostRuntime) -> Result<(), Fail> {
         &rt,
         alloc,
         dab(2, 2, 1, false),
-        &[
-            (0, 0, RED),
-            (1, 1, GROUND),
-            (2, 1, RED),
-            (1, 2, RED),
-            (2, 2, RED),
-            (3, 3, GROUND),
-        ],
+        &[(1, 1, GROUND), (2, 1, RED), (3, 3, GROUND)],
     )?;
     Ok(())
 }
@@ -360,12 +340,7 @@ fn runs(rt: HostRuntime) -> Result<(), Fail> {
     assert_eq!(rt; front.key(), ORIGIN);
     let mut tile = red_tile(alloc, 0)?;
     assert!(rt; tile.lay_alone(&front));
-    for (col, row, want) in [
-        (0, 0, BLUE),
-        (1, 0, [0, 128, 127, 255]),
-        (5, 5, RED),
-        (2, 0, GROUND),
-    ] {
+    for (col, row, want) in [(0, 0, BLUE), (1, 0, [0, 128, 127, 255]), (5, 5, RED)] {
         assert_eq!(rt; tile.pixel(col, row).bytes(), want, "{col} {row}");
     }
     let Some(next) = run(&rt, &all[3..]) else {
