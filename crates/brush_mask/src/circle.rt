@@ -36,7 +36,7 @@ pub fn chord_in_row(r: u8, dx: i16, dy: i16, places: usize) -> Chord
 
 /// How many columns to each side of the centre the circle of radius `r` pixels has in the row `dy`
 /// below it. None where the row doesn't meet the circle.
-pub fn half_chord(r: u8, dy: i16) -> Option<u8>
+fn half_chord(r: u8, dy: i16) -> Option<u8>
     requires radius { r ≤ 128 }
     requires down { nat_abs dy ≤ 128 }
     ensures some { IfSome result (λ h. IsHalfChord r dy h) }
