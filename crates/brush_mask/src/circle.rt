@@ -1,10 +1,11 @@
 //! What rows have within the circles of dabs.
 
-ghost use Rattle.std.specs.Prelude.{◌≡◌, ◌≤◌, ◌<◌, ◌+ℤ◌, ◌≤ℤ◌, ℕ, ℤ, negsuc, pos, false, nat_abs, nat_le, int_le, IfSome, IfNone};
+ghost use Rattle.std.specs.Prelude.{◌≡◌, ◌≤◌, ◌<◌, ◌+◌, ◌*◌, ◌+ℤ◌, ◌≤ℤ◌, ℕ, ℤ, negsuc, pos, false, nat_abs, nat_le, int_le, IfSome, IfNone};
 ghost use Rattle.brush_mask.specs.Mask.{mask};
 ghost use Rattle.brush_mask.specs.Chords.{IsHalfChord, IsChord};
 
 use crate::round::square;
+use std::num::saturating_f64_to_u8;
 
 /// The places of a row that lie within a circle: those from `first` up to `end`, without it.
 #[derive(Clone, Copy, Debug, PartialEq, Eq)]
@@ -44,10 +45,19 @@ fn half_chord(r: u8, dy: i16) -> Option<u8>
 {
     let r2 = square(r as u16);
     let d2 = square(dy.unsigned_abs());
-    if r2 < d2 {
-        None
-    } else {
-        Some((r2 - d2).isqrt() as u8)
+    if r2 < d2 { None } else { Some(root(r2 - d2)) }
+}
+
+/// The square root of `n`, rounded down. A guess by floats is soon checked; where it is wrong, the root
+/// is found by halving.
+fn root(n: u16) -> u8
+    ensures square { result * result ≤ n }
+    ensures next { n < (result + 1) * (result + 1) }
+{
+    let guess = saturating_f64_to_u8(f64::from(n).sqrt());
+    match n.checked_sub(guess as u16 * guess as u16) {
+        Some(rest) if rest <= 2 * guess as u16 => guess,
+        _ => n.isqrt() as u8,
     }
 }
 
