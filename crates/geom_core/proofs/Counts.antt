@@ -123,15 +123,10 @@ at-keys_seen r c i w h ec l =
     shifted_sum : (a b : ℕ) → ((pos a -ℤ pos 256) +ℤ pos b) ≡ (pos (a + b) -ℤ pos 256)
     shifted_sum a b = omega (arith, ints)
 
-piece_room : (a n q : ℕ) → 1 ≤ n → a + n ≤ 32768 → q < count_of a n → a / 64 + q < 512
+pub piece_room : (a n q : ℕ) → 1 ≤ n → a + n ≤ 32768 → q < count_of a n → a / 64 + q < 512
 piece_room a n q h k l = omega arith
 
 pub below_count : (r : Inside) (a : Area) (c i : ℕ) → seen r ≡ a → 1 ≤ r.w → 1 ≤ r.h → c ≡ count_of r.left r.w → i < length (keys_of a) → i < c * count_of r.top r.h
 below_count r a c i e w h ec l =
     let n : length (keys_of a) ≡ c * count_of r.top r.h = ap (λ (b : Area). length (keys_of b)) (sym e) ∙ count-keys_seen r w h ∙ ap (λ m. m * count_of r.top r.h) (sym ec) in
     rw (← n) l
-
--- the row of tiles that a place stands in is one of the world's
-pub row_room : (r : Inside) (a : Area) (c i row : ℕ) → seen r ≡ a → 1 ≤ r.w → 1 ≤ r.h → r.top + r.h ≤ 32768 → c ≡ count_of r.left r.w → row ≡ i / c → i < length (keys_of a) → r.top / 64 + row < 512
-row_room r a c i row e w h inside ec er l =
-    rw er (piece_room r.top r.h (i / c) h inside (parted c (count_of r.top r.h) i (below_count r a c i e w h ec l)).1.0)

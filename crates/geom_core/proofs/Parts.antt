@@ -55,17 +55,13 @@ at-cells_seen r c i w h ec l =
     shifted_sum : (a b : ℕ) → ((pos a -ℤ pos 64) +ℤ pos b) ≡ (pos (a + b) -ℤ pos 64)
     shifted_sum a b = omega (arith, ints)
 
-cell_room : (a n q : ℕ) → 1 ≤ n → a + n ≤ 32768 → q < cell_count_of a n → a / 256 + q < 128
+pub cell_room : (a n q : ℕ) → 1 ≤ n → a + n ≤ 32768 → q < cell_count_of a n → a / 256 + q < 128
 cell_room a n q h k l = omega arith
 
 pub below_cells : (r : Inside) (a : Area) (c i : ℕ) → seen r ≡ a → 1 ≤ r.w → 1 ≤ r.h → c ≡ cell_count_of r.left r.w → i < length (cells_of a) → i < c * cell_count_of r.top r.h
 below_cells r a c i e w h ec l =
     let n : length (cells_of a) ≡ c * cell_count_of r.top r.h = ap (λ (b : Area). length (cells_of b)) (sym e) ∙ count-cells_seen r w h ∙ ap (λ m. m * cell_count_of r.top r.h) (sym ec) in
     rw (← n) l
-
--- the row of cells that a place stands in is one of the world's
-pub cell_row_room : (r : Inside) (a : Area) (c i : ℕ) → seen r ≡ a → 1 ≤ r.w → 1 ≤ r.h → r.top + r.h ≤ 32768 → c ≡ cell_count_of r.left r.w → i < length (cells_of a) → r.top / 256 + i / c < 128
-cell_row_room r a c i e w h inside ec l = cell_room r.top r.h (i / c) h inside (parted c (cell_count_of r.top r.h) i (below_cells r a c i e w h ec l)).1.0
 
 low_met : (a n q : ℕ) → 1 ≤ n → q < cell_count_of a n → (pos a -ℤ pos 16384) <ℤ ((pos 256 *ℤ (pos (a / 256 + q) -ℤ pos 64)) +ℤ pos 256)
 low_met a n q h l = omega (arith, ints)

@@ -7,7 +7,6 @@ ghost use Rattle.geom_core.specs.Place.{IsOffset};
 
 use crate::{OutOfWorld, TileKey};
 use std::marker::Model;
-use std::mem::size_of;
 
 /// How far the world's corner lies to the left of 0 and above it.
 const CORNER: i32 = 16384;
@@ -19,14 +18,11 @@ const SIDE: u32 = 32768;
 /// its upper left corner, and how many columns and rows it has.
 #[derive(Clone, Copy, Debug, PartialEq, Eq)]
 pub struct Rect {
-    left: u16,
-    top: u16,
-    w: u16,
-    h: u16,
+    left: u32,
+    top: u32,
+    w: u32,
+    h: u32,
 }
-
-/// Long lists of jobs hold one each, so it is kept small.
-const _: () = prove!(size_of::<Rect>() == 8);
 
 impl Model for Rect {
     ghost use Rattle.std.specs.Prelude.{◌≤◌, ◌+◌};
@@ -51,8 +47,8 @@ impl Default for Rect {
 
     fn default() -> Rect {
         Rect {
-            left: CORNER as u16,
-            top: CORNER as u16,
+            left: CORNER as u32,
+            top: CORNER as u32,
             w: 1,
             h: 1,
         }
@@ -77,12 +73,7 @@ impl Rect {
         if left + w > SIDE || top + h > SIDE {
             return Err(OutOfWorld);
         }
-        Ok(Rect {
-            left: left as u16,
-            top: top as u16,
-            w: w as u16,
-            h: h as u16,
-        })
+        Ok(Rect { left, top, w, h })
     }
 
     /// How many columns of the world lie to the left of it.
@@ -90,7 +81,7 @@ impl Rect {
         ensures value { IsOffset result self.now.x }
         ensures small { result + self.now.w ≤ 32768 }
     {
-        self.left as u32
+        self.left
     }
 
     /// How many rows of the world lie above it.
@@ -98,7 +89,7 @@ impl Rect {
         ensures value { IsOffset result self.now.y }
         ensures small { result + self.now.h ≤ 32768 }
     {
-        self.top as u32
+        self.top
     }
 
     /// Its leftmost column.
@@ -125,7 +116,7 @@ impl Rect {
         ensures some { 1 ≤ result }
         ensures small { result ≤ 32768 }
     {
-        self.w as u32
+        self.w
     }
 
     /// How many rows it has.
@@ -134,7 +125,7 @@ impl Rect {
         ensures some { 1 ≤ result }
         ensures small { result ≤ 32768 }
     {
-        self.h as u32
+        self.h
     }
 
     /// Whether it holds the point (x, y).
@@ -251,7 +242,7 @@ impl Rect {
     {
         let cols = pieces(self.left, self.w);
         let (col, row) = spot_of(i, cols);
-        TileKey::from_corner(self.left as u32 / 64 + col, self.top as u32 / 64 + row)
+        TileKey::from_corner(self.left / 64 + col, self.top / 64 + row)
     }
 
     /// The tile of a column and a row, which count from the world's corner.
@@ -261,8 +252,8 @@ impl Rect {
         ensures { result ≡ area (pos (64 * col) -ℤ pos 16384) (pos (64 * row) -ℤ pos 16384) 64 64 }
     {
         Rect {
-            left: (64 * col) as u16,
-            top: (64 * row) as u16,
+            left: 64 * col,
+            top: 64 * row,
             w: 64,
             h: 64,
         }
@@ -287,10 +278,7 @@ impl Rect {
         ensures { slice_get (cells_of self.now) i ≡ Some result }
     {
         let cols = cells_along(self.left, self.w);
-        let cell = Rect::of_cell(
-            self.left as u32 / 256 + i % cols,
-            self.top as u32 / 256 + i / cols,
-        );
+        let cell = Rect::of_cell(self.left / 256 + i % cols, self.top / 256 + i / cols);
         self.common_part(&cell)
     }
 
@@ -301,8 +289,8 @@ impl Rect {
         ensures { result ≡ cell (key (pos col -ℤ pos 64) (pos row -ℤ pos 64)) }
     {
         Rect {
-            left: (256 * col) as u16,
-            top: (256 * row) as u16,
+            left: 256 * col,
+            top: 256 * row,
             w: 256,
             h: 256,
         }
@@ -310,7 +298,7 @@ impl Rect {
 }
 
 /// Whether x is one of the n numbers from a on, which counts from the world's edge.
-fn within(a: u16, n: u16, x: i32) -> bool
+fn within(a: u32, n: u32, x: i32) -> bool
     requires { a + n ≤ 32768 }
     ensures { result ≡ (int_le (pos a -ℤ pos 16384) x && int_lt x ((pos a -ℤ pos 16384) +ℤ pos n)) }
 {
@@ -318,7 +306,7 @@ fn within(a: u16, n: u16, x: i32) -> bool
 }
 
 /// Whether the n numbers from a on and the m from b on have one in common.
-fn crosses(a: u16, n: u16, b: u16, m: u16) -> bool
+fn crosses(a: u32, n: u32, b: u32, m: u32) -> bool
     requires first { a + n ≤ 32768 }
     requires second { b + m ≤ 32768 }
     ensures { result ≡ (nat_lt a (b + m) && nat_lt b (a + n)) }
@@ -327,7 +315,7 @@ fn crosses(a: u16, n: u16, b: u16, m: u16) -> bool
 }
 
 /// Whether the n numbers from a on, which counts from the world's edge, are among the m from b on.
-fn spanned(a: u16, n: u16, b: u16, m: u16) -> bool
+fn spanned(a: u32, n: u32, b: u32, m: u32) -> bool
     requires first { a + n ≤ 32768 }
     requires second { b + m ≤ 32768 }
     ensures { result ≡ (int_le (pos b -ℤ pos 16384) (pos a -ℤ pos 16384) && int_le ((pos a -ℤ pos 16384) +ℤ pos n) ((pos b -ℤ pos 16384) +ℤ pos m)) }
@@ -337,7 +325,7 @@ fn spanned(a: u16, n: u16, b: u16, m: u16) -> bool
 
 /// Where the n numbers from a on, which count from the world's edge, begin after they are moved by d.
 /// None where some of them are outside then.
-fn shifted(a: u16, n: u16, d: i32) -> Option<u16>
+fn shifted(a: u32, n: u32, d: i32) -> Option<u32>
     requires inside { a + n ≤ 32768 }
     requires d { negsuc 32766 ≤ℤ d × d ≤ℤ pos 32767 }
     ensures { MatchOption result ((pos a +ℤ d) <ℤ pos 0 ⊎ pos (32768 - n) <ℤ (pos a +ℤ d)) (λ b. (pos b ≡ pos a +ℤ d) × (b + n ≤ 32768)) }
@@ -346,28 +334,28 @@ fn shifted(a: u16, n: u16, d: i32) -> Option<u16>
     if b < 0 || b > 32768 - n as i32 {
         return None;
     }
-    Some(b as u16)
+    Some(b as u32)
 }
 
 /// How far x lies behind a, which counts from the world's edge.
-fn behind(a: u16, n: u16, x: i32) -> u16
+fn behind(a: u32, n: u32, x: i32) -> u32
     requires inside { a + n ≤ 32768 }
     requires held { (int_le (pos a -ℤ pos 16384) x && int_lt x ((pos a -ℤ pos 16384) +ℤ pos n)) ≡ true }
     ensures value { result ≡ nat_abs (x -ℤ (pos a -ℤ pos 16384)) }
     ensures small { result < n }
 {
-    (x + CORNER) as u16 - a
+    (x + CORNER) as u32 - a
 }
 
 /// How many pieces of 64 the n numbers from a on meet.
-fn pieces(a: u16, n: u16) -> u32
+fn pieces(a: u32, n: u32) -> u32
     requires some { 1 ≤ n }
     requires inside { a + n ≤ 32768 }
     ensures value { result ≡ (a + n - 1) / 64 + 1 - a / 64 }
     ensures some { 1 ≤ result }
     ensures inside { a / 64 + result ≤ 512 }
 {
-    ((a + n - 1) / 64 + 1 - a / 64) as u32
+    (a + n - 1) / 64 + 1 - a / 64
 }
 
 /// The column and the row of place i, from 0, in rows of n places. The first row costs no division.
@@ -380,12 +368,12 @@ fn spot_of(i: u32, n: u32) -> (u32, u32)
 }
 
 /// How many pieces of 256 the n numbers from a on meet.
-fn cells_along(a: u16, n: u16) -> u32
+fn cells_along(a: u32, n: u32) -> u32
     requires some { 1 ≤ n }
     requires inside { a + n ≤ 32768 }
     ensures value { result ≡ (a + n - 1) / 256 + 1 - a / 256 }
     ensures some { 1 ≤ result }
     ensures inside { a / 256 + result ≤ 128 }
 {
-    ((a + n - 1) / 256 + 1 - a / 256) as u32
+    (a + n - 1) / 256 + 1 - a / 256
 }
