@@ -2,6 +2,7 @@ pub mod Following
 pub mod Script
 pub mod Reading
 pub mod Read
+pub mod Pieces
 pub mod Table
 pub mod Draft
 pub mod Text

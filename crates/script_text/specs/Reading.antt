@@ -30,8 +30,11 @@ numbered n [] = []
 numbered n (fields ∷ others) = record { number = n; fields = fields } ∷ numbered (suc n) others
 
 -- the lines that are commands, with their numbers from 1 on
+abbrev pub commands_among : List Fields → List NumberedLine
+commands_among ls = filter (λ l. is_command l.fields) (numbered 1 ls)
+
 abbrev pub command_lines : List ℕ → List NumberedLine
-command_lines bytes = filter (λ l. is_command l.fields) (numbered 1 (lines bytes))
+command_lines bytes = commands_among (lines bytes)
 
 -- what a step gave, or why it failed
 abbrev pub given : {A : Type 0} → Result A Cause → Option A
@@ -131,9 +134,13 @@ unfoldable pub fault_after : List NumberedLine → List NumberedLine → Option 
 fault_after before [] = end_fault before
 fault_after before (line ∷ others) = first_fault line.number (cause before line.fields) (fault_after (before ++ line ∷ []) others)
 
+-- the first fault of some lines as a whole script
+unfoldable pub fault_in : List Fields → Option ScriptFault
+fault_in ls = fault_after [] (commands_among ls)
+
 -- the first fault of a script
 unfoldable pub fault : List ℕ → Option ScriptFault
-fault bytes = fault_after [] (command_lines bytes)
+fault bytes = fault_in (lines bytes)
 
 -- what good lines say
 abbrev pub contents_by : Option Canvas → List Command → Option Contents
@@ -144,6 +151,10 @@ abbrev pub unless : Option ScriptFault → Option Contents → Option Contents
 unless (Some f) told = None
 unless None told = told
 
+-- the canvas and the commands of lines that are a script without a fault
+unfoldable pub script_in : List Fields → Option Contents
+script_in ls = unless (fault_in ls) (contents_by (canvas_of (commands_among ls)) (commands_of (commands_among ls)))
+
 -- the canvas and the commands of a script without a fault
 unfoldable pub script : List ℕ → Option Contents
-script bytes = unless (fault bytes) (contents_by (canvas_of (command_lines bytes)) (commands_of (command_lines bytes)))
+script bytes = script_in (lines bytes)

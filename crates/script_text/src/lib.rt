@@ -4,6 +4,7 @@
 mod draft;
 mod laws;
 mod making;
+mod pieces;
 mod printing;
 mod reading;
 mod script;
@@ -12,6 +13,7 @@ mod table;
 mod tests;
 
 pub use laws::printed_reads_back;
+pub use pieces::Reader;
 pub use printing::print;
 pub use reading::read;
 pub use script::{MakeRefusal, ReadRefusal, Script, ScriptFault};
