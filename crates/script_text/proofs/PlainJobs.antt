@@ -1,15 +1,12 @@
 -- What a job's plain line says.
-use Rattle.std.proofs.Common.{◌≡◌, ◌∙◌, ℕ, ◌≤◌, true, false, Option, Some, None, Ok, List, ◌∷◌, ◌++◌, length, drop, refl, sym, ap, arith}
-use Rattle.std.specs.Prelude.{IsSome, ◌==◌}
+use Rattle.std.proofs.Common.{◌≡◌, ◌∙◌, ℕ, true, false, Option, Some, None, Ok, List, ◌∷◌, ◌++◌, refl, sym, ap}
+use Rattle.std.specs.Prelude.{IsSome}
 use Rattle.std.specs.Option.{option_to_list}
-use Rattle.std.specs.List.{slice_split}
 use Rattle.std.specs.Str.{bytes_eq}
-use Rattle.std.proofs.lemmas.List.{length-drop}
-use Rattle.std.proofs.lemmas.List.Splits.{length-slice_split}
 use Rattle.doc_model.specs.declared.canvas.Canvas.{Canvas}
 use Rattle.doc_model.specs.declared.command.Command.{Command}
 use Rattle.doc_model.specs.Strokes.{entries}
-use Rattle.script_lines.specs.Lines.{lines, fields, is_command}
+use Rattle.script_lines.specs.Lines.{is_command}
 use Rattle.script_forms.specs.declared.words.Work.{Work}
 use Rattle.script_forms.specs.declared.words.Word.TheVariants.{Paint}
 use Rattle.script_forms.specs.Words.{work_text, word_of, canvas_text}
@@ -21,7 +18,6 @@ use Rattle.script_text.specs.Following.{misfit}
 use Rattle.script_text.specs.Reading.{canvas_in, command_in, first_canvas, start_by, cause_by}
 use Rattle.script_text.specs.Read.{Takes, TakesCommand}
 use Rattle.script_text.proofs.PrintedWords.{words}
-use Rattle.script_text.proofs.Scanning.{few_lines, count_all}
 
 -- the fields say that job
 pub record SaysJob (f : Fields) (c : Command) : Type 0 where
@@ -61,9 +57,3 @@ takes_job r new n f c says t = record {
     go : (o : Option Canvas) → o ≡ first_canvas o None
     go None = refl
     go (Some k) = refl
-
--- where a text is left, not all lines are done
-pub some_left : (bytes text : List ℕ) (i : ℕ) → drop i (lines bytes) ≡ lines text → i ≤ length bytes
-some_left bytes text i e =
-    let some = count_all fields (slice_split (λ b. b == 10) text) in
-    omega (arith, length-drop i (lines bytes), ap length e, some, length-slice_split (λ b. b == 10) text, few_lines bytes)

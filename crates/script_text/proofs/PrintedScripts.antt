@@ -13,7 +13,7 @@ use Rattle.script_forms.specs.Ranges.{in_range, in_limits, is_sound}
 use Rattle.script_text.specs.declared.reading.Start.{Start}
 use Rattle.script_text.specs.Following.{misfit}
 use Rattle.script_text.specs.Script.{Contents, is_script, all_closed}
-use Rattle.script_text.specs.Reading.{NumberedLine, command_lines, canvas_in, command_in, canvas_of, commands_of, starts_of, cause_by, cause, first_canvas, end_by, left_open, left_fault, fault_after, fault, contents_by, unless, script}
+use Rattle.script_text.specs.Reading.{NumberedLine, commands_from, command_lines, canvas_in, command_in, canvas_of, commands_of, starts_of, cause_by, cause, first_canvas, end_by, left_open, left_fault, fault_after, fault_in, fault, contents_by, unless, script_in, script}
 use Rattle.script_text.specs.Text.{canvas_fields, command_text, text}
 use Rattle.script_text.specs.Laws.{PrintedReadsBack}
 use Rattle.script_lines.proofs.FieldLemmas.{first, second}
@@ -23,7 +23,7 @@ use Rattle.script_text.proofs.PrintedJobs.{Told}
 use Rattle.script_text.proofs.PrintedCommands.{told, canvas_back, canvas_plain}
 use Rattle.script_text.proofs.Refusals.{misfits, unsound, some_left}
 use Rattle.script_text.proofs.Tables.{entries-append}
-use Rattle.script_text.proofs.Scanning.{cmds, canvas_of-append, goes_on}
+use Rattle.script_text.proofs.Scanning.{canvas_of-append, goes_on}
 use Rattle.script_text.proofs.Scanning as scan
 
 -- what would be false, where a test is true
@@ -67,11 +67,11 @@ cause_told c t canvas before =
     let w = words t.word in
     rw (w.no_canvas, w.back, t.reads) refl
 
-cmds_more : (n : ℕ) (f : Fields) (others : List Fields) → is_command f ≡ true → cmds n (f ∷ others) ≡ scan.line n f ∷ cmds (suc n) others
+cmds_more : (n : ℕ) (f : Fields) (others : List Fields) → is_command f ≡ true → commands_from n (f ∷ others) ≡ scan.line n f ∷ commands_from (suc n) others
 cmds_more n f others h = rw h refl
 
-cmds_told : (n : ℕ) (c : Command) (t : Told c) (rest : List ℕ) → cmds n (lines (command_text c ++ rest)) ≡ scan.line n (row t) ∷ cmds (suc n) (lines rest)
-cmds_told n c t rest = ap (cmds n) (line_told c t rest) ∙ cmds_more n (row t) (lines rest) (words t.word).begins
+cmds_told : (n : ℕ) (c : Command) (t : Told c) (rest : List ℕ) → commands_from n (lines (command_text c ++ rest)) ≡ scan.line n (row t) ∷ commands_from (suc n) (lines rest)
+cmds_told n c t rest = ap (commands_from n) (line_told c t rest) ∙ cmds_more n (row t) (lines rest) (words t.word).begins
 
 more_commands : (before : List NumberedLine) (n : ℕ) (c : Command) (t : Told c) → commands_of (before ++ scan.line n (row t) ∷ []) ≡ commands_of before ++ c ∷ []
 more_commands before n c t = filter_map-append (λ (l : NumberedLine). command_in l.fields) before (scan.line n (row t) ∷ []) ∙ ap (λ l. commands_of before ++ l) (rw (command_told c t) refl)
@@ -91,19 +91,19 @@ ended : (before : List NumberedLine) (canvas : Canvas) (commands : List Command)
 unfolding fault_after
 ended before canvas commands is h = (λ i. end_by (is.canvas i) (is.commands i) (starts_of before)) ∙ ap left_fault (none_left (entries commands) (starts_of before) h)
 
-no_fault_after : (before : List NumberedLine) (canvas : Canvas) (commands : List Command) (n : ℕ) (cs : List Command) → IsBefore before canvas commands → list_all in_range cs ≡ true → lawful_after (entries commands) cs ≡ true → list_all is_closed_entry (all_fed (entries commands) cs) ≡ true → fault_after before (cmds n (lines (flat_map command_text cs))) ≡ None
+no_fault_after : (before : List NumberedLine) (canvas : Canvas) (commands : List Command) (n : ℕ) (cs : List Command) → IsBefore before canvas commands → list_all in_range cs ≡ true → lawful_after (entries commands) cs ≡ true → list_all is_closed_entry (all_fed (entries commands) cs) ≡ true → fault_after before (commands_from n (lines (flat_map command_text cs))) ≡ None
 no_fault_after before canvas commands n [] is r l h = ended before canvas commands is h
 no_fault_after before canvas commands n (c ∷ cs) is r l h =
     let may = first (may_follow (entries commands) c) (lawful_after (fed (entries commands) c) cs) l in
     let t = told c (first (in_range c) (list_all in_range cs) r) (sound_where (entries commands) c may) in
-    let others = cmds (suc n) (lines (flat_map command_text cs)) in
+    let others = commands_from (suc n) (lines (flat_map command_text cs)) in
     let good : cause before (row t) ≡ None = (λ i. cause_by (is.canvas i) (is.commands i) (row t)) ∙ (cause_told c t canvas commands ∙ fits (entries commands) c may) in
     let rest = no_fault_after (before ++ scan.line n (row t) ∷ []) canvas (commands ++ c ∷ []) (suc n) cs (before_more before canvas commands n c t is) (second (in_range c) (list_all in_range cs) r)
     (ap (λ es. lawful_after es cs) (entries-append commands c) ∙ second (may_follow (entries commands) c) (lawful_after (fed (entries commands) c) cs) l)
     (ap (λ es. list_all is_closed_entry (all_fed es cs)) (entries-append commands c) ∙ h) in
     ap (fault_after before) (cmds_told n c t (flat_map command_text cs)) ∙ (sym (goes_on before others n (row t) (fault_after before (scan.line n (row t) ∷ others)) good refl) ∙ rest)
 
-commands_told : (es : List Entry) (n : ℕ) (cs : List Command) → list_all in_range cs ≡ true → lawful_after es cs ≡ true → commands_of (cmds n (lines (flat_map command_text cs))) ≡ cs
+commands_told : (es : List Entry) (n : ℕ) (cs : List Command) → list_all in_range cs ≡ true → lawful_after es cs ≡ true → commands_of (commands_from n (lines (flat_map command_text cs))) ≡ cs
 commands_told es n [] r l = refl
 commands_told es n (c ∷ cs) r l =
     let t = told c (first (in_range c) (list_all in_range cs) r) (sound_where es c (first (may_follow es c) (lawful_after (fed es c) cs) l)) in
@@ -141,17 +141,17 @@ unfolding cause_by
 canvas_good c h = rw (canvas_back c h) refl
 
 abbrev others_of : List Command → List NumberedLine
-others_of cs = cmds 2 (lines (flat_map command_text cs))
+others_of cs = commands_from 2 (lines (flat_map command_text cs))
 
 lines_told : (s : Contents) → in_limits s.canvas ≡ true → command_lines (text s) ≡ scan.line 1 (canvas_row s.canvas) ∷ others_of s.commands
 unfolding text
-lines_told s h = ap (cmds 1) (line_first canvas_text (canvas_fields s.canvas) (flat_map command_text s.commands) refl (canvas_plain s.canvas h)) ∙ cmds_more 1 (canvas_row s.canvas) (lines (flat_map command_text s.commands)) refl
+lines_told s h = ap (commands_from 1) (line_first canvas_text (canvas_fields s.canvas) (flat_map command_text s.commands) refl (canvas_plain s.canvas h)) ∙ cmds_more 1 (canvas_row s.canvas) (lines (flat_map command_text s.commands)) refl
 
 first_before : (c : Canvas) → in_limits c ≡ true → IsBefore (scan.line 1 (canvas_row c) ∷ []) c []
 first_before c h = record { canvas = ap (λ o. first_canvas o None) (canvas_told c h); commands = refl }
 
 no_fault : (s : Contents) → is_script s ≡ true → fault (text s) ≡ None
-unfolding fault
+unfolding fault fault_in
 no_fault s h =
     let p = parts s h in
     let start = scan.line 1 (canvas_row s.canvas) in
@@ -159,7 +159,7 @@ no_fault s h =
     ap (fault_after []) (lines_told s p.limits) ∙ (sym (goes_on [] (others_of s.commands) 1 (canvas_row s.canvas) (fault_after [] (start ∷ others_of s.commands)) (canvas_good s.canvas p.limits) refl) ∙ rest)
 
 same : (s : Contents) → is_script s ≡ true → script (text s) ≡ Some s
-unfolding script
+unfolding script script_in fault
 same s h =
     let p = parts s h in
     let start = scan.line 1 (canvas_row s.canvas) in

@@ -1,5 +1,5 @@
 -- How one line changes what was read.
-use Rattle.std.specs.Prelude.{◌≡◌, ℕ, true, List, ◌++◌, map, Option, Some, None, Result, Ok, Err}
+use Rattle.std.specs.Prelude.{◌≡◌, ℕ, true, List, ◌++◌, map, Option, Some, None, Result, Ok, Err, IfSome}
 use Rattle.std.specs.Option.{option_to_list}
 use Rattle.std.specs.List.{filter_map}
 use Rattle.doc_model.specs.declared.command.Command.TheVariants as command
@@ -45,8 +45,7 @@ Answers (Err NoMemory) fault told = Unit {0}
 
 -- the canvas, if there is one, is within the limits
 abbrev pub Fits : Option Canvas → Type 0
-Fits None = Unit {0}
-Fits (Some c) = in_limits c ≡ true
+Fits canvas = IfSome canvas (λ c. in_limits c ≡ true)
 
 -- the number of a stroke that a command starts
 abbrev pub started_by : Command → Option ℕ

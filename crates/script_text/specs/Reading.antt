@@ -29,9 +29,12 @@ abbrev pub numbered : ℕ → List Fields → List NumberedLine
 numbered n [] = []
 numbered n (fields ∷ others) = record { number = n; fields = fields } ∷ numbered (suc n) others
 
--- the lines that are commands, with their numbers from 1 on
+-- the lines that are commands, where the first line has the number n
+abbrev pub commands_from : ℕ → List Fields → List NumberedLine
+commands_from n ls = filter (λ l. is_command l.fields) (numbered n ls)
+
 abbrev pub commands_among : List Fields → List NumberedLine
-commands_among ls = filter (λ l. is_command l.fields) (numbered 1 ls)
+commands_among ls = commands_from 1 ls
 
 abbrev pub command_lines : List ℕ → List NumberedLine
 command_lines bytes = commands_among (lines bytes)

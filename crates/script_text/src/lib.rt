@@ -13,8 +13,7 @@ mod table;
 mod tests;
 
 pub use laws::printed_reads_back;
-pub use pieces::Reader;
+pub use pieces::{Reader, read};
 pub use printing::print;
-pub use reading::read;
 pub use script::{MakeRefusal, ReadRefusal, Script, ScriptFault};
 pub use script_lines::Cause;

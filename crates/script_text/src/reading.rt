@@ -1,4 +1,4 @@
-//! Reading a script line by line.
+//! What the lines of a script say, one after another.
 
 ghost use Rattle.std.specs.Prelude.{◌≡◌, ◌<◌, length, None, Some, ◌++◌, ◌∷◌, [], IfOk, OnOk, IfSome, IsSome, true};
 ghost use Rattle.std.specs.Option.{option_to_list};
@@ -8,7 +8,7 @@ ghost use Rattle.script_forms.specs.Ranges.{in_range, is_sound};
 ghost use Rattle.script_forms.specs.Forms.{canvas as said_canvas};
 ghost use Rattle.script_forms.specs.Plain.{IsJobLine};
 ghost use Rattle.script_text.specs.Following.{misfit};
-ghost use Rattle.script_text.specs.Reading.{canvas_cause, word_cause, command_cause, cause_by, canvas_in, command_in, command_by, given, first_canvas, start_by, left_open, end_by, contents_by, fault, script};
+ghost use Rattle.script_text.specs.Reading.{canvas_cause, word_cause, command_cause, cause_by, canvas_in, command_in, command_by, given, first_canvas, start_by, left_open, end_by, contents_by};
 ghost use Rattle.script_text.specs.Read.{IsRefused, IsGathered, Fits, StartsAre, Answers, Takes, TakesCommand};
 
 use crate::draft::{Draft, add_last};
@@ -16,12 +16,8 @@ use crate::script::{ReadRefusal, Script, at};
 use doc_model::{Canvas, Command};
 use geom_core::NoMemory;
 use script_forms::{Word, canvas, command_of, is, plain_job, word_of};
-use script_lines::{Cause, is_command, next_fields};
+use script_lines::Cause;
 use std::alloc::Global;
-
-/// How many bytes a line has as a rule, or fewer. Room for as many commands is taken at once; it
-/// costs next to nothing until it is written to.
-const USUAL_LINE: usize = 32;
 
 /// Where a stroke starts.
 #[derive(Clone, Copy, Debug, PartialEq, Eq)]
@@ -50,7 +46,7 @@ fn start_of(line: u32, command: &Command) -> Option<Start>
 
 impl Reading {
     /// Nothing, and room for so many commands.
-    fn new(alloc: Global, room: usize) -> Result<Self, NoMemory>
+    pub(crate) fn new(alloc: Global, room: usize) -> Result<Self, NoMemory>
         ensures canvas { IfOk result (λ r. r.canvas ≡ None) }
         ensures draft { IfOk result (λ r. r.draft ≡ []) }
         ensures starts { IfOk result (λ r. r.starts.items ≡ []) }
@@ -111,7 +107,7 @@ impl Reading {
     /// The command of the text's first line, where a canvas was read and the line is plain, and what
     /// stands behind the line.
     #[inline(always)]
-    fn plain_job<'a>(&self, text: &'a [u8]) -> Option<(Command, &'a [u8])>
+    pub(crate) fn plain_job<'a>(&self, text: &'a [u8]) -> Option<(Command, &'a [u8])>
         ensures canvas { IsSome result → IsSome self.now.canvas }
         ensures line { IfSome result (λ r. IsJobLine text.now r.0 r.1.now) }
         ensures ranges { IfSome result (λ r. in_range r.0 ≡ true) }
@@ -147,7 +143,7 @@ impl Reading {
 
     /// A line that is a command.
     #[tactic(auto, unfolding(crate::specs::Reading::cause_by))]
-    fn take(&mut self, number: u32, fields: &[&[u8]]) -> Result<(), ReadRefusal>
+    pub(crate) fn take(&mut self, number: u32, fields: &[&[u8]]) -> Result<(), ReadRefusal>
         requires { Fits self.old.canvas }
         ensures refused { IsRefused result number (cause_by self.old.canvas self.old.draft (pointed fields.now)) }
         ensures taken { OnOk result (Takes self.old self.new number (pointed fields.now)) }
@@ -196,29 +192,4 @@ impl Reading {
             None => Ok(Script::from_parts(canvas, draft.into_commands())),
         }
     }
-}
-
-/// The script that the bytes spell, or the first fault of its lines.
-pub fn read(alloc: Global, bytes: &[u8]) -> Result<Script, ReadRefusal>
-    requires { length bytes.now < 4294967295 }
-    ensures { Answers result (fault bytes.now) (script bytes.now) }
-{
-    let mut fields = Vec::new(alloc);
-    let mut reading = Reading::new(alloc, bytes.len() / USUAL_LINE)?;
-    let mut number = 0;
-    let mut left = Some(bytes);
-    while let Some(rest) = left {
-        number += 1;
-        if let Some((command, behind)) = reading.plain_job(rest) {
-            reading.add(number, command)?;
-            left = Some(behind);
-            continue;
-        }
-        let behind = next_fields(rest, &mut fields)?;
-        if is_command(&fields) {
-            reading.take(number, &fields)?;
-        }
-        left = behind;
-    }
-    reading.finish()
 }
