@@ -148,10 +148,10 @@ taken all others n f r new c g t none =
         number = count_more before n f g.read.number;
         reading = subst (IsReading new) (sym now) (reads_more r new (commands_among before) (n + 1) f g.read.reading t);
         good = λ more.
-          ap fault_in (append_assoc before (f ∷ []) more) ∙ (g.read.good (f ∷ more)
-          ∙ (ap (fault_after (commands_among before)) (from_more (n + 1) f more c)
-          ∙ (sym (goes_on (commands_among before) (commands_from (n + 1 + 1) more) (n + 1) f _ (same_cause r (commands_among before) f None g.read.reading none) refl)
-          ∙ ap (λ ls. fault_after ls (commands_from (n + 1 + 1) more)) (sym now))));
+            ap fault_in (append_assoc before (f ∷ []) more) ∙ (g.read.good (f ∷ more)
+            ∙ (ap (fault_after (commands_among before)) (from_more (n + 1) f more c)
+            ∙ (sym (goes_on (commands_among before) (commands_from (n + 1 + 1) more) (n + 1) f _ (same_cause r (commands_among before) f None g.read.reading none) refl)
+            ∙ ap (λ ls. fault_after ls (commands_from (n + 1 + 1) more)) (sym now))));
       };
       whole = one_more all before others f g.whole;
     }
@@ -167,8 +167,8 @@ passed all others n f r c g =
         number = count_more before n f g.read.number;
         reading = subst (IsReading r) (sym now) g.read.reading;
         good = λ more.
-          ap fault_in (append_assoc before (f ∷ []) more) ∙ (g.read.good (f ∷ more)
-          ∙ (λ i. fault_after (sym now i) (from_same (n + 1) f more c i)));
+            ap fault_in (append_assoc before (f ∷ []) more) ∙ (g.read.good (f ∷ more)
+            ∙ (λ i. fault_after (sym now i) (from_same (n + 1) f more c i)));
       };
       whole = one_more all before others f g.whole;
     }

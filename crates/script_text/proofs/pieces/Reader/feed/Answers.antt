@@ -60,9 +60,9 @@ loop-left-preserved-in-Some-plain_job c =
     record {
       fits = subst Fits (sym t.canvas) c.loop-left.invariant.fits;
       going = λ (ls : List Fields) has.
-        let all = ls ++ lines c.args.text.now in
-        let going : Going all n r (f ∷ lines behind) = subst (Going all n r) (left ∙ job.line) (c.loop-left.invariant.going ls has) in
-        taken all (lines behind) n f r new says.is_command going (takes_job r new (n + 1) f command says t) (says.cause r.canvas r.draft some ∙ none);
+          let all = ls ++ lines c.args.text.now in
+          let going : Going all n r (f ∷ lines behind) = subst (Going all n r) (left ∙ job.line) (c.loop-left.invariant.going ls has) in
+          taken all (lines behind) n f r new says.is_command going (takes_job r new (n + 1) f command says t) (says.cause r.canvas r.draft some ∙ none);
     }
 
 pub returns-in_err-take-clause-fault : goal.returns-in_err-take-clause-fault
@@ -93,9 +93,9 @@ loop-left-preserved-in_ok-take c =
     record {
       fits = search rules;
       going = λ (ls : List Fields) has.
-        let all = ls ++ lines c.args.text.now in
-        let going : Going all n r (f ∷ others) = subst (Going all n r) left (c.loop-left.invariant.going ls has) in
-        taken all others n f r new is going t none;
+          let all = ls ++ lines c.args.text.now in
+          let going : Going all n r (f ∷ others) = subst (Going all n r) left (c.loop-left.invariant.going ls has) in
+          taken all others n f r new is going t none;
     }
 
 pub loop-left-preserved : goal.loop-left-preserved
@@ -109,9 +109,9 @@ loop-left-preserved c =
     record {
       fits = c.loop-left.invariant.fits;
       going = λ (ls : List Fields) has.
-        let all = ls ++ lines c.args.text.now in
-        let going : Going all n r (f ∷ others) = subst (Going all n r) left (c.loop-left.invariant.going ls has) in
-        passed all others n f r is going;
+          let all = ls ++ lines c.args.text.now in
+          let going : Going all n r (f ∷ others) = subst (Going all n r) left (c.loop-left.invariant.going ls has) in
+          passed all others n f r is going;
     }
 
 pub invariant_of-result : goal.invariant_of-result
