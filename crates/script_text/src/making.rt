@@ -3,10 +3,10 @@
 ghost use Rattle.std.specs.Prelude.{◌≡◌, ◌&&◌, true, false, IfOk, Err};
 ghost use Rattle.std.specs.List.{list_all};
 ghost use Rattle.doc_model.specs.Lawful.{lawful};
-ghost use Rattle.script_lines.specs.Colours.{is_pixel as said_pixel, is_byte as said_byte};
+ghost use Rattle.script_lines.specs.Colours.{is_pixel as said_pixel};
 ghost use Rattle.script_text.specs.declared.script.MakeRefusal.TheVariants.{NotScript, NoMemory};
 ghost use Rattle.script_text.specs.Script.{contents, is_script};
-ghost use Rattle.script_forms.specs.Ranges.{is_id as said_id, is_number as said_number, is_spot as said_spot, change_in_range, job_in_range, in_range, is_sound as said_sound, in_limits};
+ghost use Rattle.script_forms.specs.Ranges.{is_id as said_id, change_in_range, job_in_range, in_range, is_sound as said_sound, in_limits};
 ghost use Rattle.script_text.specs.Read.{IsGathered};
 
 use crate::reading::Reading;
@@ -28,79 +28,37 @@ fn is_pixel(p: Pixel) -> bool
 fn is_id(id: u16) -> bool
     ensures { result ≡ said_id id }
 {
-    1 <= id && u32::from(id) <= 65535
+    id >= 1
 }
 
-fn is_byte(n: u8) -> bool
-    ensures { result ≡ said_byte n }
-{
-    u32::from(n) <= 255
-}
-
-/// Whether it is the number of a stroke or of changes.
-fn is_number(n: u32) -> bool
-    ensures { result ≡ said_number n }
-{
-    u64::from(n) <= 4294967295
-}
-
-/// Whether they are a node's number, that of a group, and a place.
-fn is_spot(id: u16, parent: u16, place: u8) -> bool
-    ensures { result ≡ said_spot id parent place }
-{
-    is_id(id) && u32::from(parent) <= 65535 && is_byte(place)
-}
-
-fn change_fits(change: &Change) -> bool
-    ensures { result ≡ change_in_range change.now }
+fn change_fits(change: Change) -> bool
+    ensures { result ≡ change_in_range change }
 {
     match change {
-        Change::Layer {
-            id,
-            parent,
-            place,
-            ground,
-        } => is_spot(*id, *parent, *place) && is_pixel(*ground),
-        Change::Group { id, parent, place } => is_spot(*id, *parent, *place),
-        Change::Remove { id } => is_id(*id),
-        Change::Place { id, parent, place } => is_spot(*id, *parent, *place),
-        Change::Look { id, look } => is_id(*id) && is_byte(look.opacity),
+        Change::Layer { id, ground, .. } => is_id(id) && is_pixel(ground),
+        Change::Group { id, .. } | Change::Place { id, .. } => is_id(id),
+        Change::Remove { id } | Change::Look { id, .. } => is_id(id),
     }
 }
 
-fn job_fits(job: &Job) -> bool
-    ensures { result ≡ job_in_range job.now }
+fn job_fits(job: Job) -> bool
+    ensures { result ≡ job_in_range job }
 {
     match job {
-        Job::Fill {
-            colour,
-            strength,
-            ..
-        } => is_pixel(*colour) && is_byte(*strength),
-        Job::Dab {
-            colour,
-            strength,
-            ..
-        } => is_pixel(*colour) && is_byte(*strength),
-        Job::Move { .. } => true,
-        Job::Blur { .. } => true,
+        Job::Fill { colour, .. } | Job::Dab { colour, .. } => is_pixel(colour),
+        Job::Move { .. } | Job::Blur { .. } => true,
     }
 }
 
-/// Whether each number of the command is in its range.
-fn fits(command: &Command) -> bool
-    ensures { result ≡ in_range command.now }
+/// Whether each number of the command is in its range. Most can't be outside, by their types.
+fn fits(command: Command) -> bool
+    ensures { result ≡ in_range command }
 {
     match command {
         Command::Change(change) => change_fits(change),
-        Command::Stroke { no, layer, .. } => is_number(*no) && is_id(*layer),
-        Command::Add { no, job, .. } => is_number(*no) && job_fits(job),
-        Command::End { no } => is_number(*no),
-        Command::Cancel { no } => is_number(*no),
-        Command::Undo => true,
-        Command::Redo => true,
-        Command::Purge { keep } => is_number(*keep),
-        Command::Export => true,
+        Command::Stroke { layer, .. } => is_id(layer),
+        Command::Add { job, .. } => job_fits(job),
+        _ => true,
     }
 }
 
@@ -128,12 +86,12 @@ fn gather(alloc: Global, canvas: Canvas, commands: &[Command]) -> Result<Reading
     ensures ok { IfOk result (λ r. IsGathered r canvas commands.now) }
     ensures refused { result ≡ Err NotScript → (list_all in_range commands.now && lawful commands.now) ≡ false }
 {
-    let Ok(mut reading) = Reading::with_canvas(alloc, canvas, commands.len()) else {
+    let Ok(mut reading) = Reading::new(alloc, Some(canvas), commands.len()) else {
         return Err(MakeRefusal::NoMemory);
     };
     for i in 0..commands.len() {
         let command = commands[i];
-        if !fits(&command) {
+        if !fits(command) {
             return Err(MakeRefusal::NotScript);
         }
         if !is_sound(&command) {

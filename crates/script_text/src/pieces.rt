@@ -36,7 +36,7 @@ impl Reader {
     pub fn new(alloc: Global, bytes: usize) -> Result<Reader, NoMemory>
         ensures { IfOk result (λ r. HasRead r []) }
     {
-        let reading = Reading::new(alloc, bytes / USUAL_LINE)?;
+        let reading = Reading::new(alloc, None, bytes / USUAL_LINE)?;
         Ok(Reader {
             alloc,
             reading,

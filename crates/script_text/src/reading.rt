@@ -9,7 +9,7 @@ ghost use Rattle.script_forms.specs.Forms.{canvas as said_canvas};
 ghost use Rattle.script_forms.specs.Plain.{IsJobLine};
 ghost use Rattle.script_text.specs.Following.{misfit};
 ghost use Rattle.script_text.specs.Reading.{canvas_cause, word_cause, command_cause, cause_by, canvas_in, command_in, command_by, given, first_canvas, start_by, left_open, end_by, contents_by};
-ghost use Rattle.script_text.specs.Read.{IsRefused, IsGathered, Fits, StartsAre, Answers, Takes, TakesCommand};
+ghost use Rattle.script_text.specs.Read.{IsRefused, Fits, StartsAre, Answers, Takes, TakesCommand};
 
 use crate::draft::{Draft, add_last};
 use crate::script::{ReadRefusal, Script, at};
@@ -45,25 +45,14 @@ fn start_of(line: u32, command: &Command) -> Option<Start>
 }
 
 impl Reading {
-    /// Nothing, and room for so many commands.
-    pub(crate) fn new(alloc: Global, room: usize) -> Result<Self, NoMemory>
-        ensures canvas { IfOk result (λ r. r.canvas ≡ None) }
+    /// A canvas or none, and room for so many commands.
+    pub(crate) fn new(alloc: Global, canvas: Option<Canvas>, room: usize) -> Result<Self, NoMemory>
+        ensures canvas { IfOk result (λ r. r.canvas ≡ canvas) }
         ensures draft { IfOk result (λ r. r.draft ≡ []) }
         ensures starts { IfOk result (λ r. r.starts.items ≡ []) }
     {
         Ok(Reading {
-            canvas: None,
-            draft: Draft::new(alloc, room)?,
-            starts: Vec::new(alloc),
-        })
-    }
-
-    /// A canvas, and room for so many commands.
-    pub(crate) fn with_canvas(alloc: Global, canvas: Canvas, room: usize) -> Result<Self, NoMemory>
-        ensures { IfOk result (λ r. IsGathered r canvas []) }
-    {
-        Ok(Reading {
-            canvas: Some(canvas),
+            canvas,
             draft: Draft::new(alloc, room)?,
             starts: Vec::new(alloc),
         })

@@ -3,7 +3,6 @@ use Rattle.std.proofs.lemmas.List.{append-nil}
 use Rattle.script_lines.specs.Lines.{lines}
 use Rattle.script_text.specs.Reading.{fault_in, script_in, fault, script}
 use Rattle.script_text.specs.Read.{Answers}
-use Rattle.script_text.specs.Pieces.{HasRead}
 use Rattle.script_text.specs.declared.script.ScriptFault.{ScriptFault}
 use Rattle.script_text.specs.declared.script.ReadRefusal.{ReadRefusal}
 use Rattle.script_text.specs.declared.script.ReadRefusal.TheVariants.{Fault, NoMemory}

@@ -1,4 +1,4 @@
-use Rattle.std.proofs.Common.{rules, ◌≡◌, ◌+◌, ◌∷◌, ◌++◌, ◌∙◌, List, sym, subst, Some, None, true, false, Result, Err, arith}
+use Rattle.std.proofs.Common.{rules, ◌≡◌, ◌+◌, ◌∷◌, ◌++◌, ◌∙◌, List, sym, subst, Some, None, true, false, Result, Err}
 use Rattle.std.specs.Prelude.{IsSome}
 use Rattle.doc_model.specs.Strokes.{entries}
 use Rattle.script_lines.specs.Lines.{pointed, lines, lines_behind, is_command}
@@ -7,12 +7,10 @@ use Rattle.script_forms.specs.Plain.{IsJobLine}
 use Rattle.script_text.specs.Following.{misfit}
 use Rattle.script_text.specs.Reading.{cause_by}
 use Rattle.script_text.specs.Read.{IsRefused, Takes, TakesCommand, Fits}
-use Rattle.script_text.specs.Pieces.{HasRead}
 use Rattle.script_text.specs.declared.pieces.Reader.{Reader}
 use Rattle.script_text.specs.declared.script.ReadRefusal.{ReadRefusal}
-use Rattle.script_text.specs.declared.script.ReadRefusal.TheVariants.{Fault}
 use Rattle.script_text.proofs.PlainJobs.{job_fields, job_said, takes_job}
-use Rattle.script_text.proofs.Scanning.{Going, taken, passed, refused, starts_match, none_left, numbered_next, some_line}
+use Rattle.script_text.proofs.Scanning.{Going, taken, passed, refused, starts_match, numbered_next, some_line}
 use Rattle.script_text.proofs.pieces.Reader.feed.Goals as goal
 
 pub overflow_add-number : goal.overflow_add-number
