@@ -1,12 +1,12 @@
 -- A printed script reads back.
-use Rattle.std.proofs.Common.{◌≡◌, ℕ, suc, Bool, true, false, ◌&&◌, Option, Some, None, List, [], ◌∷◌, ◌++◌, refl, sym, ap, ◌∙◌}
+use Rattle.std.proofs.Common.{◌≡◌, ℕ, ◌+◌, Bool, true, false, ◌&&◌, Option, Some, None, List, [], ◌∷◌, ◌++◌, refl, ap, ◌∙◌}
 use Rattle.std.specs.List.{list_all, flat_map}
 use Rattle.std.proofs.lemmas.List.Elements.{filter_map-append}
 use Rattle.doc_model.specs.declared.canvas.Canvas.{Canvas}
 use Rattle.doc_model.specs.declared.command.Command.{Command}
 use Rattle.doc_model.specs.Strokes.{Entry, fed, all_fed, entries}
 use Rattle.doc_model.specs.Lawful.{may_follow, lawful_after, lawful, is_closed_entry}
-use Rattle.script_lines.specs.Lines.{lines, is_command}
+use Rattle.script_lines.specs.Lines.{lines}
 use Rattle.script_forms.specs.Jobs.{Fields}
 use Rattle.script_forms.specs.Words.{word_text, canvas_text}
 use Rattle.script_forms.specs.Ranges.{in_range, in_limits, is_sound}
@@ -23,7 +23,7 @@ use Rattle.script_text.proofs.PrintedJobs.{Told}
 use Rattle.script_text.proofs.PrintedCommands.{told, canvas_back, canvas_plain}
 use Rattle.script_text.proofs.Refusals.{misfits, unsound, some_left}
 use Rattle.script_text.proofs.Tables.{entries-append}
-use Rattle.script_text.proofs.Scanning.{canvas_of-append, goes_on}
+use Rattle.script_text.proofs.Scanning.{canvas_of-append, from_more, goes_on}
 use Rattle.script_text.proofs.Scanning as scan
 
 -- what would be false, where a test is true
@@ -67,11 +67,8 @@ cause_told c t canvas before =
     let w = words t.word in
     rw (w.no_canvas, w.back, t.reads) refl
 
-cmds_more : (n : ℕ) (f : Fields) (others : List Fields) → is_command f ≡ true → commands_from n (f ∷ others) ≡ scan.line n f ∷ commands_from (suc n) others
-cmds_more n f others h = rw h refl
-
-cmds_told : (n : ℕ) (c : Command) (t : Told c) (rest : List ℕ) → commands_from n (lines (command_text c ++ rest)) ≡ scan.line n (row t) ∷ commands_from (suc n) (lines rest)
-cmds_told n c t rest = ap (commands_from n) (line_told c t rest) ∙ cmds_more n (row t) (lines rest) (words t.word).begins
+cmds_told : (n : ℕ) (c : Command) (t : Told c) (rest : List ℕ) → commands_from n (lines (command_text c ++ rest)) ≡ scan.line n (row t) ∷ commands_from (n + 1) (lines rest)
+cmds_told n c t rest = ap (commands_from n) (line_told c t rest) ∙ from_more n (row t) (lines rest) (words t.word).begins
 
 more_commands : (before : List NumberedLine) (n : ℕ) (c : Command) (t : Told c) → commands_of (before ++ scan.line n (row t) ∷ []) ≡ commands_of before ++ c ∷ []
 more_commands before n c t = filter_map-append (λ (l : NumberedLine). command_in l.fields) before (scan.line n (row t) ∷ []) ∙ ap (λ l. commands_of before ++ l) (rw (command_told c t) refl)
@@ -96,18 +93,18 @@ no_fault_after before canvas commands n [] is r l h = ended before canvas comman
 no_fault_after before canvas commands n (c ∷ cs) is r l h =
     let may = first (may_follow (entries commands) c) (lawful_after (fed (entries commands) c) cs) l in
     let t = told c (first (in_range c) (list_all in_range cs) r) (sound_where (entries commands) c may) in
-    let others = commands_from (suc n) (lines (flat_map command_text cs)) in
+    let others = commands_from (n + 1) (lines (flat_map command_text cs)) in
     let good : cause before (row t) ≡ None = (λ i. cause_by (is.canvas i) (is.commands i) (row t)) ∙ (cause_told c t canvas commands ∙ fits (entries commands) c may) in
-    let rest = no_fault_after (before ++ scan.line n (row t) ∷ []) canvas (commands ++ c ∷ []) (suc n) cs (before_more before canvas commands n c t is) (second (in_range c) (list_all in_range cs) r)
+    let rest = no_fault_after (before ++ scan.line n (row t) ∷ []) canvas (commands ++ c ∷ []) (n + 1) cs (before_more before canvas commands n c t is) (second (in_range c) (list_all in_range cs) r)
     (ap (λ es. lawful_after es cs) (entries-append commands c) ∙ second (may_follow (entries commands) c) (lawful_after (fed (entries commands) c) cs) l)
     (ap (λ es. list_all is_closed_entry (all_fed es cs)) (entries-append commands c) ∙ h) in
-    ap (fault_after before) (cmds_told n c t (flat_map command_text cs)) ∙ (sym (goes_on before others n (row t) (fault_after before (scan.line n (row t) ∷ others)) good refl) ∙ rest)
+    ap (fault_after before) (cmds_told n c t (flat_map command_text cs)) ∙ (goes_on before others n (row t) good ∙ rest)
 
 commands_told : (es : List Entry) (n : ℕ) (cs : List Command) → list_all in_range cs ≡ true → lawful_after es cs ≡ true → commands_of (commands_from n (lines (flat_map command_text cs))) ≡ cs
 commands_told es n [] r l = refl
 commands_told es n (c ∷ cs) r l =
     let t = told c (first (in_range c) (list_all in_range cs) r) (sound_where es c (first (may_follow es c) (lawful_after (fed es c) cs) l)) in
-    let rest = commands_told (fed es c) (suc n) cs (second (in_range c) (list_all in_range cs) r) (second (may_follow es c) (lawful_after (fed es c) cs) l) in
+    let rest = commands_told (fed es c) (n + 1) cs (second (in_range c) (list_all in_range cs) r) (second (may_follow es c) (lawful_after (fed es c) cs) l) in
     ap commands_of (cmds_told n c t (flat_map command_text cs)) ∙ rw (command_told c t) (ap (λ l. c ∷ l) rest)
 
 -- the four parts of a script
@@ -145,7 +142,7 @@ others_of cs = commands_from 2 (lines (flat_map command_text cs))
 
 lines_told : (s : Contents) → in_limits s.canvas ≡ true → command_lines (text s) ≡ scan.line 1 (canvas_row s.canvas) ∷ others_of s.commands
 unfolding text
-lines_told s h = ap (commands_from 1) (line_first canvas_text (canvas_fields s.canvas) (flat_map command_text s.commands) refl (canvas_plain s.canvas h)) ∙ cmds_more 1 (canvas_row s.canvas) (lines (flat_map command_text s.commands)) refl
+lines_told s h = ap (commands_from 1) (line_first canvas_text (canvas_fields s.canvas) (flat_map command_text s.commands) refl (canvas_plain s.canvas h)) ∙ from_more 1 (canvas_row s.canvas) (lines (flat_map command_text s.commands)) refl
 
 first_before : (c : Canvas) → in_limits c ≡ true → IsBefore (scan.line 1 (canvas_row c) ∷ []) c []
 first_before c h = record { canvas = ap (λ o. first_canvas o None) (canvas_told c h); commands = refl }
@@ -156,7 +153,7 @@ no_fault s h =
     let p = parts s h in
     let start = scan.line 1 (canvas_row s.canvas) in
     let rest = no_fault_after (start ∷ []) s.canvas [] 2 s.commands (first_before s.canvas p.limits) p.ranges p.lawful p.closed in
-    ap (fault_after []) (lines_told s p.limits) ∙ (sym (goes_on [] (others_of s.commands) 1 (canvas_row s.canvas) (fault_after [] (start ∷ others_of s.commands)) (canvas_good s.canvas p.limits) refl) ∙ rest)
+    ap (fault_after []) (lines_told s p.limits) ∙ (goes_on [] (others_of s.commands) 1 (canvas_row s.canvas) (canvas_good s.canvas p.limits) ∙ rest)
 
 same : (s : Contents) → is_script s ≡ true → script (text s) ≡ Some s
 unfolding script script_in fault

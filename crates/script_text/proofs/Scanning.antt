@@ -34,17 +34,17 @@ from-append : (n : ℕ) (xs ys : List Fields) → commands_from n (xs ++ ys) ≡
 from-append n xs ys = ap (filter (λ l. is_command l.fields)) (numbered-append n xs ys) ∙ filter-append (λ (l : NumberedLine). is_command l.fields) (numbered n xs) (numbered (n + length xs) ys)
 
 -- one more line, where it is a command
-pub among_more : (before : List Fields) (n : ℕ) (f : Fields) → n ≡ length before → is_command f ≡ true → commands_among (before ++ f ∷ []) ≡ commands_among before ++ line (n + 1) f ∷ []
+among_more : (before : List Fields) (n : ℕ) (f : Fields) → n ≡ length before → is_command f ≡ true → commands_among (before ++ f ∷ []) ≡ commands_among before ++ line (n + 1) f ∷ []
 among_more before n f e c = from-append 1 before (f ∷ []) ∙ rw c (ap (λ k. commands_among before ++ line k f ∷ []) (omega arith))
 
 pub from_more : (n : ℕ) (f : Fields) (more : List Fields) → is_command f ≡ true → commands_from n (f ∷ more) ≡ line n f ∷ commands_from (n + 1) more
 from_more n f more c = rw c (ap (λ k. line n f ∷ commands_from k more) (omega arith))
 
 -- where it is none
-pub among_same : (before : List Fields) (f : Fields) → is_command f ≡ false → commands_among (before ++ f ∷ []) ≡ commands_among before
+among_same : (before : List Fields) (f : Fields) → is_command f ≡ false → commands_among (before ++ f ∷ []) ≡ commands_among before
 among_same before f c = from-append 1 before (f ∷ []) ∙ rw c (append-nil (commands_among before))
 
-pub from_same : (n : ℕ) (f : Fields) (more : List Fields) → is_command f ≡ false → commands_from n (f ∷ more) ≡ commands_from (n + 1) more
+from_same : (n : ℕ) (f : Fields) (more : List Fields) → is_command f ≡ false → commands_from n (f ∷ more) ≡ commands_from (n + 1) more
 from_same n f more c = rw c (ap (λ k. commands_from k more) (omega arith))
 
 pub canvas_of-append : (before : List NumberedLine) (l : NumberedLine) → canvas_of (before ++ l ∷ []) ≡ first_canvas (canvas_of before) (canvas_in l.fields)
@@ -63,28 +63,28 @@ one_option : {A : Type 0} (o : Option A) → Rattle.std.specs.List.cons_option o
 one_option None = refl
 one_option (Some x) = refl
 
-pub reads_more : (r new : Reading) (before : List NumberedLine) (n : ℕ) (f : Fields) → IsReading r before → Takes r new n f → IsReading new (before ++ line n f ∷ [])
+reads_more : (r new : Reading) (before : List NumberedLine) (n : ℕ) (f : Fields) → IsReading r before → Takes r new n f → IsReading new (before ++ line n f ∷ [])
 reads_more r new before n f is t = record {
   canvas = t.canvas ∙ (ap (λ o. first_canvas o (canvas_in f)) is.canvas ∙ sym (canvas_of-append before (line n f)));
   draft = t.draft ∙ (ap (λ l. l ++ option_to_list (command_in f)) is.draft ∙ sym (filter_map-append _ before (line n f ∷ []) ∙ ap (λ l. commands_of before ++ l) (one_option (command_in f))));
   starts = t.starts ∙ (ap (λ l. l ++ option_to_list (start_by n (command_in f))) is.starts ∙ sym (filter_map-append _ before (line n f ∷ []) ∙ ap (λ l. starts_of before ++ l) (one_option (start_by n (command_in f)))));
 }
 
-pub same_cause : (r : Reading) (before : List NumberedLine) (f : Fields) (o : Option Cause) → IsReading r before → cause_by r.canvas r.draft f ≡ o → cause before f ≡ o
+same_cause : (r : Reading) (before : List NumberedLine) (f : Fields) (o : Option Cause) → IsReading r before → cause_by r.canvas r.draft f ≡ o → cause before f ≡ o
 same_cause r before f o is h = sym (λ i. cause_by (is.canvas i) (is.draft i) f) ∙ h
 
 -- a good line
-pub goes_on : (before rest : List NumberedLine) (n : ℕ) (f : Fields) (total : Option ScriptFault) → cause before f ≡ None → fault_after before (line n f ∷ rest) ≡ total → fault_after (before ++ line n f ∷ []) rest ≡ total
+pub goes_on : (before rest : List NumberedLine) (n : ℕ) (f : Fields) → cause before f ≡ None → fault_after before (line n f ∷ rest) ≡ fault_after (before ++ line n f ∷ []) rest
 unfolding fault_after
-goes_on before rest n f total h so_far = sym (sym so_far ∙ rw h refl)
+goes_on before rest n f h = rw h refl
 
 -- a bad line
-pub stops : (before rest : List NumberedLine) (n : ℕ) (f : Fields) (c : Cause) → cause before f ≡ Some c → fault_after before (line n f ∷ rest) ≡ Some (record { line = n; cause = c })
+stops : (before rest : List NumberedLine) (n : ℕ) (f : Fields) (c : Cause) → cause before f ≡ Some c → fault_after before (line n f ∷ rest) ≡ Some (record { line = n; cause = c })
 unfolding fault_after
 stops before rest n f c h = rw h refl
 
 -- the end of the lines
-pub ends : (before : List NumberedLine) → fault_after before [] ≡ end_fault before
+ends : (before : List NumberedLine) → fault_after before [] ≡ end_fault before
 unfolding fault_after
 ends before = refl
 
@@ -150,7 +150,7 @@ taken all others n f r new c g t none =
         good = λ more.
             ap fault_in (append_assoc before (f ∷ []) more) ∙ (g.read.good (f ∷ more)
             ∙ (ap (fault_after (commands_among before)) (from_more (n + 1) f more c)
-            ∙ (sym (goes_on (commands_among before) (commands_from (n + 1 + 1) more) (n + 1) f _ (same_cause r (commands_among before) f None g.read.reading none) refl)
+            ∙ (goes_on (commands_among before) (commands_from (n + 1 + 1) more) (n + 1) f (same_cause r (commands_among before) f None g.read.reading none)
             ∙ ap (λ ls. fault_after ls (commands_from (n + 1 + 1) more)) (sym now))));
       };
       whole = one_more all before others f g.whole;
@@ -181,10 +181,6 @@ refused all others more n f r fault c g bad =
     ∙ (ap (fault_after (commands_among before)) (from_more (n + 1) f (others ++ more) c)
     ∙ (stops (commands_among before) (commands_from (n + 1 + 1) (others ++ more)) (n + 1) f fault.cause (same_cause r (commands_among before) f (Some fault.cause) g.read.reading bad.1)
     ∙ ap (λ k. Some (record { line = k; cause = fault.cause })) (sym bad.0))))
-
--- where no lines are left
-pub none_left : (all : List Fields) (n : ℕ) (r : Reading) → Going all n r [] → AreRead all n r
-none_left all n r g = subst (λ ls. AreRead ls n r) (sym (append-nil g.before) ∙ g.whole) g.read
 
 -- what is wrong with the end
 end_of : (ls : List Fields) (n : ℕ) (r : Reading) → AreRead ls n r → fault_in ls ≡ end_by r.canvas r.draft r.starts.items
