@@ -37,17 +37,8 @@ module _ (start : ℕ) (before now : Option (List ℕ)) (count : ℕ) (c : IsCou
   at_most_in_all limit few m = (c.got ++ m.0, Consumes-trans before now next c.got m.0 c.consumed m.1, omega (arith, length-append c.got m.0, c.size, m.2))
 
 -- what was read of a source, with a fault that stays its first, and then all the rest
-pub faulty_source : (before now next : Option (List ℕ)) (got : List ℕ) (limit : ℕ) (f : ScriptFault) → Consumes before now got → ((more : List ℕ) → fault (got ++ more) ≡ Some f) → ConsumesAtMost limit now next → IsAtEnd next → WasRead before next (HasFault f)
-faulty_source None now next got limit f h bad m end = tt
-faulty_source (Some x) None next got limit f h bad m end = absurd h
-faulty_source (Some x) (Some y) None got limit f h bad m end = absurd m.1
-faulty_source (Some x) (Some y) (Some z) got limit f h bad m end = (ap Some end, ap fault (h ∙ ap (λ l. got ++ l) m.1) ∙ bad (m.0 ++ z))
-
--- what was read of a source, up to its end
-pub all_read : (P : List ℕ → Type 0) (before now next : Option (List ℕ)) (got : List ℕ) → Consumes before now got → Consumes now next [] → IsAtEnd next → P got → WasRead before next P
-all_read P None now next got h k end p = tt
-all_read P (Some x) None next got h k end p = absurd h
-all_read P (Some x) (Some y) None got h k end p = absurd k
-all_read P (Some x) (Some y) (Some z) got h k end p =
-    let same : got ≡ x = sym (h ∙ ap (λ l. got ++ l) (k ∙ end) ∙ append-nil got) in
-    (ap Some end, Rattle.std.proofs.Common.subst P same p)
+pub faulty_source : (before now next : Option (List ℕ)) (got : List ℕ) (limit : ℕ) (f told : ScriptFault) → f ≡ told → Consumes before now got → ((more : List ℕ) → fault (got ++ more) ≡ Some f) → ConsumesAtMost limit now next → IsAtEnd next → WasRead before next (HasFault told)
+faulty_source None now next got limit f told same h bad m end = tt
+faulty_source (Some x) None next got limit f told same h bad m end = absurd h
+faulty_source (Some x) (Some y) None got limit f told same h bad m end = absurd m.1
+faulty_source (Some x) (Some y) (Some z) got limit f told same h bad m end = (ap Some end, ap fault (h ∙ ap (λ l. got ++ l) m.1) ∙ bad (m.0 ++ z) ∙ ap Some same)
