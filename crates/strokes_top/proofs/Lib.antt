@@ -1,3 +1,5 @@
 pub mod Transfers
+pub mod Intakes
+pub mod Takings
 pub mod Choices
 pub mod Outputs

@@ -1,17 +1,44 @@
 -- What several writes and reads in a row do.
-use Rattle.std.proofs.Common.{ℕ, List, [], ◌++◌, Option, Some, None, Result, Ok, Err, OnOk, OnErr, sym, ap, ◌∙◌, append_assoc}
-use Rattle.std.specs.Io.KnownBytes.{Appends, Consumes}
+use Rattle.std.proofs.Common.{◌≡◌, ◌∙◌, ℕ, ◌+◌, ◌-◌, ◌≤◌, ◌<◌, List, [], ◌++◌, length, length-append, Option, Some, None, Result, Ok, Err, OnOk, OnErr, refl, sym, ap, arith}
+use Rattle.std.specs.Io.KnownBytes.{Appends, Consumes, IsAtEnd}
+use Rattle.std.proofs.KnownBytes.{Consumes-nil, Consumes-trans}
 use Rattle.std.proofs.lemmas.List.{append-nil}
 use Rattle.io_edge.specs.declared.outside.Failed.{Failed}
 use Rattle.io_edge.specs.Bytes.{AppendsPrefix}
-
-pub consumes_both : (a b c : Option (List ℕ)) (xs ys : List ℕ) → Consumes a b xs → Consumes b c ys → Consumes a c (xs ++ ys)
-consumes_both None b c xs ys h k = tt
-consumes_both (Some x) None c xs ys h k = absurd h
-consumes_both (Some x) (Some y) None xs ys h k = absurd k
-consumes_both (Some x) (Some y) (Some z) xs ys h k = h ∙ ap (λ l. xs ++ l) k ∙ sym (append_assoc xs ys z)
+use Rattle.script_text.specs.declared.script.ScriptFault.{ScriptFault}
+use Rattle.script_text.specs.Script.{Contents}
+use Rattle.script_text.specs.Reading.{fault, script}
+use Rattle.strokes_top.specs.Bytes.{ConsumesMore, ConsumesAtMost}
+use Rattle.strokes_top.specs.Run.{WasRead, IsGood, HasFault}
 
 -- all of a line is a prefix of it
 pub prefix_of_either : (r : Result (Unit {0}) Failed) (old new : Option (List ℕ)) (line : List ℕ) → OnOk r (Appends old new line) → OnErr r (AppendsPrefix old new line) → AppendsPrefix old new line
 prefix_of_either (Ok u) old new line all some = (line, [], sym (append-nil line), all)
 prefix_of_either (Err e) old new line all some = some
+
+-- with the bytes that were taken a count rose from its start to where it is
+pub record IsCounted (start : ℕ) (before now : Option (List ℕ)) (count : ℕ) : Type 0 where
+  pub got : List ℕ
+  pub consumed : Consumes before now got
+  pub size : start + length got ≡ count
+
+pub none_counted : (start : ℕ) (before : Option (List ℕ)) → IsCounted start before before start
+none_counted start before = record { got = []; consumed = Consumes-nil before; size = omega arith }
+
+module _ (start : ℕ) (before now : Option (List ℕ)) (count : ℕ) (c : IsCounted start before now count) (next : Option (List ℕ)) where
+  pub more_counted : (piece : List ℕ) (n : ℕ) → Consumes now next piece → length piece ≡ n → IsCounted start before next (count + n)
+  more_counted piece n h e = record { got = c.got ++ piece; consumed = Consumes-trans before now next c.got piece c.consumed h; size = omega (arith, length-append c.got piece, c.size, e) }
+
+  -- more than what was left of a limit is more than all of it
+  pub more_in_all : (limit : ℕ) → count ≤ limit → ConsumesMore (limit - count) now next → ConsumesMore (limit - start) before next
+  more_in_all limit few m = (c.got ++ m.0, Consumes-trans before now next c.got m.0 c.consumed m.1, omega (arith, length-append c.got m.0, c.size, m.2))
+
+  pub at_most_in_all : (limit : ℕ) → count ≤ limit → ConsumesAtMost (limit - count) now next → ConsumesAtMost (limit - start) before next
+  at_most_in_all limit few m = (c.got ++ m.0, Consumes-trans before now next c.got m.0 c.consumed m.1, omega (arith, length-append c.got m.0, c.size, m.2))
+
+-- what was read of a source, with a fault that stays its first, and then all the rest
+pub faulty_source : (before now next : Option (List ℕ)) (got : List ℕ) (limit : ℕ) (f told : ScriptFault) → f ≡ told → Consumes before now got → ((more : List ℕ) → fault (got ++ more) ≡ Some f) → ConsumesAtMost limit now next → IsAtEnd next → WasRead before next (HasFault told)
+faulty_source None now next got limit f told same h bad m end = tt
+faulty_source (Some x) None next got limit f told same h bad m end = absurd h
+faulty_source (Some x) (Some y) None got limit f told same h bad m end = absurd m.1
+faulty_source (Some x) (Some y) (Some z) got limit f told same h bad m end = (ap Some end, ap fault (h ∙ ap (λ l. got ++ l) m.1) ∙ bad (m.0 ++ z) ∙ ap Some same)

@@ -1,5 +1,6 @@
 pub mod Bytes
 pub mod Choice
+pub mod Intakes
 pub mod Named
 pub mod Output
 pub mod Status

@@ -2,6 +2,10 @@
 use Rattle.std.specs.Prelude.{ℕ, Bool, true, false, List, [], ◌++◌, codes}
 use Rattle.std.specs.Fmt.{decimal}
 use Rattle.script_lines.specs.Causes.{text}
+use Rattle.script_text.specs.declared.script.ReadRefusal.{ReadRefusal}
+use Rattle.script_text.specs.declared.script.ReadRefusal.TheVariants as refusal
+use Rattle.strokes_top.specs.declared.transfer.ReadError.{ReadError}
+use Rattle.strokes_top.specs.declared.transfer.ReadError.TheVariants as read
 use Rattle.strokes_top.specs.declared.status.Status.{Status}
 use Rattle.strokes_top.specs.declared.status.Status.TheVariants.{Done, DoneWithRefusals, Usage, Script, ReadFault, WriteFault, NoMemory, TooLong}
 
@@ -58,3 +62,13 @@ is_painted DoneWithRefusals = true
 is_painted WriteFault = true
 is_painted NoMemory = true
 is_painted s = false
+
+-- how a run ends whose source isn't read to its end
+abbrev pub of_read : ReadError → Status
+of_read read.Failed = ReadFault
+of_read read.TooLong = TooLong
+
+-- how a run ends whose script isn't taken
+abbrev pub of_refusal : ReadRefusal → Status
+of_refusal (refusal.Fault f) = Script f.line f.cause
+of_refusal refusal.NoMemory = NoMemory

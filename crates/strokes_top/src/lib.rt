@@ -3,6 +3,7 @@
 
 mod choice;
 mod command;
+mod intake;
 mod report;
 mod source;
 mod status;

@@ -7,14 +7,16 @@ ghost use Rattle.strokes_top.specs.Bytes.{ConsumesMore, ConsumesAtMost};
 ghost use Rattle.strokes_top.specs.Run.{WasRead, IsGood, HasFault, IsOf, IsRefused};
 ghost use Rattle.strokes_top.specs.Status.{is_of_script};
 
+use crate::intake::Intake;
 use crate::status::Status;
-use crate::transfer::{LIMIT, ReadError, read_all};
+use crate::transfer::{CHUNK, LIMIT, next_piece, skip_rest};
 use demo_gen::script_of;
 use io_edge::Source;
-use script_text::{ReadRefusal, Script, read};
+use script_text::{ReadRefusal, Script};
 use std::alloc::Global;
 
-/// Reads the script that the source spells.
+/// Reads the script that the source spells, while it comes in. Where a line has a fault the source
+/// is still read to its end, since a longer one is no script whatever its lines say.
 ///
 /// # Errors
 /// The status of a run that has no script.
@@ -26,19 +28,26 @@ fn read_script<S: Source>(alloc: Global, source: &mut S) -> Result<Script, Statu
     ensures read_fault { IsErrOf result Status.ReadFault → Rose (S.faults source.old) (S.faults source.new) }
     ensures statuses { IfErr result (λ status. is_of_script status ≡ true) }
 {
-    let bytes = match read_all(alloc, source) {
-        Ok(bytes) => bytes,
-        Err(ReadError::Failed) => return Err(Status::ReadFault),
-        Err(ReadError::TooLong) => return Err(Status::TooLong),
-        Err(ReadError::NoMemory) => return Err(Status::NoMemory),
+    let Ok(mut intake) = Intake::new(alloc) else {
+        return Err(Status::NoMemory);
     };
-    match read(alloc, &bytes) {
-        Ok(script) => Ok(script),
-        Err(ReadRefusal::Fault(fault)) => Err(Status::Script {
-            line: fault.line,
-            cause: fault.cause,
-        }),
-        Err(ReadRefusal::NoMemory) => Err(Status::NoMemory),
+    let mut chunk = [0u8; CHUNK];
+    let mut count = 0;
+    loop {
+        let n = next_piece(source, &mut chunk, count)?;
+        if n == 0 {
+            let script = intake.finish()?;
+            return Ok(script);
+        }
+        count += n;
+        intake = match intake.take(&chunk[..n]) {
+            Ok(more) => more,
+            Err(ReadRefusal::NoMemory) => return Err(Status::NoMemory),
+            Err(ReadRefusal::Fault(fault)) => {
+                skip_rest(source, &mut chunk, count)?;
+                return Err(Status::of_fault(fault));
+            }
+        };
     }
 }
 

@@ -2,7 +2,8 @@
 
 ghost use Rattle.std.specs.Prelude.{◌≡◌};
 
-use script_text::Cause;
+use crate::transfer::ReadError;
+use script_text::{Cause, ReadRefusal, ScriptFault};
 
 /// How a run ended.
 #[derive(Clone, Copy, Debug, PartialEq, Eq)]
@@ -28,6 +29,16 @@ pub enum Status {
 impl Status {
     ghost use Rattle.strokes_top.specs.Status.{code_of};
 
+    /// That of a script with that fault.
+    pub(crate) fn of_fault(fault: ScriptFault) -> Status
+        ensures { result ≡ Status.Script fault.line fault.cause }
+    {
+        Status::Script {
+            line: fault.line,
+            cause: fault.cause,
+        }
+    }
+
     /// The program's exit status.
     pub fn code(self) -> u8
         ensures { result ≡ code_of self }
@@ -41,6 +52,32 @@ impl Status {
             Status::WriteFault => 5,
             Status::NoMemory => 6,
             Status::TooLong => 7,
+        }
+    }
+}
+
+impl From<ReadError> for Status {
+    ghost use Rattle.strokes_top.specs.Status.{of_read};
+
+    ghost from_gives = { λ error status. status ≡ of_read error };
+
+    fn from(error: ReadError) -> Status {
+        match error {
+            ReadError::Failed => Status::ReadFault,
+            ReadError::TooLong => Status::TooLong,
+        }
+    }
+}
+
+impl From<ReadRefusal> for Status {
+    ghost use Rattle.strokes_top.specs.Status.{of_refusal};
+
+    ghost from_gives = { λ refusal status. status ≡ of_refusal refusal };
+
+    fn from(refusal: ReadRefusal) -> Status {
+        match refusal {
+            ReadRefusal::Fault(fault) => Status::of_fault(fault),
+            ReadRefusal::NoMemory => Status::NoMemory,
         }
     }
 }

@@ -1,18 +1,17 @@
-//! Reading all of a source.
+//! Reading a source piece by piece, as far as the limit.
 
-ghost use Rattle.std.specs.Prelude.{◌≡◌, ◌≢◌, ◌≤◌, length, Err, IfOk, OnOk, OnErr, IsErrOf};
+ghost use Rattle.std.specs.Prelude.{◌≡◌, ◌≢◌, ◌+◌, ◌-◌, ◌<◌, ◌≤◌, length, take, Ok, Err, IfOk, OnOk, IsErrOf};
 ghost use Rattle.std.specs.Io.KnownBytes.{Consumes, IsAtEnd};
 ghost use Rattle.io_edge.specs.Faults.{Rose};
 ghost use Rattle.strokes_top.specs.Bytes.{ConsumesMore, ConsumesAtMost};
 
 use io_edge::{Failed, Source};
-use std::alloc::Global;
 
 /// The most bytes that a script may have.
 pub const LIMIT: usize = 1_048_576;
 
 /// How many bytes are asked for at once.
-const CHUNK: usize = 16_384;
+pub const CHUNK: usize = 16_384;
 
 /// Why a source wasn't read to its end.
 #[derive(Clone, Copy, Debug, PartialEq, Eq)]
@@ -21,38 +20,52 @@ pub enum ReadError {
     Failed,
     /// There are more than `LIMIT` bytes.
     TooLong,
-    /// Memory ran out.
-    NoMemory,
 }
 
-/// Reads all that is left, where that is at most `LIMIT` bytes.
-pub fn read_all<S: Source>(alloc: Global, source: &mut S) -> Result<Vec<u8>, ReadError>
-    ensures all { IfOk result (λ v. Consumes (S.left source.old) (S.left source.new) v.items) }
-    ensures short { IfOk result (λ v. length v.items ≤ LIMIT) }
-    ensures to_the_end { OnOk result (IsAtEnd (S.left source.new)) }
-    ensures too_long { IsErrOf result ReadError.TooLong → ConsumesMore LIMIT (S.left source.old) (S.left source.new) }
-    ensures within_limit { result ≢ Err ReadError.TooLong → ConsumesAtMost LIMIT (S.left source.old) (S.left source.new) }
+/// Reads the next bytes into the front of the chunk, where `count` were read before, and says how
+/// many: 0 only at the end.
+pub fn next_piece<S: Source>(
+    source: &mut S,
+    chunk: &mut [u8],
+    count: usize,
+) -> Result<usize, ReadError>
+    requires room { 0 < length chunk.old }
+    requires count { count ≤ LIMIT }
+    ensures bytes { IfOk result (λ n. Consumes (S.left source.old) (S.left source.new) (take n chunk.new)) }
+    ensures bound { IfOk result (λ n. n ≤ length chunk.new) }
+    ensures short { IfOk result (λ n. count + n ≤ LIMIT) }
+    ensures to_the_end { result ≡ Ok 0 → IsAtEnd (S.left source.new) }
+    ensures too_long { IsErrOf result ReadError.TooLong → ConsumesMore (LIMIT - count) (S.left source.old) (S.left source.new) }
+    ensures within_limit { result ≢ Err ReadError.TooLong → ConsumesAtMost (LIMIT - count) (S.left source.old) (S.left source.new) }
     ensures failed { IsErrOf result ReadError.Failed → Rose (S.faults source.old) (S.faults source.new) }
     ensures later { S.faults source.old ≤ S.faults source.new }
 {
-    // Room that isn't written to yet costs next to nothing, and so the bytes never move.
-    let Ok(mut bytes) = Vec::with_capacity(alloc, LIMIT) else {
-        return Err(ReadError::NoMemory);
-    };
-    let mut chunk = [0u8; CHUNK];
+    match source.read(chunk) {
+        Ok(n) if n > LIMIT - count => Err(ReadError::TooLong),
+        Ok(n) => Ok(n),
+        Err(Failed) => Err(ReadError::Failed),
+    }
+}
+
+/// Reads the source to its end, where `count` bytes were read before, and lets the bytes go.
+pub fn skip_rest<S: Source>(
+    source: &mut S,
+    chunk: &mut [u8],
+    mut count: usize,
+) -> Result<(), ReadError>
+    requires room { 0 < length chunk.old }
+    requires count { count ≤ LIMIT }
+    ensures to_the_end { OnOk result (IsAtEnd (S.left source.new)) }
+    ensures too_long { IsErrOf result ReadError.TooLong → ConsumesMore (LIMIT - count) (S.left source.old) (S.left source.new) }
+    ensures within_limit { result ≢ Err ReadError.TooLong → ConsumesAtMost (LIMIT - count) (S.left source.old) (S.left source.new) }
+    ensures failed { IsErrOf result ReadError.Failed → Rose (S.faults source.old) (S.faults source.new) }
+    ensures later { S.faults source.old ≤ S.faults source.new }
+{
     loop {
-        let n = match source.read(&mut chunk) {
-            Ok(n) => n,
-            Err(Failed) => return Err(ReadError::Failed),
-        };
+        let n = next_piece(source, chunk, count)?;
         if n == 0 {
-            return Ok(bytes);
+            return Ok(());
         }
-        if n > LIMIT - bytes.len() {
-            return Err(ReadError::TooLong);
-        }
-        if bytes.extend_from_slice(&chunk[..n]).is_err() {
-            return Err(ReadError::NoMemory);
-        }
+        count += n;
     }
 }

@@ -1,0 +1,55 @@
+-- A source whose bytes are taken while they come in.
+use Rattle.std.proofs.Common.{◌≡◌, ℕ, ◌+◌, ◌≤◌, List, [], ◌++◌, length, length-append, length-take-le, take, Option, refl, ap₂, arith}
+use Rattle.std.specs.Io.KnownBytes.{Consumes}
+use Rattle.std.proofs.KnownBytes.{Consumes-nil, Consumes-trans}
+use Rattle.script_lines.specs.declared.cause.Cause.{Cause}
+use Rattle.script_text.specs.declared.script.ScriptFault.{ScriptFault}
+use Rattle.strokes_top.specs.declared.intake.Intake.{Intake}
+use Rattle.strokes_top.specs.declared.status.Status.{Status}
+use Rattle.strokes_top.specs.declared.status.Status.TheVariants as status
+use Rattle.strokes_top.specs.declared.transfer.ReadError.{ReadError}
+use Rattle.strokes_top.specs.declared.transfer.ReadError.TheVariants as read
+use Rattle.strokes_top.specs.Bytes.{ConsumesAtMost}
+use Rattle.strokes_top.specs.Intakes.{HasTaken}
+use Rattle.strokes_top.specs.Status.{of_read}
+use Rattle.strokes_top.proofs.Transfers.{IsCounted, more_counted}
+
+-- so many bytes of a source were read, and the intake has taken them
+pub record IsTaking (before now : Option (List ℕ)) (intake : Intake) (count : ℕ) : Type 0 where
+  pub got : List ℕ
+  pub consumed : Consumes before now got
+  pub size : length got ≡ count
+  pub taken : HasTaken intake got
+
+pub none_taking : (before : Option (List ℕ)) (i : Intake) → HasTaken i [] → IsTaking before before i 0
+none_taking before i h = record { got = []; consumed = Consumes-nil before; size = refl; taken = h }
+
+module _ (before now : Option (List ℕ)) (i : Intake) (count : ℕ) (t : IsTaking before now i count) where
+  pub counted : IsCounted 0 before now count
+  counted = record { got = t.got; consumed = t.consumed; size = omega (arith, t.size) }
+
+  -- the same, when a piece was read and not taken yet
+  pub counted_with : (next : Option (List ℕ)) (chunk : List ℕ) (n : ℕ) → Consumes now next (take n chunk) → n ≤ length chunk → IsCounted 0 before next (count + n)
+  counted_with next chunk n h within = more_counted 0 before now count counted next (take n chunk) n h (length-take-le n chunk within)
+
+  pub more_taking : (next : Option (List ℕ)) (new : Intake) (chunk : List ℕ) (n : ℕ) → Consumes now next (take n chunk) → n ≤ length chunk → HasTaken new (t.got ++ take n chunk) → IsTaking before next new (count + n)
+  more_taking next new chunk n h within taken = record {
+    got = t.got ++ take n chunk;
+    consumed = Consumes-trans before now next t.got (take n chunk) t.consumed h;
+    size = omega (arith, length-append t.got (take n chunk), length-take-le n chunk within, t.size);
+    taken = taken;
+  }
+
+pub at_most_counted : (before now : Option (List ℕ)) (count limit : ℕ) → IsCounted 0 before now count → count ≤ limit → ConsumesAtMost limit before now
+at_most_counted before now count limit c few = (c.got, c.consumed, omega (arith, c.size))
+
+-- the only fault that is told so
+pub is_long : (e : ReadError) → of_read e ≡ status.TooLong → e ≡ read.TooLong
+is_long read.TooLong h = refl
+is_long read.Failed h = cc
+
+pub same_fault : (f : ScriptFault) (line : ℕ) (cause : Cause) → status.Script f.line f.cause ≡ status.Script line cause → f ≡ record { line = line; cause = cause }
+same_fault f line cause e =
+    let same_line : f.line ≡ line = cc in
+    let same_cause : f.cause ≡ cause = cc in
+    ap₂ (λ (n : ℕ) (c : Cause). let g : ScriptFault = record { line = n; cause = c } in g) same_line same_cause
