@@ -1,11 +1,12 @@
 -- The pieces of a list between the items that pass a test, and the fields of a line.
-use Rattle.std.proofs.Common.{◌≡◌, ◌∙◌, ℕ, ◌+◌, ◌-◌, ◌<◌, ◌≤◌, Bool, true, false, List, [], ◌∷◌, ◌++◌, length, get_or, take, drop, ap, sym, refl, ◌||◌, append_assoc, eq-or-lt_of_le, inl, inr, arith}
-use Rattle.std.specs.List.{All, slice_split, position_or_len, filter}
-use Rattle.script_lines.specs.Lines.{is_blank, is_some_field, fields}
-use Rattle.std.proofs.lemmas.List.{get_or-drop, length-drop, length-take-le, get_or-take, take_more}
+use Rattle.std.proofs.Common.{◌≡◌, ◌∙◌, ℕ, ◌+◌, ◌-◌, ◌<◌, ◌≤◌, Bool, true, false, cond, List, [], ◌∷◌, ◌++◌, length, map, get_or, take, drop, ap, sym, refl, ◌||◌, append_assoc, eq-or-lt_of_le, inl, inr, arith}
+use Rattle.std.specs.Prelude.{◌==◌}
+use Rattle.std.specs.List.{All, slice_split, onto_first, count_by, position_or_len, filter}
+use Rattle.script_lines.specs.Lines.{is_blank, is_some_field, fields, lines}
+use Rattle.std.proofs.lemmas.List.{get_or-drop, length-drop, length-take-le, get_or-take, take_more, map-append}
 use Rattle.std.proofs.Math.Seq.{take-add}
 use Rattle.std.proofs.lemmas.List.Sums.{position_or_len_is}
-use Rattle.std.proofs.lemmas.List.Splits.{slice_split_at, slice_split_none, slice_split_first}
+use Rattle.std.proofs.lemmas.List.Splits.{slice_split_at, slice_split_none, slice_split_first, length-slice_split}
 use Rattle.std.proofs.lemmas.List.Elements.{All-from_get_or, filter-append}
 
 module _ (p : ℕ → Bool) where
@@ -25,9 +26,30 @@ module _ (p : ℕ → Bool) where
       let place : position_or_len p xs ≡ j = position_or_len_is p xs j 0 (omega (arith, h)) (λ k below. none k (omega arith) below) (λ _. passes) in
       slice_split_first p xs 0 (omega (arith, place, h)) ∙ (λ t. take (place t) xs ∷ slice_split p (drop (place t + 1) xs))
 
+  onto_first-append : (x : ℕ) (xs : List ℕ) (parts : List (List ℕ)) → onto_first x (slice_split p xs ++ parts) ≡ onto_first x (slice_split p xs) ++ parts
+  onto_first-append x xs parts = go (slice_split p xs) (length-slice_split p xs)
+    where
+      go : (first : List (List ℕ)) → length first ≡ count_by p xs + 1 → onto_first x (first ++ parts) ≡ onto_first x first ++ parts
+      go [] e = absurd (omega arith)
+      go (part ∷ others) e = refl
+
+  -- the pieces of two lists with an item that passes between them
+  slice_split-append : (xs : List ℕ) (y : ℕ) (ys : List ℕ) → p y ≡ true → slice_split p (xs ++ y ∷ ys) ≡ slice_split p xs ++ slice_split p ys
+  slice_split-append [] y ys h = rw h refl
+  slice_split-append (x ∷ xs) y ys h = at (p x) (slice_split-append xs y ys h)
+    where
+      at : (b : Bool) → slice_split p (xs ++ y ∷ ys) ≡ slice_split p xs ++ slice_split p ys
+          → cond b ([] ∷ slice_split p (xs ++ y ∷ ys)) (onto_first x (slice_split p (xs ++ y ∷ ys))) ≡ cond b ([] ∷ slice_split p xs) (onto_first x (slice_split p xs)) ++ slice_split p ys
+      at true e = ap (λ l. [] ∷ l) e
+      at false e = ap (onto_first x) e ∙ onto_first-append x xs (slice_split p ys)
+
   -- the only piece is the whole
   pub only_piece : (xs : List ℕ) → NonePasses xs 0 (length xs) → slice_split p xs ≡ xs ∷ []
   only_piece xs none = slice_split_none p xs (All-from_get_or (λ x. p x ≡ false) xs 0 (λ k h. none k (omega arith) h))
+
+-- the lines of two texts with a line feed between them
+pub lines-append : (xs ys : List ℕ) → lines (xs ++ 10 ∷ ys) ≡ lines xs ++ lines ys
+lines-append xs ys = ap (map fields) (slice_split-append (λ b. b == 10) xs 10 ys refl) ∙ map-append fields (slice_split (λ b. b == 10) xs) (slice_split (λ b. b == 10) ys)
 
 -- the items from place i up to j
 abbrev pub piece : List ℕ → ℕ → ℕ → List ℕ

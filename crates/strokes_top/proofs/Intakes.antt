@@ -1,10 +1,6 @@
 -- Lines of a script that comes in piece by piece.
-use Rattle.std.specs.Prelude.{◌==◌}
-use Rattle.std.proofs.Common.{◌≡◌, ◌∙◌, ℕ, ◌+◌, ◌≤◌, suc, Bool, true, false, cond, List, [], ◌∷◌, ◌++◌, length, map, Option, Some, None, Result, Ok, Err, refl, sym, ap, subst, append_assoc, append-nil, length-append, arith}
-use Rattle.std.specs.List.{slice_split, onto_first, count_by}
-use Rattle.std.proofs.lemmas.List.{map-append}
-use Rattle.std.proofs.lemmas.List.Splits.{length-slice_split}
-use Rattle.script_lines.specs.Lines.{fields, lines}
+use Rattle.std.proofs.Common.{◌≡◌, ◌∙◌, ℕ, ◌+◌, ◌≤◌, List, [], ◌∷◌, ◌++◌, length, Some, Result, Err, refl, sym, ap, subst, append_assoc, append-nil, length-append, arith}
+use Rattle.script_lines.specs.Lines.{lines}
 use Rattle.script_forms.specs.Jobs.{Fields}
 use Rattle.script_text.specs.declared.script.ScriptFault.{ScriptFault}
 use Rattle.script_text.specs.declared.script.ReadRefusal.{ReadRefusal}
@@ -13,48 +9,15 @@ use Rattle.script_text.specs.Script.{Contents}
 use Rattle.script_text.specs.Reading.{fault_in, fault, script_in, script}
 use Rattle.script_text.specs.Read.{Answers}
 use Rattle.script_text.specs.Pieces.{HasRead, HasRoom}
+use Rattle.script_lines.proofs.Pieces.{lines-append}
 use Rattle.script_text.proofs.Scanning.{few_lines}
 use Rattle.strokes_top.specs.declared.intake.Intake.{Intake}
 use Rattle.strokes_top.specs.Intakes.{HasTaken}
-
-module _ (p : ℕ → Bool) where
-  onto_first-append : (x : ℕ) (xs : List ℕ) (parts : List (List ℕ)) → onto_first x (slice_split p xs ++ parts) ≡ onto_first x (slice_split p xs) ++ parts
-  onto_first-append x xs parts = go (slice_split p xs) (length-slice_split p xs)
-    where
-      go : (first : List (List ℕ)) → length first ≡ count_by p xs + 1 → onto_first x (first ++ parts) ≡ onto_first x first ++ parts
-      go [] e = absurd (omega arith)
-      go (part ∷ others) e = refl
-
-  -- the parts of a list that is cut where an item passes
-  pub slice_split-append : (xs : List ℕ) (y : ℕ) (ys : List ℕ) → p y ≡ true → slice_split p (xs ++ y ∷ ys) ≡ slice_split p xs ++ slice_split p ys
-  slice_split-append [] y ys h = rw h refl
-  slice_split-append (x ∷ xs) y ys h = at (p x) (slice_split-append xs y ys h)
-    where
-      at : (b : Bool) → slice_split p (xs ++ y ∷ ys) ≡ slice_split p xs ++ slice_split p ys
-          → cond b ([] ∷ slice_split p (xs ++ y ∷ ys)) (onto_first x (slice_split p (xs ++ y ∷ ys))) ≡ cond b ([] ∷ slice_split p xs) (onto_first x (slice_split p xs)) ++ slice_split p ys
-      at true e = ap (λ l. [] ∷ l) e
-      at false e = ap (onto_first x) e ∙ onto_first-append x xs (slice_split p ys)
-
--- the lines of bytes that are cut at a line feed
-pub lines-append : (xs ys : List ℕ) → lines (xs ++ 10 ∷ ys) ≡ lines xs ++ lines ys
-lines-append xs ys = ap (map fields) (slice_split-append (λ b. b == 10) xs 10 ys refl) ∙ map-append fields (slice_split (λ b. b == 10) xs) (slice_split (λ b. b == 10) ys)
-
--- no byte yet
-pub none_taken : (i : Intake) → HasRead i.reader [] → i.rest.items ≡ [] → HasTaken i []
-none_taken i read empty = record { whole = []; read = read; rest = λ more. ap (λ l. lines (l ++ more)) (sym empty) }
 
 module _ (i : Intake) (got : List ℕ) (t : HasTaken i got) where
   -- the lines, where no byte follows
   all_lines : lines got ≡ t.whole ++ lines i.rest.items
   all_lines = ap lines (sym (append-nil got)) ∙ t.rest [] ∙ ap (λ l. t.whole ++ lines l) (append-nil i.rest.items)
-
-  -- more of the line that isn't whole
-  pub grown : (new : Intake) (piece : List ℕ) → new.reader ≡ i.reader → new.rest.items ≡ i.rest.items ++ piece → HasTaken new (got ++ piece)
-  grown new piece same more_rest = record {
-    whole = t.whole;
-    read = subst (λ r. HasRead r t.whole) (sym same) t.read;
-    rest = λ more. ap lines (append_assoc got piece more) ∙ t.rest (piece ++ more) ∙ ap (λ l. t.whole ++ lines l) (sym (ap (λ l. l ++ more) more_rest ∙ append_assoc i.rest.items piece more));
-  }
 
   -- at the end the text is the line that isn't whole
   module _ (text : List ℕ) (text_is : text ≡ i.rest.items) where

@@ -161,14 +161,20 @@ fn refusals(rt: HostRuntime) -> Result<(), Fail> {
         got.err.as_slice(),
         b"strokes: usage: strokes [--workers N] [--emit picture|log|sum] [--demo NUMBER]\n".as_slice()
     );
-    let long = MemSource::new(
-        vec![in rt.alloc(); b'#'; 1_048_577]?,
-        4096,
-        Vec::new(rt.alloc()),
-    );
-    let got = ran(&rt, rt.alloc(), &[], long, 0)?;
-    assert_eq!(rt; got.code, 7);
-    assert_eq!(rt; got.out.as_slice(), b"".as_slice());
+    Ok(())
+}
+
+/// A script is too long whether a line of it has a fault or not.
+#[test]
+fn too_long(rt: HostRuntime) -> Result<(), Fail> {
+    for first in [b'#', b'a'] {
+        let mut script = vec![in rt.alloc(); first; 1_048_577]?;
+        script[7] = b'\n';
+        let long = MemSource::new(script, 4096, Vec::new(rt.alloc()));
+        let got = ran(&rt, rt.alloc(), &[], long, 0)?;
+        assert_eq!(rt; got.code, 7);
+        assert_eq!(rt; got.out.as_slice(), b"".as_slice());
+    }
     Ok(())
 }
 
@@ -214,6 +220,9 @@ fn faults(rt: HostRuntime) -> Result<(), Fail> {
     let got = ran(&rt, rt.alloc(), &[], source_of(rt.alloc(), GOOD, 2)?, 0)?;
     assert_eq!(rt; got.code, 4);
     assert_eq!(rt; got.out.as_slice(), b"".as_slice());
+    let source = source_of(rt.alloc(), b"unknown\nwords\n", 2)?;
+    let got = ran(&rt, rt.alloc(), &[], source, 0)?;
+    assert_eq!(rt; got.code, 4);
     let got = ran(&rt, rt.alloc(), &[], source_of(rt.alloc(), GOOD, 0)?, 2)?;
     assert_eq!(rt; got.code, 5);
     assert_eq!(rt; got.out.as_slice(), b"P6\n".as_slice());
