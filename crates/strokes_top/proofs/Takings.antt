@@ -5,7 +5,6 @@ use Rattle.std.proofs.KnownBytes.{Consumes-nil, Consumes-trans}
 use Rattle.script_lines.specs.declared.cause.Cause.{Cause}
 use Rattle.script_text.specs.declared.script.ScriptFault.{ScriptFault}
 use Rattle.strokes_top.specs.declared.intake.Intake.{Intake}
-use Rattle.strokes_top.specs.declared.status.Status.{Status}
 use Rattle.strokes_top.specs.declared.status.Status.TheVariants as status
 use Rattle.strokes_top.specs.declared.transfer.ReadError.{ReadError}
 use Rattle.strokes_top.specs.declared.transfer.ReadError.TheVariants as read
