@@ -1,7 +1,7 @@
 -- What several writes and reads in a row do.
 use Rattle.std.proofs.Common.{◌≡◌, ◌∙◌, ℕ, ◌+◌, ◌-◌, ◌≤◌, List, [], ◌++◌, length, length-append, Option, Some, None, Result, Ok, Err, OnOk, OnErr, sym, ap, arith}
 use Rattle.std.specs.Io.KnownBytes.{Appends, Consumes, IsAtEnd}
-use Rattle.std.proofs.KnownBytes.{Consumes-nil, Consumes-trans}
+use Rattle.std.proofs.KnownBytes.{Consumes-trans}
 use Rattle.std.proofs.lemmas.List.{append-nil}
 use Rattle.io_edge.specs.declared.outside.Failed.{Failed}
 use Rattle.io_edge.specs.Bytes.{AppendsPrefix}
@@ -20,9 +20,6 @@ pub record IsCounted (start : ℕ) (before now : Option (List ℕ)) (count : ℕ
   pub got : List ℕ
   pub consumed : Consumes before now got
   pub size : start + length got ≡ count
-
-pub none_counted : (start : ℕ) (before : Option (List ℕ)) → IsCounted start before before start
-none_counted start before = record { got = []; consumed = Consumes-nil before; size = omega arith }
 
 module _ (start : ℕ) (before now : Option (List ℕ)) (count : ℕ) (c : IsCounted start before now count) (next : Option (List ℕ)) where
   pub more_counted : (piece : List ℕ) (n : ℕ) → Consumes now next piece → length piece ≡ n → IsCounted start before next (count + n)
