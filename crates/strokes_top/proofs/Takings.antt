@@ -5,7 +5,6 @@ use Rattle.std.proofs.KnownBytes.{Consumes-nil, Consumes-trans}
 use Rattle.script_lines.specs.declared.cause.Cause.{Cause}
 use Rattle.script_text.specs.declared.script.ScriptFault.{ScriptFault}
 use Rattle.strokes_top.specs.declared.intake.Intake.{Intake}
-use Rattle.strokes_top.specs.declared.status.Status.{Status}
 use Rattle.strokes_top.specs.declared.status.Status.TheVariants as status
 use Rattle.strokes_top.specs.declared.transfer.ReadError.{ReadError}
 use Rattle.strokes_top.specs.declared.transfer.ReadError.TheVariants as read
@@ -25,13 +24,15 @@ pub none_taking : (before : Option (List ℕ)) (i : Intake) → HasTaken i [] �
 none_taking before i h = record { got = []; consumed = Consumes-nil before; size = refl; taken = h }
 
 module _ (before now : Option (List ℕ)) (i : Intake) (count : ℕ) (t : IsTaking before now i count) where
+  -- the bytes are so many
   pub counted : IsCounted 0 before now count
   counted = record { got = t.got; consumed = t.consumed; size = omega (arith, t.size) }
 
-  -- the same, when a piece was read and not taken yet
+  -- they are so many when a piece was read and not taken yet
   pub counted_with : (next : Option (List ℕ)) (chunk : List ℕ) (n : ℕ) → Consumes now next (take n chunk) → n ≤ length chunk → IsCounted 0 before next (count + n)
   counted_with next chunk n h within = more_counted 0 before now count counted next (take n chunk) n h (length-take-le n chunk within)
 
+  -- a piece more was read and taken
   pub more_taking : (next : Option (List ℕ)) (new : Intake) (chunk : List ℕ) (n : ℕ) → Consumes now next (take n chunk) → n ≤ length chunk → HasTaken new (t.got ++ take n chunk) → IsTaking before next new (count + n)
   more_taking next new chunk n h within taken = record {
     got = t.got ++ take n chunk;
@@ -43,7 +44,7 @@ module _ (before now : Option (List ℕ)) (i : Intake) (count : ℕ) (t : IsTaki
 pub at_most_counted : (before now : Option (List ℕ)) (count limit : ℕ) → IsCounted 0 before now count → count ≤ limit → ConsumesAtMost limit before now
 at_most_counted before now count limit c few = (c.got, c.consumed, omega (arith, c.size))
 
--- the only fault that is told so
+-- the only error that is told as too long a script
 pub is_long : (e : ReadError) → of_read e ≡ status.TooLong → e ≡ read.TooLong
 is_long read.TooLong h = refl
 is_long read.Failed h = cc

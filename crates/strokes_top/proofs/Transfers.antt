@@ -1,15 +1,14 @@
 -- What several writes and reads in a row do.
-use Rattle.std.proofs.Common.{◌≡◌, ◌∙◌, ℕ, ◌+◌, ◌-◌, ◌≤◌, ◌<◌, List, [], ◌++◌, length, length-append, Option, Some, None, Result, Ok, Err, OnOk, OnErr, refl, sym, ap, arith}
+use Rattle.std.proofs.Common.{◌≡◌, ◌∙◌, ℕ, ◌+◌, ◌-◌, ◌≤◌, List, [], ◌++◌, length, length-append, Option, Some, None, Result, Ok, Err, OnOk, OnErr, sym, ap, arith}
 use Rattle.std.specs.Io.KnownBytes.{Appends, Consumes, IsAtEnd}
-use Rattle.std.proofs.KnownBytes.{Consumes-nil, Consumes-trans}
+use Rattle.std.proofs.KnownBytes.{Consumes-trans}
 use Rattle.std.proofs.lemmas.List.{append-nil}
 use Rattle.io_edge.specs.declared.outside.Failed.{Failed}
 use Rattle.io_edge.specs.Bytes.{AppendsPrefix}
 use Rattle.script_text.specs.declared.script.ScriptFault.{ScriptFault}
-use Rattle.script_text.specs.Script.{Contents}
-use Rattle.script_text.specs.Reading.{fault, script}
+use Rattle.script_text.specs.Reading.{fault}
 use Rattle.strokes_top.specs.Bytes.{ConsumesMore, ConsumesAtMost}
-use Rattle.strokes_top.specs.Run.{WasRead, IsGood, HasFault}
+use Rattle.strokes_top.specs.Run.{WasRead, HasFault}
 
 -- all of a line is a prefix of it
 pub prefix_of_either : (r : Result (Unit {0}) Failed) (old new : Option (List ℕ)) (line : List ℕ) → OnOk r (Appends old new line) → OnErr r (AppendsPrefix old new line) → AppendsPrefix old new line
@@ -21,9 +20,6 @@ pub record IsCounted (start : ℕ) (before now : Option (List ℕ)) (count : ℕ
   pub got : List ℕ
   pub consumed : Consumes before now got
   pub size : start + length got ≡ count
-
-pub none_counted : (start : ℕ) (before : Option (List ℕ)) → IsCounted start before before start
-none_counted start before = record { got = []; consumed = Consumes-nil before; size = omega arith }
 
 module _ (start : ℕ) (before now : Option (List ℕ)) (count : ℕ) (c : IsCounted start before now count) (next : Option (List ℕ)) where
   pub more_counted : (piece : List ℕ) (n : ℕ) → Consumes now next piece → length piece ≡ n → IsCounted start before next (count + n)

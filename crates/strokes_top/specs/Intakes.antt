@@ -5,8 +5,9 @@ use Rattle.script_forms.specs.Jobs.{Fields}
 use Rattle.script_text.specs.Pieces.{HasRead}
 use Rattle.strokes_top.specs.declared.intake.Intake.{Intake}
 
--- the reader has read whole lines of these bytes, none with a fault, and the rest begins the line behind them: however the bytes go on, the
--- lines that follow are those of the rest with what comes
+-- the intake has taken these bytes: the reader has read whole lines of them, of which none has a fault,
+-- and the rest begins the line behind those; however the bytes go on, their lines are these lines and
+-- those of the rest and what comes
 pub record HasTaken (intake : Intake) (got : List ℕ) : Type 0 where
   pub whole : List Fields
   pub read : HasRead intake.reader whole

@@ -12,7 +12,7 @@ use geom_core::NoMemory;
 use script_text::{ReadRefusal, Reader, Script};
 use std::alloc::Global;
 
-/// What stands before the last line feed, and what stands behind it.
+/// What stands before the last line feed, and what stands behind it. None where there is none.
 fn cut_at_feed(piece: &[u8]) -> Option<(&[u8], &[u8])>
     ensures cut { IfSome result (λ parts. piece.now ≡ parts.0.now ++ 10 ∷ parts.1.now) }
     ensures last { IfSome result (λ parts. ¬ Contains parts.1.now 10) }

@@ -21,12 +21,12 @@ pub returns-in_err-n-clause-within_limit : goal.returns-in_err-n-clause-within_l
 returns-in_err-n-clause-within_limit g c = λ e.
     let told : c.from_residual.result ≡ Err (of_read c.in_err-n.field-0.0) = search rules in
     at_most_in_all 0 _ _ c.loop-intake.count (counted _ _ _ _ c.loop-intake.invariant.taking) _ 1048576 c.loop-intake.invariant.few
-        (c.in_err-n.ensures.within_limit (λ long. let is : c.in_err-n.field-0.0 ≡ read.TooLong = cc in e (told ∙ ap (λ x. Err (of_read x)) is)))
+    (c.in_err-n.ensures.within_limit (λ long. let is : c.in_err-n.field-0.0 ≡ read.TooLong = cc in e (told ∙ ap (λ x. Err (of_read x)) is)))
 
 pub returns-in-Err-NoMemory-clause-within_limit : goal.returns-in-Err-NoMemory-clause-within_limit
 returns-in-Err-NoMemory-clause-within_limit g c = λ e.
     at_most_counted _ _ (c.loop-intake.count + c.in_ok-n.n) 1048576
-        (counted_with _ _ _ _ c.loop-intake.invariant.taking _ c.next_piece.new.chunk c.in_ok-n.n c.in_ok-n.ensures.bytes c.in_ok-n.ensures.bound) c.in_ok-n.ensures.short
+    (counted_with _ _ _ _ c.loop-intake.invariant.taking _ c.next_piece.new.chunk c.in_ok-n.n c.in_ok-n.ensures.bytes c.in_ok-n.ensures.bound) c.in_ok-n.ensures.short
 
 pub returns-in_err-skip_rest-in-Err-Fault-clause-too_long :
     goal.returns-in_err-skip_rest-in-Err-Fault-clause-too_long
@@ -34,18 +34,18 @@ returns-in_err-skip_rest-in-Err-Fault-clause-too_long g c = λ e.
     let told : c.from_residual-in_err-skip_rest-in-Err-Fault.result ≡ Err (of_read c.in_err-skip_rest-in-Err-Fault.field-0.0) = search rules in
     let long : of_read c.in_err-skip_rest-in-Err-Fault.field-0.0 ≡ status.TooLong = cc in
     more_in_all 0 _ _ (c.loop-intake.count + c.in_ok-n.n)
-        (counted_with _ _ _ _ c.loop-intake.invariant.taking _ c.next_piece.new.chunk c.in_ok-n.n c.in_ok-n.ensures.bytes c.in_ok-n.ensures.bound)
-        _ 1048576 c.in_ok-n.ensures.short (c.in_err-skip_rest-in-Err-Fault.ensures.too_long (ap Err (is_long _ long)))
+    (counted_with _ _ _ _ c.loop-intake.invariant.taking _ c.next_piece.new.chunk c.in_ok-n.n c.in_ok-n.ensures.bytes c.in_ok-n.ensures.bound)
+    _ 1048576 c.in_ok-n.ensures.short (c.in_err-skip_rest-in-Err-Fault.ensures.too_long (ap Err (is_long _ long)))
 
 pub returns-in_err-skip_rest-in-Err-Fault-clause-within_limit :
     goal.returns-in_err-skip_rest-in-Err-Fault-clause-within_limit
 returns-in_err-skip_rest-in-Err-Fault-clause-within_limit g c = λ e.
     let told : c.from_residual-in_err-skip_rest-in-Err-Fault.result ≡ Err (of_read c.in_err-skip_rest-in-Err-Fault.field-0.0) = search rules in
     at_most_in_all 0 _ _ (c.loop-intake.count + c.in_ok-n.n)
-        (counted_with _ _ _ _ c.loop-intake.invariant.taking _ c.next_piece.new.chunk c.in_ok-n.n c.in_ok-n.ensures.bytes c.in_ok-n.ensures.bound)
-        _ 1048576 c.in_ok-n.ensures.short
-        (c.in_err-skip_rest-in-Err-Fault.ensures.within_limit
-        (λ long. let is : c.in_err-skip_rest-in-Err-Fault.field-0.0 ≡ read.TooLong = cc in e (told ∙ ap (λ x. Err (of_read x)) is)))
+    (counted_with _ _ _ _ c.loop-intake.invariant.taking _ c.next_piece.new.chunk c.in_ok-n.n c.in_ok-n.ensures.bytes c.in_ok-n.ensures.bound)
+    _ 1048576 c.in_ok-n.ensures.short
+    (c.in_err-skip_rest-in-Err-Fault.ensures.within_limit
+    (λ long. let is : c.in_err-skip_rest-in-Err-Fault.field-0.0 ≡ read.TooLong = cc in e (told ∙ ap (λ x. Err (of_read x)) is)))
 
 pub returns-in-Err-Fault-clause-script : goal.returns-in-Err-Fault-clause-script
 returns-in-Err-Fault-clause-script g c = λ line cause e.
@@ -56,14 +56,14 @@ returns-in-Err-Fault-clause-script g c = λ line cause e.
     let is : c.in-Err-Fault.field-0 ≡ Fault f = search rules in
     let most = c.in_ok-skip_rest-in-Err-Fault.ensures.within_limit (λ long. cc) in
     faulty_source _ _ _ (before.got ++ piece) _ f (record { line = line; cause = cause }) (same_fault f line cause told)
-        (Consumes-trans _ _ _ before.got piece before.consumed c.in_ok-n.ensures.bytes)
-        (λ more. c.in-Err-Fault.ensures.fault before.got more f before.taken (ap Err is)) most c.in_ok-skip_rest-in-Err-Fault.ensures.to_the_end
+    (Consumes-trans _ _ _ before.got piece before.consumed c.in_ok-n.ensures.bytes)
+    (λ more. c.in-Err-Fault.ensures.fault before.got more f before.taken (ap Err is)) most c.in_ok-skip_rest-in-Err-Fault.ensures.to_the_end
 
 pub returns-in-Err-Fault-clause-within_limit : goal.returns-in-Err-Fault-clause-within_limit
 returns-in-Err-Fault-clause-within_limit g c = λ e.
     at_most_in_all 0 _ _ (c.loop-intake.count + c.in_ok-n.n)
-        (counted_with _ _ _ _ c.loop-intake.invariant.taking _ c.next_piece.new.chunk c.in_ok-n.n c.in_ok-n.ensures.bytes c.in_ok-n.ensures.bound)
-        _ 1048576 c.in_ok-n.ensures.short (c.in_ok-skip_rest-in-Err-Fault.ensures.within_limit (λ long. cc))
+    (counted_with _ _ _ _ c.loop-intake.invariant.taking _ c.next_piece.new.chunk c.in_ok-n.n c.in_ok-n.ensures.bytes c.in_ok-n.ensures.bound)
+    _ 1048576 c.in_ok-n.ensures.short (c.in_ok-skip_rest-in-Err-Fault.ensures.within_limit (λ long. cc))
 
 pub loop-intake-preserved : goal.loop-intake-preserved
 loop-intake-preserved g c =

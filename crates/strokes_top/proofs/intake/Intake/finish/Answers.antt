@@ -11,7 +11,7 @@ pub returns-in_err-feed : goal.returns-in_err-feed
 returns-in_err-feed c = λ got t.
     let told : c.from_residual.result ≡ Err c.in_err-feed.field-0.0 = search rules in
     subst (λ r. Answers r (fault got) (script got)) (sym told)
-        (refused c.args.self got t c.deref.result.now c.deref.ensures.value c.in_err-feed.field-0.0 (λ f more e. c.in_err-feed.ensures.fault t.whole more f t.read (ap Err e)))
+    (refused c.args.self got t c.deref.result.now c.deref.ensures.value c.in_err-feed.field-0.0 (λ f more e. c.in_err-feed.ensures.fault t.whole more f t.read (ap Err e)))
 
 pub returns : goal.returns
 returns c = λ got t. answered c.args.self got t c.deref.result.now c.deref.ensures.value c.finish.result (c.finish.ensures _ (c.in_ok-feed.ensures.ok t.whole t.read))
