@@ -3,6 +3,7 @@ pub mod Damaged
 pub mod LooksAlike
 pub mod Published
 pub mod Points
+pub mod Circles
 pub mod Left
 pub mod Scripts
 pub mod Stories

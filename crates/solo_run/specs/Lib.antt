@@ -4,3 +4,4 @@ pub mod Left
 pub mod Told
 pub mod Stale
 pub mod Unseen
+pub mod Circles

@@ -1,6 +1,8 @@
 //! Painting a whole script on the caller's own thread.
 #![tactic(auto)]
 
+mod circle;
+mod one_tile;
 mod run;
 mod solo;
 mod steps;

@@ -13,12 +13,12 @@ ghost use Rattle.solo_run.specs.Left.{IsLeft, IsLeftIn, IsLeftOf, AddsLeft, Puts
 ghost use Rattle.solo_run.specs.Painting.{PaintsOn, in_tiles, jobs_only};
 ghost use Rattle.solo_run.specs.Stale.{DamagesRects};
 
+use crate::one_tile::paint_one_tile;
 use desk_steps::Store;
 use doc_model::{Job, Kind};
 use geom_core::{NoMemory, Rect, TileKey};
 use job_core::{Made, PointWork, paint_tile, point_rect};
 use std::alloc::Global;
-use std::slice;
 use tile_core::{Damage, Shot};
 
 /// The most tiles of a rectangle that are few.
@@ -96,9 +96,8 @@ fn paint_points(
     requires under_way { is_some store.old.way ≡ true }
     ensures { OnOk result (PaintsOn (apply entry.now.1) store.old store.new) }
 {
-    let alone = slice::from_ref(entry);
     for i in 0..rect.tile_count() {
-        store.paint(alloc, &PointWork::new(alone, rect.tile_at(i)))?;
+        paint_one_tile(alloc, store, entry, rect.tile_at(i))?;
     }
     Ok(())
 }

@@ -146,7 +146,7 @@ const ROWS: [Row; 14] = [
 ];
 
 /// Scripts on a canvas of 129 columns, with the colours of columns 0, 64 and 128, which stand in three tiles.
-const WIDE: [Row; 6] = [
+const WIDE: [Row; 7] = [
     // A small stroke, and undone and redone.
     Row {
         script: b"canvas 129 1\nlayer 1 0 0\nexport\nstroke 1 1\nfill 1 seq 64 0 1 1 ff0000ff over 255\nend 1\nexport\nundo\nexport\nredo\nexport\n",
@@ -193,6 +193,13 @@ const WIDE: [Row; 6] = [
         script: b"canvas 129 1\nlayer 1 0 0\nstroke 1 1\nfill 1 seq 0 0 1 1 ff0000ff over 255\nend 1\nstroke 2 1\nfill 2 con 1 0 1 1 00ff00ff over 255\nend 2\nstroke 3 1\nfill 3 seq 0 0 1 1 0000ff80 over 255\nend 3\nstroke 4 1\nfill 4 seq 64 0 1 1 00ff00ff over 255\nend 4\nstroke 5 1\ndab 5 seq 64 0 1 hard 0000ffff over 255\nend 5\nstroke 6 1\nfill 6 seq 64 0 1 1 ff000080 over 255\nend 6\nstroke 7 1\nfill 7 seq 128 0 1 1 ff0000ff over 255\nend 7\nstroke 8 1\nfill 8 seq 128 0 64 64 00ff00ff over 255\nend 8\nexport\n",
         colours: &[[127, 0, 128], [128, 0, 127], GREEN],
         outcomes: &[Outcome::Done; 10],
+    },
+    // Two dabs from above. The first one's square meets the second tile, and its circle doesn't. The
+    // rim of the second one's meets the third tile in one point.
+    Row {
+        script: b"canvas 129 1\nlayer 1 0 0 00ff00ff\nstroke 1 1\ndab 1 seq 60 -4 5 hard ff0000ff over 255\ndab 1 seq 125 -4 5 hard 0000ffff over 255\nend 1\nexport\nundo\nexport\n",
+        colours: &[GREEN, GREEN, BLUE, GREEN, GREEN, GREEN],
+        outcomes: &[Outcome::Done; 5],
     },
 ];
 
