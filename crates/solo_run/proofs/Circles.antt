@@ -1,12 +1,12 @@
 -- What a job leaves as it is.
-use Rattle.std.proofs.Common.{◌≡◌, ℕ, ◌+◌, ◌*◌, ◌<◌, ◌≤◌, Bool, true, false, ◌&&◌, cond, [], ◌∷◌, Option, Some, None, get_or, length, is_some, refl, sym, ap, ◌∙◌, subst, arith, leb}
+use Rattle.std.proofs.Common.{◌≡◌, ℕ, ◌+◌, ◌*◌, ◌<◌, ◌≤◌, Bool, true, false, ◌&&◌, cond, [], ◌∷◌, Some, None, is_some, refl, sym, ap, ◌∙◌, subst, arith, leb}
 use Rattle.std.specs.Prelude.{ℤ, pos, ◌+ℤ◌, ◌-ℤ◌, ◌≤ℤ◌, ◌<ℤ◌, int_le, int_lt, nat_abs}
 use Rattle.std.specs.List.{list_any}
 use Rattle.std.specs.FinMap as map
 use Rattle.std.proofs.Math.Nat.{mul-le-mul_left, mul-le-mul_right}
 use Rattle.std.proofs.lemmas.Bool.Decides.{nat_tests}
 use borrow.Author.Differences.{ints}
-use Rattle.pixel_core.specs.Rgba.{Rgba, clear, IsCanonical}
+use Rattle.pixel_core.specs.Rgba.{Rgba, IsCanonical}
 use Rattle.pixel_core.specs.Bytes.{mul}
 use Rattle.pixel_core.specs.Compose.{compose}
 use Rattle.pixel_core.specs.declared.blending.Op.{Op}
@@ -21,9 +21,9 @@ use Rattle.geom_core.specs.Place.{IsOffset}
 use Rattle.geom_core.proofs.Tests.{taken, and_left, and_right, or_left}
 use Rattle.geom_core.proofs.Tiles.{key_same}
 use Rattle.tile_core.specs.Pixels.{Pixels, pixel_at, pixel_or}
-use Rattle.tile_core.specs.Shots.{Sight, sight_at}
+use Rattle.tile_core.specs.Shots.{Sight}
 use Rattle.doc_model.specs.declared.job.Job.{Job}
-use Rattle.doc_model.specs.declared.job.Job.TheVariants.{Fill, Dab, Move, Blur}
+use Rattle.doc_model.specs.declared.job.Job.TheVariants.{Dab}
 use Rattle.doc_model.specs.Layers.{Layer, at, layer_ext}
 use Rattle.doc_model.specs.Jobs.{writes, value, apply, in_tile, shot_of}
 use Rattle.doc_model.proofs.JobLaws.{at-apply}
@@ -32,7 +32,7 @@ use Rattle.job_core.specs.Paints.{layer_of}
 use Rattle.job_core.specs.Points.{painted_in}
 use Rattle.job_core.proofs.Values.{tile_held, seen_at}
 use Rattle.desk_steps.specs.Archives.{Archive, layer_under_way}
-use Rattle.solo_run.specs.Painting.{Paints, PaintsOn}
+use Rattle.solo_run.specs.Painting.{PaintsOn}
 use Rattle.solo_run.specs.Circles.{LieApart, LiesOutside, AreCanonical, ShowsCanonical, LeavesTile}
 use Rattle.solo_run.proofs.Published.{paints_none, paints_as, seen_layer, all_seen}
 

@@ -1,4 +1,4 @@
-use Rattle.std.proofs.Common.{◌≡◌, ◌+◌, ◌*◌, ◌<◌, ◌%◌, length, get_or, ap, sym, subst, ◌∙◌, arith}
+use Rattle.std.proofs.Common.{◌+◌, ◌*◌, ◌<◌, ◌%◌, length, get_or, sym, subst, arith}
 use Rattle.pixel_core.specs.Rgba.{clear, IsCanonical}
 use Rattle.geom_core.specs.Place.{across, down}
 use Rattle.solo_run.proofs.Circles.{shows_tile, shows_none}
