@@ -146,7 +146,7 @@ const ROWS: [Row; 14] = [
 ];
 
 /// Scripts on a canvas of 129 columns, with the colours of columns 0, 64 and 128, which stand in three tiles.
-const WIDE: [Row; 6] = [
+const WIDE: [Row; 7] = [
     // A small stroke, and undone and redone.
     Row {
         script: b"canvas 129 1\nlayer 1 0 0\nexport\nstroke 1 1\nfill 1 seq 64 0 1 1 ff0000ff over 255\nend 1\nexport\nundo\nexport\nredo\nexport\n",
@@ -160,6 +160,12 @@ const WIDE: [Row; 6] = [
         script: b"canvas 129 1\nlayer 1 0 0\nstroke 1 1\nfill 1 seq 0 0 1 1 ff0000ff over 255\nend 1\nexport\nstroke 2 1\nmove 2 seq 0 0 1 1 128 0\nend 2\nexport\nundo\nexport\n",
         colours: &[RED, WHITE, WHITE, WHITE, WHITE, RED, RED, WHITE, WHITE],
         outcomes: &[Outcome::Done; 7],
+    },
+    // A move by one tile over many others, once with few tiles and once with many.
+    Row {
+        script: b"canvas 129 1\nlayer 1 0 0\nstroke 1 1\nfill 1 seq 0 0 64 1 ff0000ff over 255\nfill 1 seq 64 0 64 1 00ff00ff over 255\nend 1\nstroke 2 1\nmove 2 seq 0 0 129 1 64 0\nend 2\nexport\nundo\nexport\nstroke 3 1\nmove 3 seq 0 0 1088 1 64 0\nend 3\nexport\n",
+        colours: &[WHITE, RED, GREEN, RED, GREEN, WHITE, WHITE, RED, GREEN],
+        outcomes: &[Outcome::Done; 8],
     },
     // A refused change and a cancelled stroke leave all as it is.
     Row {
