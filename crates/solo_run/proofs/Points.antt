@@ -18,7 +18,7 @@ use Rattle.geom_core.proofs.Axes.{tiles_met}
 use Rattle.doc_model.specs.declared.job.Job.{Job}
 use Rattle.doc_model.specs.declared.job.Job.TheVariants.{Fill, Dab, Move, Blur}
 use Rattle.doc_model.specs.Layers.{Layer, at, layer_ext}
-use Rattle.doc_model.specs.Jobs.{square, writes, value, apply, in_tile}
+use Rattle.doc_model.specs.Jobs.{writes, value, apply, in_tile}
 use Rattle.doc_model.specs.Lawful.{within_limits}
 use Rattle.doc_model.proofs.JobLaws.{at-apply, laws_of_jobs}
 use Rattle.doc_model.proofs.Shots.{at-published, default-published}

@@ -14,7 +14,6 @@ use Rattle.geom_core.specs.Grid.{Key, key_of, same_key, keys_of, all_keys_of}
 use Rattle.geom_core.proofs.Tests.{and_left, and_right, both_true, or_left, or_right}
 use Rattle.geom_core.proofs.Tiles.{key_is}
 use Rattle.doc_model.specs.declared.job.Job.{Job}
-use Rattle.doc_model.specs.declared.job.Kind.{Kind}
 use Rattle.doc_model.specs.Layers.{Layer, at, layer_ext}
 use Rattle.doc_model.specs.Jobs.{reads, writes, apply, apply_all, shot_of, published, in_tile}
 use Rattle.doc_model.specs.Forest.{content, with_content, adjusted}
