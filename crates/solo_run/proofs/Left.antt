@@ -1,21 +1,24 @@
 -- What a job has left in its tiles, one tile after another.
-use Rattle.std.proofs.Common.{◌≡◌, ℕ, ◌+◌, ◌<◌, ◌≤◌, true, Some, is_some, List, [], ◌∷◌, ◌++◌, get_or, length, take, refl, sym, ap, ◌∙◌, subst}
+use Rattle.std.proofs.Common.{◌≡◌, ℕ, ◌+◌, ◌<◌, ◌≤◌, true, false, Some, is_some, List, [], ◌∷◌, ◌++◌, get_or, length, take, refl, sym, ap, ◌∙◌, subst}
 use Rattle.std.specs.Prelude.{slice_get}
 use Rattle.std.specs.Option.{option_map}
 use Rattle.std.proofs.lemmas.List.{map-append, append-nil, append_assoc, length-map}
 use Rattle.std.proofs.lemmas.List.Elements.{All-append, All-get_or, All-from_recursion}
 use Rattle.std.proofs.lemmas.Option.{slice_get-map}
 use Rattle.geom_core.specs.Areas.{Area}
-use Rattle.geom_core.specs.Grid.{Key, keys_of, all_keys_of}
+use Rattle.geom_core.specs.Grid.{Key, keys_of}
 use Rattle.tile_core.specs.Shots.{Sight}
 use Rattle.doc_model.specs.declared.job.Job.{Job}
 use Rattle.doc_model.specs.Jobs.{apply, writes, published}
+use Rattle.doc_model.specs.Lawful.{within_limits}
 use Rattle.job_core.specs.Paints.{Paint, Stuff, Makes, IsMade, layer_of}
 use Rattle.desk_steps.specs.Archives.{Archive, layer_under_way, with_put}
 use Rattle.solo_run.specs.Painting.{PaintsOn, in_tiles}
+use Rattle.solo_run.specs.Once.{is_met, unmet, each_key_of}
 use Rattle.solo_run.specs.Left.{IsLeft, IsLeftIn, IsLeftOf, AddsLeft, PutsLeft}
-use Rattle.solo_run.proofs.Fronts.{item_at, take_more, take_all}
-use Rattle.solo_run.proofs.Published.{all_keys-append, paints_none, tile_more, put_on, put_paints, job_done}
+use Rattle.solo_run.proofs.Fronts.{item_at, take_all}
+use Rattle.solo_run.proofs.Once.{each_key_more, unmet_new, unmet_past}
+use Rattle.solo_run.proofs.Published.{paints_none, tile_more, put_on, put_paints, job_done}
 
 -- nothing was added yet
 pub adds_none : (job : Job) (shot : Sight) (left : List Stuff) → AddsLeft job shot [] left left
@@ -35,14 +38,17 @@ adds_then job shot ks ls a b c one two = record {
   new_is = two.new_is ∙ ap (λ xs. xs ++ two.more) one.new_is ∙ append_assoc a one.more two.more;
 }
 
--- one tile more
-pub adds_tile : (job : Job) (shot : Sight) (ks : List Key) (i : ℕ) (k : Key) (a b c : List Stuff) → slice_get ks i ≡ Some k → AddsLeft job shot (take i ks) a b → AddsLeft job shot (k ∷ []) b c → AddsLeft job shot (take (i + 1) ks) a c
-adds_tile job shot ks i k a b c e one two = subst (λ ls. AddsLeft job shot ls a c) (sym (take_more ks i k e)) (adds_then job shot (take i ks) (k ∷ []) a b c one two)
+-- one tile more of a rectangle, which no earlier one meets
+pub adds_new : (job : Job) (shot : Sight) (earlier : List Area) (ks : List Key) (i : ℕ) (k : Key) (a b c : List Stuff) → slice_get ks i ≡ Some k → is_met earlier k ≡ false → AddsLeft job shot (unmet earlier (take i ks)) a b → AddsLeft job shot (k ∷ []) b c → AddsLeft job shot (unmet earlier (take (i + 1) ks)) a c
+adds_new job shot earlier ks i k a b c e none one two = subst (λ ls. AddsLeft job shot ls a c) (sym (unmet_new earlier ks i k e none)) (adds_then job shot (unmet earlier (take i ks)) (k ∷ []) a b c one two)
+
+-- one that an earlier rectangle meets adds nothing
+pub adds_past : (job : Job) (shot : Sight) (earlier : List Area) (ks : List Key) (i : ℕ) (k : Key) (a b : List Stuff) → slice_get ks i ≡ Some k → is_met earlier k ≡ true → AddsLeft job shot (unmet earlier (take i ks)) a b → AddsLeft job shot (unmet earlier (take (i + 1) ks)) a b
+adds_past job shot earlier ks i k a b e met = subst (λ ls. AddsLeft job shot ls a b) (sym (unmet_past earlier ks i k e met))
 
 -- one rectangle more
-pub adds_rect : (job : Job) (shot : Sight) (rects : List Area) (i : ℕ) (r : Area) (a b c : List Stuff) → slice_get rects i ≡ Some r → AddsLeft job shot (all_keys_of (take i rects)) a b → AddsLeft job shot (keys_of r) b c → AddsLeft job shot (all_keys_of (take (i + 1) rects)) a c
-adds_rect job shot rects i r a b c e one two =
-    subst (λ ks. AddsLeft job shot ks a c) (sym (ap all_keys_of (take_more rects i r e) ∙ all_keys-append (take i rects) (r ∷ []) ∙ ap (λ ks. all_keys_of (take i rects) ++ ks) (append-nil (keys_of r)))) (adds_then job shot (all_keys_of (take i rects)) (keys_of r) a b c one two)
+pub adds_rect : (job : Job) (shot : Sight) (rects : List Area) (i : ℕ) (r : Area) (a b c : List Stuff) → slice_get rects i ≡ Some r → AddsLeft job shot (each_key_of (take i rects)) a b → AddsLeft job shot (unmet (take i rects) (keys_of r)) b c → AddsLeft job shot (each_key_of (take (i + 1) rects)) a c
+adds_rect job shot rects i r a b c e one two = subst (λ ks. AddsLeft job shot ks a c) (sym (each_key_more rects i r e)) (adds_then job shot (each_key_of (take i rects)) (unmet (take i rects) (keys_of r)) a b c one two)
 
 -- all that was added to nothing
 pub added_all : (job : Job) (shot : Sight) (ks ls : List Key) (old new : List Stuff) → ks ≡ ls → old ≡ [] → AddsLeft job shot ks old new → IsLeftIn job shot ls new
@@ -75,5 +81,5 @@ unfolding PutsFirst
 puts_all left n a b h so job shot ks is = subst (λ ls. PaintsOn (in_tiles (published job (layer_of shot)) ls) a b) (take_all ks n (subst (λ m. m ≤ n) (sym (length-map left (λ (made : Stuff). made.key)) ∙ ap length is.keys_are) h)) (so job shot ks is)
 
 -- with them the whole job is painted
-pub left_done : (job : Job) (left : List Stuff) (a b : Archive) → IsLeftOf job (layer_under_way a.way a.present) left → PutsLeft left a b → PaintsOn (apply job) a b
-left_done job left a b is puts = job_done job (layer_of is.shot) a b is.shows (puts job is.shot (all_keys_of (writes job)) is.all)
+pub left_done : (job : Job) (left : List Stuff) (a b : Archive) → within_limits job ≡ true → IsLeftOf job (layer_under_way a.way a.present) left → PutsLeft left a b → PaintsOn (apply job) a b
+left_done job left a b l is puts = job_done job (layer_of is.shot) a b l is.shows (puts job is.shot (each_key_of (writes job)) is.all)

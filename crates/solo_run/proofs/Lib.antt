@@ -1,6 +1,7 @@
 pub mod Fronts
 pub mod Damaged
 pub mod LooksAlike
+pub mod Once
 pub mod Published
 pub mod Points
 pub mod Circles

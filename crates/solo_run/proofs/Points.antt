@@ -18,16 +18,16 @@ use Rattle.geom_core.proofs.Axes.{tiles_met}
 use Rattle.doc_model.specs.declared.job.Job.{Job}
 use Rattle.doc_model.specs.declared.job.Job.TheVariants.{Fill, Dab, Move, Blur}
 use Rattle.doc_model.specs.Layers.{Layer, at, layer_ext}
-use Rattle.doc_model.specs.Jobs.{square, writes, value, apply, in_tile}
+use Rattle.doc_model.specs.Jobs.{writes, value, apply, in_tile}
 use Rattle.doc_model.specs.Lawful.{within_limits}
 use Rattle.doc_model.proofs.JobLaws.{at-apply, laws_of_jobs}
 use Rattle.doc_model.proofs.Shots.{at-published, default-published}
 use Rattle.job_core.specs.Points.{is_point_op, painted_in}
-use Rattle.job_core.proofs.Values.{HasPoints, some_of_limits}
-use Rattle.job_core.proofs.Keys.{square_some}
+use Rattle.job_core.proofs.Values.{HasPoints}
 use Rattle.desk_steps.specs.Archives.{Archive}
 use Rattle.solo_run.specs.Painting.{PaintsOn, in_tiles}
 use Rattle.solo_run.proofs.Fronts.{take_all}
+use Rattle.solo_run.proofs.Once.{written_some}
 use Rattle.solo_run.proofs.Published.{paints_as}
 
 value_alike : (job : Job) (a b : Layer) (p : Point) → is_point_op job ≡ true → at a p ≡ at b p → value job a p ≡ value job b p
@@ -83,17 +83,10 @@ painted_everywhere job layer h d = layer_ext _ _
     go p true w = taken _ _ _ (key_of_any_held (writes job) p w)
     go p false w = sym (laws_of_jobs.outside job layer p w)
 
--- the rectangle that a point operation writes has points
-some_written : (job : Job) (r : Area) → is_point_op job ≡ true → within_limits job ≡ true → writes job ≡ r ∷ [] → HasPoints r
-some_written (Fill rect colour op strength) r h l e = let same : rect ≡ r = cc in subst HasPoints same (some_of_limits rect l)
-some_written (Dab x y n soft colour op strength) r h l e = let same : square x y n ≡ r = cc in subst HasPoints same (square_some x y n)
-some_written (Move rect dx dy) r h l e = cc
-some_written (Blur rect n) r h l e = cc
-
 -- the whole job
 pub points_done : (job : Job) (r : Area) (n : ℕ) (a b : Archive) → is_point_op job ≡ true → within_limits job ≡ true → writes job ≡ r ∷ [] → length (keys_of r) ≤ n → PaintsOn (in_tiles (painted_in job) (take n (keys_of r))) a b → PaintsOn (apply job) a b
 points_done job r n a b h l e many on =
-    let some : HasPoints r = some_written job r h l e in
+    let some : HasPoints r = (subst (AllByRecursion HasPoints) e (written_some job l)).0 in
     let keys : all_keys_of (writes job) ≡ keys_of r = ap all_keys_of e ∙ append-nil (keys_of r) in
     paints_as (in_tiles (painted_in job) (take n (keys_of r))) (apply job) a b
     (λ id layer p. ap (λ ks. in_tiles (painted_in job) ks layer) (take_all (keys_of r) n many ∙ sym keys)

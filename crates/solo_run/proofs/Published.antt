@@ -4,7 +4,6 @@ use Rattle.std.specs.Prelude.{slice_get, int_le, ℤ, pos, ◌+ℤ◌}
 use Rattle.std.specs.List.{list_any, list_all}
 use Rattle.std.specs.FinSet as set
 use Rattle.std.specs.FinSet.{FinSet}
-use Rattle.std.proofs.lemmas.List.{append-nil, append_assoc}
 use Rattle.std.proofs.lemmas.List.Folds.{list_any-append}
 use Rattle.std.proofs.Math.Seq.{take-add}
 use borrow.Author.Differences.{ints}
@@ -13,14 +12,13 @@ use Rattle.geom_core.specs.Points.{Point}
 use Rattle.geom_core.specs.Areas.{Area, any_holds, lies_in}
 use Rattle.geom_core.specs.Grid.{Key, key_of, same_key, keys_of, all_keys_of}
 use Rattle.geom_core.proofs.Tests.{and_left, and_right, both_true, or_left, or_right}
-use Rattle.geom_core.proofs.Keys.{key_of_any_held}
 use Rattle.geom_core.proofs.Tiles.{key_is}
 use Rattle.doc_model.specs.declared.job.Job.{Job}
-use Rattle.doc_model.specs.declared.job.Kind.{Kind}
 use Rattle.doc_model.specs.Layers.{Layer, at, layer_ext}
 use Rattle.doc_model.specs.Jobs.{reads, writes, apply, apply_all, shot_of, published, in_tile}
 use Rattle.doc_model.specs.Forest.{content, with_content, adjusted}
 use Rattle.doc_model.specs.Strokes.{Jobs}
+use Rattle.doc_model.specs.Lawful.{within_limits}
 use Rattle.doc_model.proofs.Contents.{adjusted-with_content, content-with_content}
 use Rattle.doc_model.proofs.JobLaws.{laws_of_jobs}
 use Rattle.doc_model.proofs.Shots.{at-published, default-published, shot_same}
@@ -30,6 +28,8 @@ use Rattle.job_core.specs.Paints.{Paint, layer_of}
 use Rattle.job_core.specs.Points.{Spot, spot, all_painted_in}
 use Rattle.desk_steps.specs.Archives.{Archive, Way, layer_under_way, with_put, with_painted}
 use Rattle.solo_run.proofs.Fronts.{take_more}
+use Rattle.solo_run.specs.Once.{is_met, unmet, each_key_of}
+use Rattle.solo_run.proofs.Once.{written_some, held_listed, each_key_more, unmet_new, unmet_past}
 use Rattle.solo_run.specs.Painting.{Paints, PaintsOn, in_tiles, jobs_only}
 
 and_none : (b : Bool) → (b && false) ≡ false
@@ -53,24 +53,19 @@ default_published_in : (job : Job) (shot : Layer) (ks : List Key) (layer : Layer
 default_published_in job shot [] layer = refl
 default_published_in job shot (k ∷ ks) layer = default_published_in job shot ks (published job shot k layer) ∙ default-published job shot k layer
 
--- in all tiles of its writes, from a shot of its reads
-pub published_all : (job : Job) (layer : Layer) → in_tiles (published job (shot_of (reads job) layer)) (all_keys_of (writes job)) layer ≡ apply job layer
-published_all job layer = layer_ext _ _
-    (default_published_in job (shot_of (reads job) layer) (all_keys_of (writes job)) layer ∙ sym (laws_of_jobs.default_pixel job layer))
-    (λ p. at_published_in job (shot_of (reads job) layer) (all_keys_of (writes job)) layer p ∙ go p (any_holds (writes job) p) refl)
+-- in each tile of its writes, from a shot of its reads
+pub published_all : (job : Job) (layer : Layer) → within_limits job ≡ true → in_tiles (published job (shot_of (reads job) layer)) (each_key_of (writes job)) layer ≡ apply job layer
+published_all job layer l = layer_ext _ _
+    (default_published_in job (shot_of (reads job) layer) (each_key_of (writes job)) layer ∙ sym (laws_of_jobs.default_pixel job layer))
+    (λ p. at_published_in job (shot_of (reads job) layer) (each_key_of (writes job)) layer p ∙ go p (any_holds (writes job) p) refl)
   where
-    go : (p : Point) (b : Bool) → any_holds (writes job) p ≡ b → cond (b && list_any (same_key (key_of p)) (all_keys_of (writes job))) (at (apply job (shot_of (reads job) layer)) p) (at layer p) ≡ at (apply job layer) p
-    go p true h = ap (λ b. cond b (at (apply job (shot_of (reads job) layer)) p) (at layer p)) (key_of_any_held (writes job) p h) ∙ laws_of_jobs.inside job (shot_of (reads job) layer) layer p (shot_same (reads job) layer) h
+    go : (p : Point) (b : Bool) → any_holds (writes job) p ≡ b → cond (b && list_any (same_key (key_of p)) (each_key_of (writes job))) (at (apply job (shot_of (reads job) layer)) p) (at layer p) ≡ at (apply job layer) p
+    go p true h = ap (λ b. cond b (at (apply job (shot_of (reads job) layer)) p) (at layer p)) (held_listed (writes job) p (written_some job l) h) ∙ laws_of_jobs.inside job (shot_of (reads job) layer) layer p (shot_same (reads job) layer) h
     go p false h = sym (laws_of_jobs.outside job layer p h)
 
 in_tiles-append : (change : Key → Layer → Layer) (ks ls : List Key) (layer : Layer) → in_tiles change (ks ++ ls) layer ≡ in_tiles change ls (in_tiles change ks layer)
 in_tiles-append change [] ls layer = refl
 in_tiles-append change (k ∷ ks) ls layer = in_tiles-append change ks ls (change k layer)
-
--- the tiles of some rectangles after those of others
-pub all_keys-append : (ls rs : List Area) → all_keys_of (ls ++ rs) ≡ all_keys_of ls ++ all_keys_of rs
-all_keys-append [] rs = refl
-all_keys-append (a ∷ ls) rs = ap (λ ks. keys_of a ++ ks) (all_keys-append ls rs) ∙ sym (append_assoc (keys_of a) (all_keys_of ls) (all_keys_of rs))
 
 -- nothing is painted yet
 pub paints_none : (a : Archive) → is_some a.way ≡ true → PaintsOn (λ layer. layer) a a
@@ -133,17 +128,27 @@ painted_paints w a h = subst (PaintsOn (all_painted_in w.jobs w.key) a) (same a.
     same None = refl
     same (Some way) = refl
 
+-- more tiles
+pub tiles_more : (change : Key → Layer → Layer) (ks ls : List Key) (a b c : Archive) → PaintsOn (in_tiles change ks) a b → PaintsOn (in_tiles change ls) b c → PaintsOn (in_tiles change (ks ++ ls)) a c
+tiles_more change ks ls a b c one two = paints_as (λ layer. in_tiles change ls (in_tiles change ks layer)) (in_tiles change (ks ++ ls)) a c
+    (λ id layer p. sym (in_tiles-append change ks ls layer))
+    (paints_then (in_tiles change ks) (in_tiles change ls) a b c one two)
+
 -- one tile more
 pub tile_more : (change : Key → Layer → Layer) (ks : List Key) (i : ℕ) (k : Key) (a b c : Archive) → slice_get ks i ≡ Some k → PaintsOn (in_tiles change (take i ks)) a b → PaintsOn (change k) b c → PaintsOn (in_tiles change (take (i + 1) ks)) a c
-tile_more change ks i k a b c e one two = paints_as (λ layer. change k (in_tiles change (take i ks) layer)) (in_tiles change (take (i + 1) ks)) a c
-    (λ id layer p. sym (ap (λ ls. in_tiles change ls layer) (take_more ks i k e) ∙ in_tiles-append change (take i ks) (k ∷ []) layer))
-    (paints_then (in_tiles change (take i ks)) (change k) a b c one two)
+tile_more change ks i k a b c e one two = subst (λ ls. PaintsOn (in_tiles change ls) a c) (sym (take_more ks i k e)) (tiles_more change (take i ks) (k ∷ []) a b c one two)
+
+-- one tile more of a rectangle, which no earlier one meets
+pub paints_new : (change : Key → Layer → Layer) (earlier : List Area) (ks : List Key) (i : ℕ) (k : Key) (a b c : Archive) → slice_get ks i ≡ Some k → is_met earlier k ≡ false → PaintsOn (in_tiles change (unmet earlier (take i ks))) a b → PaintsOn (change k) b c → PaintsOn (in_tiles change (unmet earlier (take (i + 1) ks))) a c
+paints_new change earlier ks i k a b c e none one two = subst (λ ls. PaintsOn (in_tiles change ls) a c) (sym (unmet_new earlier ks i k e none)) (tiles_more change (unmet earlier (take i ks)) (k ∷ []) a b c one two)
+
+-- one that an earlier rectangle meets is not painted again
+pub paints_past : (change : Key → Layer → Layer) (earlier : List Area) (ks : List Key) (i : ℕ) (k : Key) (a b : Archive) → slice_get ks i ≡ Some k → is_met earlier k ≡ true → PaintsOn (in_tiles change (unmet earlier (take i ks))) a b → PaintsOn (in_tiles change (unmet earlier (take (i + 1) ks))) a b
+paints_past change earlier ks i k a b e met = subst (λ ls. PaintsOn (in_tiles change ls) a b) (sym (unmet_past earlier ks i k e met))
 
 -- one rectangle more
-pub rect_more : (change : Key → Layer → Layer) (rects : List Area) (i : ℕ) (r : Area) (a b c : Archive) → slice_get rects i ≡ Some r → PaintsOn (in_tiles change (all_keys_of (take i rects))) a b → PaintsOn (in_tiles change (keys_of r)) b c → PaintsOn (in_tiles change (all_keys_of (take (i + 1) rects))) a c
-rect_more change rects i r a b c e one two = paints_as (λ layer. in_tiles change (keys_of r) (in_tiles change (all_keys_of (take i rects)) layer)) (in_tiles change (all_keys_of (take (i + 1) rects))) a c
-    (λ id layer p. sym (ap (λ ks. in_tiles change ks layer) (ap all_keys_of (take_more rects i r e) ∙ all_keys-append (take i rects) (r ∷ []) ∙ ap (λ ks. all_keys_of (take i rects) ++ ks) (append-nil (keys_of r))) ∙ in_tiles-append change (all_keys_of (take i rects)) (keys_of r) layer))
-    (paints_then (in_tiles change (all_keys_of (take i rects))) (in_tiles change (keys_of r)) a b c one two)
+pub rect_more : (change : Key → Layer → Layer) (rects : List Area) (i : ℕ) (r : Area) (a b c : Archive) → slice_get rects i ≡ Some r → PaintsOn (in_tiles change (each_key_of (take i rects))) a b → PaintsOn (in_tiles change (unmet (take i rects) (keys_of r))) b c → PaintsOn (in_tiles change (each_key_of (take (i + 1) rects))) a c
+rect_more change rects i r a b c e one two = subst (λ ls. PaintsOn (in_tiles change ls) a c) (sym (each_key_more rects i r e)) (tiles_more change (each_key_of (take i rects)) (unmet (take i rects) (keys_of r)) a b c one two)
 
 apply_all-append : (jobs more : List Job) (layer : Layer) → apply_all (jobs ++ more) layer ≡ apply_all more (apply_all jobs layer)
 apply_all-append [] more layer = refl
@@ -168,9 +173,9 @@ seen_layer id layer a p = ap (λ o. layer_under_way o a.present) p.on ∙ ap (la
     go (Some old) e h = ap (λ o. Rattle.std.specs.Option.unwrap_or o (Rattle.doc_model.specs.Layers.plain Rattle.pixel_core.specs.Rgba.clear)) (content-with_content id layer old a.base e)
 
 -- a whole job
-pub job_done : (job : Job) (shot : Layer) (a b : Archive) → shot ≡ shot_of (reads job) (layer_under_way a.way a.present) → PaintsOn (in_tiles (published job shot) (all_keys_of (writes job))) a b → PaintsOn (apply job) a b
-job_done job shot a b e on = paints_as (in_tiles (published job shot) (all_keys_of (writes job))) (apply job) a b
-    (λ id layer p. ap (λ s. in_tiles (published job s) (all_keys_of (writes job)) layer) (e ∙ ap (shot_of (reads job)) (seen_layer id layer a p)) ∙ published_all job layer) on
+pub job_done : (job : Job) (shot : Layer) (a b : Archive) → within_limits job ≡ true → shot ≡ shot_of (reads job) (layer_under_way a.way a.present) → PaintsOn (in_tiles (published job shot) (each_key_of (writes job))) a b → PaintsOn (apply job) a b
+job_done job shot a b l e on = paints_as (in_tiles (published job shot) (each_key_of (writes job))) (apply job) a b
+    (λ id layer p. ap (λ s. in_tiles (published job s) (each_key_of (writes job)) layer) (e ∙ ap (shot_of (reads job)) (seen_layer id layer a p)) ∙ published_all job layer l) on
 
 -- a tile of a rectangle is one of those of all rectangles
 pub key_met : (rects : List Area) (i j : ℕ) (r : Area) (k : Key) → slice_get rects i ≡ Some r → slice_get (keys_of r) j ≡ Some k → list_any (same_key k) (all_keys_of rects) ≡ true

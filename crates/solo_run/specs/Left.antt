@@ -1,6 +1,6 @@
 -- What a job has left in its tiles, before it is laid.
 use Rattle.std.specs.Prelude.{◌≡◌, List, ◌++◌, map, All}
-use Rattle.geom_core.specs.Grid.{Key, all_keys_of}
+use Rattle.geom_core.specs.Grid.{Key}
 use Rattle.tile_core.specs.Shots.{Sight}
 use Rattle.doc_model.specs.declared.job.Job.{Job}
 use Rattle.doc_model.specs.Layers.{Layer}
@@ -8,6 +8,7 @@ use Rattle.doc_model.specs.Jobs.{reads, writes, shot_of, published}
 use Rattle.job_core.specs.Paints.{Paint, Stuff, Makes, layer_of}
 use Rattle.desk_steps.specs.Archives.{Archive}
 use Rattle.solo_run.specs.Painting.{PaintsOn, in_tiles}
+use Rattle.solo_run.specs.Once.{each_key_of}
 
 -- painting the job on the shot left this
 pub record IsLeft (job : Job) (shot : Sight) (made : Stuff) : Type 0 where
@@ -21,11 +22,11 @@ pub record IsLeftIn (job : Job) (shot : Sight) (ks : List Key) (left : List Stuf
   pub keys_are : map (λ (made : Stuff). made.key) left ≡ ks
   pub each : All (IsLeft job shot) left
 
--- painting it in all tiles of its writes, on a shot of its reads of the layer, left these
+-- painting it in each tile of its writes, on a shot of its reads of the layer, left these
 pub record IsLeftOf (job : Job) (layer : Layer) (left : List Stuff) : Type 0 where
   pub shot : Sight
   pub shows : layer_of shot ≡ shot_of (reads job) layer
-  pub all : IsLeftIn job shot (all_keys_of (writes job)) left
+  pub all : IsLeftIn job shot (each_key_of (writes job)) left
 
 -- what painting it left in the tiles of these keys was added
 pub record AddsLeft (job : Job) (shot : Sight) (ks : List Key) (old new : List Stuff) : Type 0 where

@@ -1,5 +1,6 @@
 pub mod Shows
 pub mod Painting
+pub mod Once
 pub mod Left
 pub mod Told
 pub mod Stale

@@ -2,7 +2,7 @@
 
 ghost use Rattle.std.specs.Prelude.{◌≡◌, ◌≤◌, ◌↔◌, ℕ, true, is_some, Some, take, [], ◌∷◌, length, slice_get, IsTrue, IfOk, OnOk, All};
 ghost use Rattle.std.specs.List.{list_any};
-ghost use Rattle.geom_core.specs.Grid.{same_key, keys_of, all_keys_of};
+ghost use Rattle.geom_core.specs.Grid.{IsWorldKey, same_key, keys_of, all_keys_of};
 ghost use Rattle.doc_model.specs.Lawful.{checks, within_limits};
 ghost use Rattle.doc_model.specs.Jobs.{reads, writes, apply, apply_all, published};
 ghost use Rattle.machine_model.specs.Effects.{writes_of};
@@ -11,6 +11,7 @@ ghost use Rattle.job_core.specs.Points.{is_point_op};
 ghost use Rattle.desk_steps.specs.Archives.{layer_under_way};
 ghost use Rattle.solo_run.specs.Left.{IsLeft, IsLeftIn, IsLeftOf, AddsLeft, PutsLeft};
 ghost use Rattle.solo_run.specs.Painting.{PaintsOn, in_tiles, jobs_only};
+ghost use Rattle.solo_run.specs.Once.{is_met, unmet, each_key_of};
 ghost use Rattle.solo_run.specs.Stale.{DamagesRects};
 
 use crate::one_tile::paint_one_tile;
@@ -138,26 +139,30 @@ fn left_of(alloc: Global, store: &Store, job: &Job) -> Result<Vec<Made>, NoMemor
     left_on(alloc, job, &shot)
 }
 
-/// What a job leaves of the shot in each of its tiles.
+/// What a job leaves of the shot in each of its tiles, each tile once.
 fn left_on(alloc: Global, job: &Job, shot: &Shot) -> Result<Vec<Made>, NoMemory>
     requires checked { checks job.now ≡ true }
     requires limits { within_limits job.now ≡ true }
     requires seen { shot.now.rects ≡ reads job.now }
-    ensures { IfOk result (λ v. IsLeftIn job.now shot.now (all_keys_of (writes job.now)) v.items) }
+    ensures { IfOk result (λ v. IsLeftIn job.now shot.now (each_key_of (writes job.now)) v.items) }
 {
     let mut left = Vec::new(alloc);
     let writes = job.writes();
-    for rect in writes.as_slice() {
-        add_left(alloc, job, shot, rect, &mut left)?;
+    let rects = writes.as_slice();
+    for i in 0..rects.len() {
+        let (earlier, _) = rects.split_at(i);
+        add_left(alloc, job, shot, earlier, &rects[i], &mut left)?;
     }
     Ok(left)
 }
 
-/// Adds what a job leaves of the shot in each tile of one of the rectangles that it writes.
+/// Adds what a job leaves of the shot in each tile of one of the rectangles that it writes, other
+/// than the tiles that the earlier ones meet.
 fn add_left(
     alloc: Global,
     job: &Job,
     shot: &Shot,
+    earlier: &[Rect],
     rect: &Rect,
     left: &mut Vec<Made>,
 ) -> Result<(), NoMemory>
@@ -165,13 +170,25 @@ fn add_left(
     requires limits { within_limits job.now ≡ true }
     requires seen { shot.now.rects ≡ reads job.now }
     requires written { (i : ℕ) × (slice_get (writes job.now) i ≡ Some rect.now) }
-    ensures { OnOk result (AddsLeft job.now shot.now (keys_of rect.now) left.old.items left.new.items) }
+    ensures { OnOk result (AddsLeft job.now shot.now (unmet earlier.now (keys_of rect.now)) left.old.items left.new.items) }
 {
     for i in 0..rect.tile_count() {
-        let made = left_in(alloc, job, shot, rect.tile_at(i))?;
-        left.push(made)?;
+        let key = rect.tile_at(i);
+        if !is_met(earlier, key) {
+            let made = left_in(alloc, job, shot, key)?;
+            left.push(made)?;
+        }
     }
     Ok(())
+}
+
+/// Whether one of the rectangles meets the tile.
+fn is_met(rects: &[Rect], key: TileKey) -> bool
+    requires { IsWorldKey key }
+    ensures { result ≡ is_met rects.now key }
+{
+    let tile = key.rect();
+    rects.iter().any(|rect| rect.meets(&tile))
 }
 
 /// What a job leaves of the shot in one tile.
@@ -210,27 +227,31 @@ fn paint_many(alloc: Global, store: &mut Store, job: &Job) -> Result<(), NoMemor
     paint_rects(alloc, store, job, &shot)
 }
 
-/// Paints a job in the tiles of all rectangles that it writes.
+/// Paints a job in the tiles of all rectangles that it writes, in each tile once.
 fn paint_rects(alloc: Global, store: &mut Store, job: &Job, shot: &Shot) -> Result<(), NoMemory>
     requires checked { checks job.now ≡ true }
     requires limits { within_limits job.now ≡ true }
     requires seen { shot.now.rects ≡ reads job.now }
     requires under_way { is_some store.old.way ≡ true }
-    ensures { OnOk result (PaintsOn (in_tiles (published job.now (layer_of shot.now)) (all_keys_of (writes job.now))) store.old store.new) }
+    ensures { OnOk result (PaintsOn (in_tiles (published job.now (layer_of shot.now)) (each_key_of (writes job.now))) store.old store.new) }
 {
     let writes = job.writes();
-    for rect in writes.as_slice() {
-        paint_rect(alloc, store, job, shot, rect)?;
+    let rects = writes.as_slice();
+    for i in 0..rects.len() {
+        let (earlier, _) = rects.split_at(i);
+        paint_rect(alloc, store, job, shot, earlier, &rects[i])?;
     }
     Ok(())
 }
 
-/// Paints a job in the tiles of one of the rectangles that it writes.
+/// Paints a job in the tiles of one of the rectangles that it writes, other than the tiles that the
+/// earlier ones meet.
 fn paint_rect(
     alloc: Global,
     store: &mut Store,
     job: &Job,
     shot: &Shot,
+    earlier: &[Rect],
     rect: &Rect,
 ) -> Result<(), NoMemory>
     requires checked { checks job.now ≡ true }
@@ -238,10 +259,13 @@ fn paint_rect(
     requires seen { shot.now.rects ≡ reads job.now }
     requires written { (i : ℕ) × (slice_get (writes job.now) i ≡ Some rect.now) }
     requires under_way { is_some store.old.way ≡ true }
-    ensures { OnOk result (PaintsOn (in_tiles (published job.now (layer_of shot.now)) (keys_of rect.now)) store.old store.new) }
+    ensures { OnOk result (PaintsOn (in_tiles (published job.now (layer_of shot.now)) (unmet earlier.now (keys_of rect.now))) store.old store.new) }
 {
     for i in 0..rect.tile_count() {
-        paint_in(alloc, store, job, shot, rect.tile_at(i))?;
+        let key = rect.tile_at(i);
+        if !is_met(earlier, key) {
+            paint_in(alloc, store, job, shot, key)?;
+        }
     }
     Ok(())
 }

@@ -161,6 +161,12 @@ const WIDE: [Row; 7] = [
         colours: &[RED, WHITE, WHITE, WHITE, WHITE, RED, RED, WHITE, WHITE],
         outcomes: &[Outcome::Done; 7],
     },
+    // A move by one tile over many others, once with few tiles and once with many.
+    Row {
+        script: b"canvas 129 1\nlayer 1 0 0\nstroke 1 1\nfill 1 seq 0 0 64 1 ff0000ff over 255\nfill 1 seq 64 0 64 1 00ff00ff over 255\nend 1\nstroke 2 1\nmove 2 seq 0 0 129 1 64 0\nend 2\nexport\nundo\nexport\nstroke 3 1\nmove 3 seq 0 0 1088 1 64 0\nend 3\nexport\n",
+        colours: &[WHITE, RED, GREEN, RED, GREEN, WHITE, WHITE, RED, GREEN],
+        outcomes: &[Outcome::Done; 8],
+    },
     // A refused change and a cancelled stroke leave all as it is.
     Row {
         script: b"canvas 129 1\nlayer 1 0 0\nstroke 1 1\nfill 1 seq 0 0 129 1 0000ffff over 255\nend 1\nexport\nremove 7\nstroke 2 1\nfill 2 seq 64 0 1 1 ff0000ff over 255\ncancel 2\nexport\nstroke 3 1\nfill 3 seq 128 0 1 1 00ff00ff over 255\nend 3\nexport\n",

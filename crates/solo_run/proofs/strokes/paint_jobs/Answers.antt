@@ -1,4 +1,4 @@
-use Rattle.std.proofs.Common.{List, take, subst, arith}
+use Rattle.std.proofs.Common.{take, subst, arith}
 use Rattle.doc_model.specs.Jobs.{apply_all}
 use Rattle.doc_model.specs.Strokes.{Jobs}
 use Rattle.solo_run.specs.Painting.{PaintsOn, jobs_only}

@@ -3,7 +3,9 @@ use Rattle.geom_core.specs.Grid.{keys_of}
 use Rattle.doc_model.specs.Jobs.{published}
 use Rattle.job_core.specs.Paints.{layer_of}
 use Rattle.solo_run.specs.Painting.{PaintsOn, in_tiles}
+use Rattle.solo_run.specs.Once.{unmet}
 use Rattle.solo_run.proofs.strokes.paint_rect.Given as goal
 
+-- the job was painted in the tiles so far that no earlier rectangle meets
 abbrev pub invariant-loop-i : goal.invariant-loop-i
-invariant-loop-i l = PaintsOn (in_tiles (published l.job (layer_of l.shot)) (take l.i (keys_of l.rect))) l.initial.store l.store
+invariant-loop-i l = PaintsOn (in_tiles (published l.job (layer_of l.shot)) (unmet l.earlier (take l.i (keys_of l.rect)))) l.initial.store l.store

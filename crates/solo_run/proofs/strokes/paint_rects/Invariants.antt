@@ -1,9 +1,10 @@
 use Rattle.std.proofs.Common.{take}
-use Rattle.geom_core.specs.Grid.{all_keys_of}
 use Rattle.doc_model.specs.Jobs.{published}
 use Rattle.job_core.specs.Paints.{layer_of}
 use Rattle.solo_run.specs.Painting.{PaintsOn, in_tiles}
+use Rattle.solo_run.specs.Once.{each_key_of}
 use Rattle.solo_run.proofs.strokes.paint_rects.Given as goal
 
-abbrev pub invariant-loop-rect : goal.invariant-loop-rect
-invariant-loop-rect l = PaintsOn (in_tiles (published l.job (layer_of l.shot)) (all_keys_of (take l.rect-index l.rect-items))) l.initial.store l.store
+-- the job was painted in each tile of the rectangles so far
+abbrev pub invariant-loop-i : goal.invariant-loop-i
+invariant-loop-i l = PaintsOn (in_tiles (published l.job (layer_of l.shot)) (each_key_of (take l.i l.rects))) l.initial.store l.store
