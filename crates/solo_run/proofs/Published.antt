@@ -129,7 +129,7 @@ painted_paints w a h = subst (PaintsOn (all_painted_in w.jobs w.key) a) (same a.
     same (Some way) = refl
 
 -- more tiles
-pub tiles_more : (change : Key → Layer → Layer) (ks ls : List Key) (a b c : Archive) → PaintsOn (in_tiles change ks) a b → PaintsOn (in_tiles change ls) b c → PaintsOn (in_tiles change (ks ++ ls)) a c
+tiles_more : (change : Key → Layer → Layer) (ks ls : List Key) (a b c : Archive) → PaintsOn (in_tiles change ks) a b → PaintsOn (in_tiles change ls) b c → PaintsOn (in_tiles change (ks ++ ls)) a c
 tiles_more change ks ls a b c one two = paints_as (λ layer. in_tiles change ls (in_tiles change ks layer)) (in_tiles change (ks ++ ls)) a c
     (λ id layer p. sym (in_tiles-append change ks ls layer))
     (paints_then (in_tiles change ks) (in_tiles change ls) a b c one two)

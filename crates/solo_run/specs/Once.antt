@@ -17,6 +17,6 @@ abbrev pub new_keys_after : List Area → List Area → List Key
 new_keys_after earlier [] = []
 new_keys_after earlier (r ∷ rest) = unmet earlier (keys_of r) ++ new_keys_after (earlier ++ r ∷ []) rest
 
--- each tile that some of the rectangles meet, where the first of them has it
+-- each tile that some of the rectangles meet, at the place where the first of them has it
 abbrev pub each_key_of : List Area → List Key
 each_key_of rects = new_keys_after [] rects
