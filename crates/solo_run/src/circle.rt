@@ -15,8 +15,7 @@ const CORNER: i32 = 16384;
 /// How far the last column of a tile lies behind the first, and the last row below it.
 const LAST: u32 = 63;
 
-/// Whether a job may change a pixel of a tile of its rectangles. A dab may only where its circle
-/// reaches.
+/// Whether a job may change a pixel in a tile that it writes in. A dab does so within its circle alone.
 pub(crate) fn reaches(job: &Job, key: TileKey) -> bool
     requires checked { checks job.now ≡ true }
     requires key { IsWorldKey key }

@@ -38,8 +38,8 @@ pub(crate) fn paint_one_tile(
     }
 }
 
-/// Tells that the pixels of the stroke's layer in a tile are canonical. It looks at them for that
-/// alone.
+/// Tells that the pixels of the stroke's layer in a tile are canonical: only such pixels stay as they
+/// are outside a circle. The shot copies no pixel.
 fn tell_tile(alloc: Global, store: &Store, key: TileKey) -> Result<(), NoMemory>
     requires key { IsWorldKey key }
     requires under_way { is_some store.now.way ≡ true }
