@@ -146,7 +146,7 @@ const ROWS: [Row; 14] = [
 ];
 
 /// Scripts on a canvas of 129 columns, with the colours of columns 0, 64 and 128, which stand in three tiles.
-const WIDE: [Row; 7] = [
+const WIDE: [Row; 8] = [
     // A small stroke, and undone and redone.
     Row {
         script: b"canvas 129 1\nlayer 1 0 0\nexport\nstroke 1 1\nfill 1 seq 64 0 1 1 ff0000ff over 255\nend 1\nexport\nundo\nexport\nredo\nexport\n",
