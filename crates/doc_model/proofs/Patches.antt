@@ -32,7 +32,7 @@ all_append f [] ys h i = i
 all_append f (x ∷ xs) ys h i = both_true _ _ (and_left _ _ h) (all_append f xs ys (and_right _ _ h) i)
 
 -- no two of the rectangles have one cell
-abbrev cells_differ : List Area → Bool
+abbrev pub cells_differ : List Area → Bool
 cells_differ [] = true
 cells_differ (a ∷ rest) = list_all (λ b. not (one_cell a b)) rest && cells_differ rest
 
@@ -114,14 +114,14 @@ unfolding parts_in cells
 by_grid a = refl
 
 -- a patch that takes a part in has the walk and the cell that it had
-merged_walk : (walk : Walk) (part : Area) (p : Patch) → (merged walk part p).walk ≡ p.walk
+pub merged_walk : (walk : Walk) (part : Area) (p : Patch) → (merged walk part p).walk ≡ p.walk
 merged_walk walk part p = go (same_walk p.walk walk && one_cell p.rect part)
   where
     go : (t : Bool) → (cond t (patch p.walk (bound p.rect part)) p).walk ≡ p.walk
     go true = refl
     go false = refl
 
-merged_cell : (walk : Walk) (part : Area) (p : Patch) → cell_of (merged walk part p).rect ≡ cell_of p.rect
+pub merged_cell : (walk : Walk) (part : Area) (p : Patch) → cell_of (merged walk part p).rect ≡ cell_of p.rect
 merged_cell walk part p = go (same_walk p.walk walk && one_cell p.rect part) refl
   where
     go : (t : Bool) → (same_walk p.walk walk && one_cell p.rect part) ≡ t → cell_of (cond t (patch p.walk (bound p.rect part)) p).rect ≡ cell_of p.rect
@@ -152,7 +152,7 @@ merged_unlike_one walk part p (q ∷ ps) = both (ap not (merged_alike walk part 
     both : {a b c d : Bool} → a ≡ b → c ≡ d → (a && c) ≡ (b && d)
     both e f i = e i && f i
 
-merged_unlike : (walk : Walk) (part : Area) (ps : List Patch) → all_unlike (map (merged walk part) ps) ≡ all_unlike ps
+pub merged_unlike : (walk : Walk) (part : Area) (ps : List Patch) → all_unlike (map (merged walk part) ps) ≡ all_unlike ps
 merged_unlike walk part [] = refl
 merged_unlike walk part (p ∷ ps) = both (merged_unlike_one walk part p ps) (merged_unlike walk part ps)
   where
@@ -171,7 +171,7 @@ merge_unlike : (walk : Walk) (more : List Area) (ps : List Patch) → all_unlike
 merge_unlike walk [] ps = refl
 merge_unlike walk (part ∷ more) ps = merge_unlike walk more (map (merged walk part) ps) ∙ merged_unlike walk part ps
 
-merge_place : (walk walk' : Walk) (part' : Area) (more : List Area) (ps : List Patch) → has_place walk' part' (merge_all walk more ps) ≡ has_place walk' part' ps
+pub merge_place : (walk walk' : Walk) (part' : Area) (more : List Area) (ps : List Patch) → has_place walk' part' (merge_all walk more ps) ≡ has_place walk' part' ps
 merge_place walk walk' part' [] ps = refl
 merge_place walk walk' part' (part ∷ more) ps = merge_place walk walk' part' more (map (merged walk part) ps) ∙ merged_place walk walk' part part' ps
 
@@ -183,19 +183,19 @@ merge_placed : (canvas : Area) (walk : Walk) (more : List Area) (ps : List Patch
 merge_placed canvas walk [] ps h i = i
 merge_placed canvas walk (part ∷ more) ps h i = merge_placed canvas walk more (map (merged walk part) ps) (and_right (in_place canvas (patch walk part)) _ h) (map_placed canvas walk part ps (and_left (in_place canvas (patch walk part)) _ h) i)
 
-length_map : {A B : Type 0} (f : A → B) (xs : List A) → length (map f xs) ≡ length xs
+pub length_map : {A B : Type 0} (f : A → B) (xs : List A) → length (map f xs) ≡ length xs
 length_map f [] = refl
 length_map f (x ∷ xs) = ap suc (length_map f xs)
 
-length_merge : (walk : Walk) (more : List Area) (ps : List Patch) → length (merge_all walk more ps) ≡ length ps
+pub length_merge : (walk : Walk) (more : List Area) (ps : List Patch) → length (merge_all walk more ps) ≡ length ps
 length_merge walk [] ps = refl
 length_merge walk (part ∷ more) ps = length_merge walk more (map (merged walk part) ps) ∙ length_map (merged walk part) ps
 
-length_append : {A : Type 0} (xs ys : List A) → length (xs ++ ys) ≡ length xs + length ys
+pub length_append : {A : Type 0} (xs ys : List A) → length (xs ++ ys) ≡ length xs + length ys
 length_append [] ys = omega arith
 length_append (x ∷ xs) ys = let e : length (xs ++ ys) ≡ length xs + length ys = length_append xs ys in omega arith
 
-unlike-append : (xs ys : List Patch) → all_unlike xs ≡ true → all_unlike ys ≡ true → list_all (λ q. not (list_any (λ x. alike x q) xs)) ys ≡ true → all_unlike (xs ++ ys) ≡ true
+pub unlike-append : (xs ys : List Patch) → all_unlike xs ≡ true → all_unlike ys ≡ true → list_all (λ q. not (list_any (λ x. alike x q) xs)) ys ≡ true → all_unlike (xs ++ ys) ≡ true
 unlike-append [] ys h i c = i
 unlike-append (x ∷ xs) ys h i c = both_true _ _
     (all_append (λ q. not (alike x q)) xs ys (and_left _ _ h) (all_from _ _ ys (λ q e. first (alike x q) _ e) c))
@@ -219,7 +219,7 @@ new_unlike walk (part ∷ more) ps qs same = go (new_unlike walk more ps qs same
     go rest true e = rest
     go rest false e = both_true _ _ (not_false _ (same part ∙ e)) rest
 
-bound_all_lies : (canvas rect : Area) (ps : List Patch) → lies_in rect canvas ≡ true → list_all (in_place canvas) ps ≡ true → lies_in (bound_all rect ps) canvas ≡ true
+pub bound_all_lies : (canvas rect : Area) (ps : List Patch) → lies_in rect canvas ≡ true → list_all (in_place canvas) ps ≡ true → lies_in (bound_all rect ps) canvas ≡ true
 bound_all_lies canvas rect [] h i = h
 bound_all_lies canvas rect (p ∷ ps) h i = bound_all_lies canvas (bound rect p.rect) ps (bound_lies rect p.rect canvas h (and_right (lies_in p.rect (cell (cell_of p.rect))) _ (and_left (in_place canvas p) _ i))) (and_right (in_place canvas p) _ i)
 
@@ -227,13 +227,13 @@ placed_patches : (canvas : Area) (walk : Walk) (rects : List Area) → list_all 
 placed_patches canvas walk [] h = refl
 placed_patches canvas walk (r ∷ rects) h = both_true _ _ (and_left (in_place canvas (patch walk r)) _ h) (placed_patches canvas walk rects (and_right (in_place canvas (patch walk r)) _ h))
 
-parts_right : (canvas a : Area) (walk : Walk) → lies_in a canvas ≡ true → list_all (λ part. in_place canvas (patch walk part)) (parts a) ≡ true
+pub parts_right : (canvas a : Area) (walk : Walk) → lies_in a canvas ≡ true → list_all (λ part. in_place canvas (patch walk part)) (parts a) ≡ true
 parts_right canvas a walk h = ap (λ ps. list_all (λ part. in_place canvas (patch walk part)) ps) (by_grid a) ∙ parts_placed canvas a walk grid h
 
-parts_apart : (a : Area) → cells_differ (parts a) ≡ true
+pub parts_apart : (a : Area) → cells_differ (parts a) ≡ true
 parts_apart a = ap cells_differ (by_grid a) ∙ parts_differ a grid grid_differs
 
-few_parts : (a : Area) → length (parts a) ≤ 64
+pub few_parts : (a : Area) → length (parts a) ≤ 64
 few_parts a = let h : length (parts_in a grid) ≤ length grid = length_parts a grid in subst (λ ps. length ps ≤ 64) (sym (by_grid a)) h
 
 replaced_right : (canvas rect : Area) (ps : List Patch) → lies_in rect canvas ≡ true → IsQueue canvas ps → IsQueue canvas (replaced ps rect)

@@ -45,3 +45,13 @@ pub struct Patch {
     /// Where they are.
     pub rect: Rect,
 }
+
+/// All groups on the point (0, 0). It fills the unused places of lists of a fixed capacity.
+impl Default for Patch {
+    fn default() -> Patch {
+        Patch {
+            walk: Walk::All,
+            rect: Rect::default(),
+        }
+    }
+}
