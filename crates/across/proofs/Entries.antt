@@ -14,11 +14,11 @@ use Rattle.doc_model.specs.declared.command.Command.{Command}
 use Rattle.doc_model.specs.declared.command.Outcome.{Outcome}
 use Rattle.doc_model.specs.declared.command.Outcome.TheVariants as outcome
 use Rattle.doc_model.specs.Layers.{Layer, plain}
-use Rattle.doc_model.specs.Jobs.{apply_all}
+use Rattle.doc_model.specs.Jobs.{apply_all, checks}
 use Rattle.doc_model.specs.Forest.{content, with_content}
 use Rattle.doc_model.specs.Changes.{there}
 use Rattle.doc_model.specs.Picture.{Doc}
-use Rattle.doc_model.specs.Lawful.{is_closed_entry, lawful, checks, within_limits}
+use Rattle.doc_model.specs.Lawful.{is_closed_entry, lawful, within_limits}
 use Rattle.doc_model.specs.Meaning.{Story, start, told, laid_stroke, advanced, meaning, ends_with}
 use Rattle.doc_model.specs.Strokes as doc
 use Rattle.doc_model.specs.Strokes.{Stroke, Jobs, entries}

@@ -3,10 +3,10 @@ use Rattle.std.proofs.Common.{◌≡◌, ℕ, suc, zero, ◌+◌, ◌*◌, Bool,
 use Rattle.std.specs.Prelude.{slice_get, ℤ, pos, negsuc, ◌+ℤ◌, ◌-ℤ◌, ◌≤ℤ◌, int_le, int_lt, ◌&&◌, ◌||◌, nat_abs, nat_le}
 use Rattle.std.specs.List.{list_all}
 use borrow.Author.Differences.{ints}
-use Rattle.geom_core.specs.Points.{Point}
-use Rattle.geom_core.specs.Areas.{Area, holds, any_holds, lies_in, moved, right, world, IsInWorld}
+use Rattle.geom_core.specs.Areas.{Area, holds, lies_in, moved, right, world, Point}
+use Rattle.geom_core.specs.Overlaps.{any_holds, IsInWorld}
 use Rattle.geom_core.proofs.Tests.{and_left, and_right, taken, kept}
-use Rattle.doc_model.specs.Lawful.{checks, within_limits, of_limits}
+use Rattle.doc_model.specs.Lawful.{within_limits, of_limits}
 use Rattle.std.proofs.lemmas.Bool.Decides.{nat_tests}
 use Rattle.doc_model.specs.declared.job.Job.TheVariants.{Move, Blur}
 use Rattle.doc_model.specs.declared.job.Job.{Job}
@@ -14,7 +14,7 @@ use Rattle.doc_model.specs.declared.job.Kind.{Kind}
 use Rattle.pixel_core.specs.Rgba.{clear}
 use Rattle.doc_model.proofs.JobLaws.{at-apply}
 use Rattle.doc_model.specs.Layers.{Layer, at, plain}
-use Rattle.doc_model.specs.Jobs.{apply, apply_all, grown, square, value, writes}
+use Rattle.doc_model.specs.Jobs.{apply, apply_all, grown, square, value, writes, checks}
 use Rattle.doc_model.specs.Strokes.{Jobs}
 use Rattle.across.specs.declared.layer.Step.{Step}
 use Rattle.across.specs.declared.layer.Deed.{Deed}

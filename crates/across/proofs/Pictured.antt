@@ -2,7 +2,7 @@
 use Rattle.std.proofs.Common.{◌≡◌, ℕ, suc, ◌≤◌, Bool, true, false, not, None, refl, sym, ap, ◌∙◌, arith}
 use Rattle.pixel_core.specs.Rgba.{Rgba, clear}
 use Rattle.pixel_core.specs.Compose.{compose}
-use Rattle.geom_core.specs.Points.{Point}
+use Rattle.geom_core.specs.Areas.{Point}
 use Rattle.geom_core.proofs.Tests.{taken, kept}
 use Rattle.doc_model.specs.declared.tree.Look.{Look}
 use Rattle.doc_model.specs.Forest.{none, width, upper}

@@ -1,7 +1,8 @@
 -- A document as its tree and the steps of its layers.
 use Rattle.std.specs.Prelude.{ℕ, ◌==◌, if◌then◌else◌, List}
 use Rattle.doc_model.specs.Layers.{Layer, plain}
-use Rattle.doc_model.specs.Forest.{Forest, each}
+use Rattle.doc_model.specs.Forest.{Forest}
+use Rattle.doc_model.specs.Adjusting.{each}
 use Rattle.doc_model.specs.Picture.{Doc}
 use Rattle.doc_model.specs.declared.tree.Change.{Change}
 use Rattle.doc_model.specs.declared.tree.Change.TheVariants as change

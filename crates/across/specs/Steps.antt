@@ -1,11 +1,11 @@
 -- Layers as what was done to them, step by step.
 use Rattle.std.specs.Prelude.{ℕ, Bool, true, ◌&&◌, ◌==◌, if◌then◌else◌, List, [], ◌∷◌}
 use Rattle.pixel_core.specs.Rgba.{clear}
-use Rattle.geom_core.specs.Points.{Point, point}
+use Rattle.geom_core.specs.Areas.{Point, point}
 use Rattle.doc_model.specs.declared.job.Job.{Job}
-use Rattle.doc_model.specs.Jobs.{apply}
+use Rattle.doc_model.specs.Jobs.{apply, checks}
 use Rattle.doc_model.specs.Layers.{Layer, plain}
-use Rattle.doc_model.specs.Lawful.{checks, within_limits}
+use Rattle.doc_model.specs.Lawful.{within_limits}
 use Rattle.across.specs.declared.spots.Spot.{Spot}
 use Rattle.across.specs.declared.layer.Step.{Step}
 use Rattle.across.specs.declared.layer.Deed.{Deed}

@@ -2,9 +2,9 @@
 
 ghost use Rattle.std.specs.Prelude.{◌≡◌, ◌≤◌, ◌==◌, ◌-ℤ◌, ℕ, ◌∷◌, true, cond, map, IfOk};
 ghost use Rattle.std.specs.List.{list_all};
-ghost use Rattle.geom_core.specs.Areas.{any_holds, holds, moved, points_of};
+ghost use Rattle.geom_core.specs.Overlaps.{any_holds};
 ghost use Rattle.brush_mask.specs.Mask.{mask as strength_of};
-ghost use Rattle.geom_core.specs.Points.{point};
+ghost use Rattle.geom_core.specs.Areas.{point, holds, moved, points_of};
 ghost use Rattle.doc_model.specs.Jobs.{writes, apply, apply_all, value, square};
 ghost use Rattle.doc_model.specs.declared.job.Job.TheVariants.{Move, Blur};
 ghost use Rattle.doc_model.specs.Layers.{at};

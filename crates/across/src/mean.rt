@@ -1,7 +1,7 @@
 //! Means of pixels.
 
 ghost use Rattle.std.specs.Prelude.{◌≡◌, ◌≤◌, ◌+◌, ◌*◌, [], ◌∷◌, ◌++◌, List, ℕ, length};
-ghost use Rattle.pixel_core.specs.Bytes.{nearest};
+ghost use Rattle.pixel_core.specs.Compose.{nearest};
 ghost use Rattle.pixel_core.specs.Rgba.{Rgba};
 ghost use Rattle.doc_model.specs.Jobs.{mean};
 ghost use Rattle.across.specs.Means.{sums_of, IsUpTo};

@@ -1,7 +1,8 @@
 //! A document that is told entry by entry, with whole documents for its history.
 
 ghost use Rattle.std.specs.Prelude.{◌≡◌, [], IfOk, All, true};
-ghost use Rattle.doc_model.specs.Lawful.{checks, within_limits};
+ghost use Rattle.doc_model.specs.Lawful.{within_limits};
+ghost use Rattle.doc_model.specs.Jobs.{checks};
 ghost use Rattle.doc_model.specs.Canvases.{IsOfLimits};
 ghost use Rattle.doc_model.specs.Forest.{content};
 ghost use Rattle.doc_model.specs.Meaning.{start, laid_stroke, advanced};

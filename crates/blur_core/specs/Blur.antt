@@ -1,8 +1,7 @@
 -- The box blur. It is a rule of this engine, not of a standard.
 use Rattle.std.specs.Prelude.{ℕ, ◌+◌, ◌*◌, map}
 use Rattle.pixel_core.specs.Rgba.{Rgba}
-use Rattle.geom_core.specs.Points.{Point}
-use Rattle.geom_core.specs.Areas.{points_of}
+use Rattle.geom_core.specs.Areas.{points_of, Point}
 use Rattle.doc_model.specs.Jobs.{mean, square}
 use Rattle.tile_core.specs.Shots.{Sight, sight_at}
 

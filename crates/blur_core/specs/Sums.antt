@@ -1,7 +1,7 @@
 -- Sums over pixels: of their alphas, and of each colour by its alpha.
 use Rattle.std.specs.Prelude.{ℕ, suc, zero, ◌+◌, ◌-◌, ◌*◌, ◌≤◌, ◌==◌, if◌then◌else◌}
 use Rattle.pixel_core.specs.Rgba.{Rgba, rgba, clear}
-use Rattle.pixel_core.specs.Bytes.{nearest}
+use Rattle.pixel_core.specs.Compose.{nearest}
 use Rattle.blur_core.specs.declared.sums.Sums.{Sums}
 
 -- the sums of alphas and of red, green and blue

@@ -1,8 +1,8 @@
 //! The box blur of a part of a tile.
 
 ghost use Rattle.std.specs.Prelude.{◌≡◌, ◌≤◌, IfOk, true};
-ghost use Rattle.geom_core.specs.Points.{Point};
-ghost use Rattle.geom_core.specs.Areas.{holds, lies_in, world, IsWithin};
+ghost use Rattle.geom_core.specs.Areas.{holds, lies_in, world, Point};
+ghost use Rattle.geom_core.specs.Overlaps.{IsWithin};
 ghost use Rattle.geom_core.specs.Grid.{IsWorldKey, tile};
 ghost use Rattle.doc_model.specs.Jobs.{grown};
 ghost use Rattle.tile_core.specs.Blocks.{piece_at};

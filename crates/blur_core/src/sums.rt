@@ -1,7 +1,7 @@
 //! Sums over pixels, and the mean that they make.
 
 ghost use Rattle.std.specs.Prelude.{◌≡◌, ◌≤◌, ◌*◌};
-ghost use Rattle.pixel_core.specs.Bytes.{nearest};
+ghost use Rattle.pixel_core.specs.Compose.{nearest};
 ghost use Rattle.blur_core.specs.Sums.{sums, nothing, weigh, plus, less, mean_of, IsUpTo, IsPartOf};
 
 use pixel_core::Pixel;

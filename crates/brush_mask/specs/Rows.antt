@@ -1,5 +1,10 @@
 -- Rows of strengths, each place by its distance across.
-use Rattle.std.specs.Prelude.{◌≡◌, ℕ, ◌<◌, ◌-◌, ◌*◌, ◌/◌, nat_lt, ℤ, pos, ◌+ℤ◌, nat_abs, if◌then◌else◌, List, length, slice_index_or}
+use Rattle.std.specs.Prelude.{◌≡◌, ℕ, ◌<◌, ◌-◌, ◌*◌, ◌/◌, nat_lt, ℤ, pos, ◌+ℤ◌, nat_abs, if◌then◌else◌, Bool, List, length, slice_index_or}
+use Rattle.brush_mask.specs.Mask.{mask}
+
+-- the strengths along a row, of which the first place is (dx, dy) from the centre
+abbrev pub IsMaskRow : ℕ → Bool → ℤ → ℤ → List ℕ → Type 0
+IsMaskRow r soft dx dy row = (k : ℕ) → k < length row → slice_index_or row k 0 ≡ mask r soft (dx +ℤ pos k) dy
 
 -- what the square of a distance leaves of a room
 unfoldable pub spare : ℕ → ℤ → ℕ

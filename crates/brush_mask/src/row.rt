@@ -1,8 +1,7 @@
 //! Rows of masks.
 
 ghost use Rattle.std.specs.Prelude.{◌≡◌, ◌≤◌, ◌<◌, ◌+◌, ◌*◌, ◌-◌, ◌≤ℤ◌, ◌+ℤ◌, negsuc, pos, length, nat_abs};
-ghost use Rattle.brush_mask.specs.Mask.{IsMaskRow};
-ghost use Rattle.brush_mask.specs.Rows.{spare, full, IsHardRow, IsSoftRow};
+ghost use Rattle.brush_mask.specs.Rows.{spare, full, IsHardRow, IsSoftRow, IsMaskRow};
 
 use crate::fall::{Fall, NARROW};
 use crate::round::square;

@@ -8,8 +8,7 @@ use Rattle.std.proofs.lemmas.List.{get_or-take, get_or-drop, drop-drop, append_a
 use Rattle.pixel_core.specs.Rgba.{Rgba, clear}
 use Rattle.pixel_core.specs.Compose.{compose}
 use Rattle.pixel_rows.specs.Rows.{LaysRow}
-use Rattle.geom_core.specs.Points.{point}
-use Rattle.geom_core.specs.Areas.{Area, holds}
+use Rattle.geom_core.specs.Areas.{Area, holds, point}
 use Rattle.tile_core.specs.Pixels.{Pixels, pixel_of}
 use Rattle.tile_core.specs.Parts.{in_part}
 use Rattle.tile_core.proofs.LaidRows.{get_or-laid}

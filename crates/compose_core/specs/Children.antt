@@ -1,8 +1,7 @@
 -- The children of a group: each one's look, and its pixel at a point.
 use Rattle.std.specs.Prelude.{◌≡◌, ℕ, ◌<◌, pos, if◌then◌else◌, List, [], ◌∷◌, map, fold, zip}
 use Rattle.pixel_core.specs.Rgba.{Rgba, clear}
-use Rattle.geom_core.specs.Points.{Point, point}
-use Rattle.geom_core.specs.Areas.{Area, holds}
+use Rattle.geom_core.specs.Areas.{Area, holds, Point, point}
 use Rattle.tile_core.specs.Pixels.{Pixels, pixel_of}
 use Rattle.doc_model.specs.declared.tree.Look.{Look}
 use Rattle.doc_model.specs.Forest.{none, paint, group}

@@ -1,7 +1,7 @@
 //! The children of a group, laid one on another.
 
 ghost use Rattle.std.specs.Prelude.{◌≡◌, ◌+◌, ◌<◌, ◌≤◌, length, IfOk, true};
-ghost use Rattle.geom_core.specs.Areas.{IsWithin};
+ghost use Rattle.geom_core.specs.Overlaps.{IsWithin};
 ghost use Rattle.tile_core.specs.Pixels.{whole_tile};
 ghost use Rattle.compose_core.specs.Children.{IsComposed};
 ghost use Rattle.compose_core.specs.Laid.{LaysChild};

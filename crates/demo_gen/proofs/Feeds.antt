@@ -16,8 +16,9 @@ use Rattle.doc_model.specs.declared.job.Kind.{Kind}
 use Rattle.doc_model.specs.declared.job.Kind.TheVariants.{Con}
 use Rattle.doc_model.specs.declared.command.Command.{Command}
 use Rattle.doc_model.specs.declared.command.Command.TheVariants as command
-use Rattle.doc_model.specs.Strokes.{Jobs, Fate, Open, Ended, Cancelled, Entry, Strokes, with_job, with_fate, fed, all_fed}
-use Rattle.doc_model.specs.Lawful.{is_stroke, is_open_stroke, has_room, is_export, is_closed_entry, may_follow, lawful_after, checks, within_limits}
+use Rattle.doc_model.specs.Strokes.{Jobs, Fate, Open, Ended, Cancelled, Entry, Strokes, with_job, with_fate, fed, all_fed, is_stroke, is_open_stroke, has_room, is_export}
+use Rattle.doc_model.specs.Lawful.{is_closed_entry, may_follow, lawful_after, within_limits}
+use Rattle.doc_model.specs.Jobs.{checks}
 use Rattle.doc_model.proofs.Feeding.{Touches, with_job_touches, with_fate_touches}
 use Rattle.script_lines.specs.Colours.{is_pixel}
 use Rattle.script_forms.specs.Ranges.{in_range, job_in_range}

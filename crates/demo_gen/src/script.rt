@@ -1,7 +1,7 @@
 //! The whole script.
 
 ghost use Rattle.std.specs.Prelude.{◌≡◌, ◌++◌, IfOk, true};
-ghost use Rattle.script_text.specs.Script.{is_script};
+ghost use Rattle.script_text.specs.Closed.{is_script};
 ghost use Rattle.pixel_core.specs.Rgba.{clear};
 ghost use Rattle.doc_model.specs.declared.tree.Change.TheVariants.{Layer, Group};
 ghost use Rattle.doc_model.specs.declared.command.Command.TheVariants.{Change as Changes};

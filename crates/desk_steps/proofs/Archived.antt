@@ -7,8 +7,8 @@ use Rattle.std.specs.FinMap as map
 use Rattle.std.specs.FinSet as set
 use Rattle.std.specs.FinSet.{FinSet}
 use Rattle.pixel_core.specs.Rgba.{clear}
-use Rattle.geom_core.specs.Points.{Point}
-use Rattle.geom_core.specs.Areas.{Area, any_holds}
+use Rattle.geom_core.specs.Areas.{Area, Point}
+use Rattle.geom_core.specs.Overlaps.{any_holds}
 use Rattle.geom_core.specs.Grid.{Key, key_cmp, key_of, same_key, key_cmp_total}
 use Rattle.geom_core.specs.declared.NoMemory.{NoMemory}
 use Rattle.geom_core.proofs.Tests.{none_left, none_right, kept}
@@ -17,12 +17,15 @@ use Rattle.tile_core.specs.Pixels.{Pixels, pixel_at, pixel_or}
 use Rattle.tile_core.specs.Shots.{Sight, sight_at}
 use Rattle.memento_core.specs.Planes.{Keyed, tile_under}
 use Rattle.doc_model.specs.declared.tree.Change.{Change}
-use Rattle.doc_model.specs.Layers.{Layer, at, plain, layer_ext, at-painted, default-painted, at-plain, default-plain}
+use Rattle.doc_model.specs.Layers.{Layer, at, plain}
+use Rattle.doc_model.proofs.LayerLaws.{layer_ext, at-painted, default-painted, at-plain, default-plain}
 use Rattle.doc_model.specs.declared.job.Job.{Job}
-use Rattle.doc_model.specs.Jobs.{published, in_tile, shot_of, writes}
+use Rattle.doc_model.specs.Jobs.{writes}
+use Rattle.doc_model.specs.Shots.{published, in_tile, shot_of}
 use Rattle.doc_model.proofs.Shots.{at-published, default-published}
 use Rattle.doc_model.specs.Changes.{changed}
-use Rattle.doc_model.specs.Forest.{Forest, none, paint, group, height, content, with_content, adjusted}
+use Rattle.doc_model.specs.Forest.{Forest, none, paint, group, height, content, with_content}
+use Rattle.doc_model.specs.Adjusting.{adjusted}
 use Rattle.doc_model.specs.Ids.{weight}
 use Rattle.doc_model.specs.Picture.{Doc}
 use Rattle.doc_model.specs.Laws.{IsDocument}

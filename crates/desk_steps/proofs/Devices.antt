@@ -13,11 +13,13 @@ use Rattle.geom_core.specs.Grid.{Key, key_cmp, key_of}
 use Rattle.memento_core.specs.Planes.{Keyed}
 use Rattle.tile_core.specs.Pixels.{Pixels, pixel_or}
 use Rattle.geom_core.proofs.Tests.{taken, kept}
-use Rattle.doc_model.specs.Layers.{Layer, plain, layer_ext, at-plain, default-plain}
+use Rattle.doc_model.specs.Layers.{Layer, plain}
+use Rattle.doc_model.proofs.LayerLaws.{layer_ext, at-plain, default-plain}
 use Rattle.doc_model.specs.declared.tree.Change.{Change}
 use Rattle.doc_model.specs.Picture.{Doc}
 use Rattle.doc_model.specs.declared.tree.TreeFault.{TreeFault}
-use Rattle.doc_model.specs.Forest.{Forest, none, paint, group, has, is_group, content, adjusted, each, or_else, count, height}
+use Rattle.doc_model.specs.Forest.{Forest, none, paint, group, has, is_group, content, or_else, count, height}
+use Rattle.doc_model.specs.Adjusting.{adjusted, each}
 use Rattle.doc_model.specs.Changes.{changed, there, takes}
 use Rattle.doc_model.specs.Ids.{IsTree, weight, mark, times}
 use Rattle.doc_model.specs.Laws.{IsDocument}

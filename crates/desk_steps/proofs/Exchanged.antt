@@ -4,7 +4,9 @@ use Rattle.std.specs.FinSet.{FinSet}
 use Rattle.geom_core.specs.Grid.{Key, key_cmp}
 use Rattle.geom_core.specs.declared.Touched.{Touched}
 use Rattle.doc_model.specs.Layers.{Layer}
-use Rattle.doc_model.specs.Forest.{Forest, has, content, adjusted, parent}
+use Rattle.doc_model.specs.Forest.{Forest, has, content}
+use Rattle.doc_model.specs.Adjusting.{adjusted}
+use Rattle.doc_model.specs.Readers.{parent}
 use Rattle.doc_model.specs.Changes.{there}
 use Rattle.doc_model.specs.Picture.{Doc}
 use Rattle.doc_model.proofs.Contents.{content-with_content}

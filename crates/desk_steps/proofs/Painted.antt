@@ -1,11 +1,12 @@
 -- What point operations leave of a device's tile.
 use Rattle.std.proofs.Common.{◌≡◌, Bool, true, false, cond, Some, [], ◌∷◌, refl, sym, ap, ◌∙◌}
-use Rattle.geom_core.specs.Points.{Point}
+use Rattle.geom_core.specs.Areas.{Point}
 use Rattle.geom_core.specs.Grid.{Key}
 use Rattle.geom_core.proofs.Tests.{taken, kept}
 use Rattle.tile_core.specs.Pixels.{Pixels, pixel_at}
-use Rattle.doc_model.specs.Layers.{Layer, at, layer_ext}
-use Rattle.doc_model.specs.Jobs.{in_tile}
+use Rattle.doc_model.specs.Layers.{Layer, at}
+use Rattle.doc_model.proofs.LayerLaws.{layer_ext}
+use Rattle.doc_model.specs.Shots.{in_tile}
 use Rattle.doc_model.specs.Strokes.{Jobs}
 use Rattle.job_core.specs.Points.{Spot, LaysPoints, painted_in, all_painted_in}
 use Rattle.paint_device.specs.InPlace.{LaysUnder}

@@ -6,14 +6,15 @@ use Rattle.std.specs.List.{list_any}
 use Rattle.std.specs.FinMap as fin
 use Rattle.std.specs.FinSet as set
 use Rattle.pixel_core.specs.Rgba.{Rgba}
-use Rattle.geom_core.specs.Points.{Point}
-use Rattle.geom_core.specs.Areas.{holds, any_holds}
+use Rattle.geom_core.specs.Areas.{holds, Point}
+use Rattle.geom_core.specs.Overlaps.{any_holds}
 use Rattle.geom_core.specs.Grid.{Key, key_cmp, key_of, same_key, tile, key_cmp_total, key_cmp-IsAntisymmetric}
 use Rattle.geom_core.proofs.Tests.{taken, kept, or_right}
 use Rattle.geom_core.proofs.Tiles.{own_tile, key_of_holder, key_same, key_is}
 use Rattle.memento_core.specs.Planes.{Keyed, tile_under}
 use Rattle.tile_core.specs.Pixels.{Pixels, pixel_or}
-use Rattle.doc_model.specs.Layers.{Layer, at, layer_ext, at-painted, default-painted}
+use Rattle.doc_model.specs.Layers.{Layer, at}
+use Rattle.doc_model.proofs.LayerLaws.{layer_ext, at-painted, default-painted}
 use Rattle.paint_device.specs.Sheets.{Sheet, sheet_at, with_under, readied}
 use Rattle.paint_device.specs.InPlace.{LaysUnder}
 use Rattle.paint_device.specs.Seen.{layer_of}

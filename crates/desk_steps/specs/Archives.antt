@@ -7,8 +7,10 @@ use Rattle.pixel_core.specs.Rgba.{clear}
 use Rattle.geom_core.specs.Grid.{key_cmp, key_code}
 use Rattle.geom_core.specs.declared.Touched.{Touched}
 use Rattle.doc_model.specs.Layers.{Layer, plain}
-use Rattle.doc_model.specs.Jobs.{published}
-use Rattle.doc_model.specs.Forest.{Forest, none, each, adjusted, parent}
+use Rattle.doc_model.specs.Shots.{published}
+use Rattle.doc_model.specs.Forest.{Forest, none}
+use Rattle.doc_model.specs.Adjusting.{each, adjusted}
+use Rattle.doc_model.specs.Readers.{parent}
 use Rattle.doc_model.specs.Changes.{changed}
 use Rattle.doc_model.specs.Codes.{doc_code}
 use Rattle.doc_model.specs.Laws.{IsDocument}

@@ -2,7 +2,8 @@
 use Rattle.std.specs.Prelude.{◌≡◌, ℕ, is_some}
 use Rattle.memento_core.specs.Planes.{Keyed}
 use Rattle.tile_core.specs.Pixels.{Pixels}
-use Rattle.doc_model.specs.Forest.{each, content, adjusted}
+use Rattle.doc_model.specs.Forest.{content}
+use Rattle.doc_model.specs.Adjusting.{each, adjusted}
 use Rattle.doc_model.specs.Picture.{Doc}
 use Rattle.machine_model.specs.Effects.{layer_in}
 use Rattle.desk_steps.specs.Founds.{StandIn, has_key, patched}

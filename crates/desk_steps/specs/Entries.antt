@@ -2,7 +2,8 @@
 use Rattle.std.specs.Prelude.{◌≡◌, ◌≤◌, true, Bool, is_some, Option, Some, None, List, [], ◌∷◌}
 use Rattle.std.specs.FinMap as map
 use Rattle.geom_core.specs.Grid.{Key}
-use Rattle.doc_model.specs.Forest.{content, adjusted}
+use Rattle.doc_model.specs.Forest.{content}
+use Rattle.doc_model.specs.Adjusting.{adjusted}
 use Rattle.doc_model.specs.Picture.{Doc}
 use Rattle.machine_model.specs.State.{Reach}
 use Rattle.machine_model.specs.State as state

@@ -4,7 +4,7 @@ use Rattle.std.specs.FinMap as fin
 use Rattle.std.specs.FinSet as set
 use Rattle.std.specs.FinSet.{FinSet}
 use Rattle.std.specs.Coded.{Coded, coded_list, coded_option}
-use Rattle.pixel_core.specs.Rgba.{pixel_code}
+use Rattle.pixel_core.specs.Words.{pixel_code}
 use Rattle.geom_core.specs.Grid.{Key, key_of, key_cmp, key_code, tile}
 use Rattle.memento_core.specs.Planes.{Keyed, tile_under}
 use Rattle.tile_core.specs.Pixels.{Pixels, pixel_or}

@@ -1,6 +1,7 @@
 -- Sets of tiles as lists in order.
 use Rattle.std.specs.Prelude.{◌≤◌, ◌^◌, ◌-◌, Option, Some, None, List, length, All}
-use Rattle.geom_core.specs.Areas.{Area, bound}
+use Rattle.geom_core.specs.Areas.{Area}
+use Rattle.geom_core.specs.Overlaps.{bound}
 use Rattle.geom_core.specs.Grid.{Key, IsWorldKey}
 
 -- tiles of the world, not too many for a count of 32 bits

@@ -1,14 +1,15 @@
 -- The tile that a device gets where something was painted.
 use Rattle.std.specs.Prelude.{◌≡◌, true, cond, pos, ◌-ℤ◌, Option}
 use Rattle.std.specs.Option.{option_or}
-use Rattle.geom_core.specs.Points.{Point}
-use Rattle.geom_core.specs.Areas.{any_holds}
+use Rattle.geom_core.specs.Areas.{Point}
+use Rattle.geom_core.specs.Overlaps.{any_holds}
 use Rattle.geom_core.specs.Grid.{Key, key}
 use Rattle.tile_core.specs.Pixels.{Pixels, pixel_at}
 use Rattle.memento_core.specs.Planes.{tile_under}
 use Rattle.doc_model.specs.declared.job.Job.{Job}
 use Rattle.doc_model.specs.Layers.{Layer, at}
-use Rattle.doc_model.specs.Jobs.{writes, apply, in_tile}
+use Rattle.doc_model.specs.Jobs.{writes, apply}
+use Rattle.doc_model.specs.Shots.{in_tile}
 use Rattle.job_core.specs.Paints as paints
 use Rattle.job_core.specs.Paints.{Paint, Stuff, Makes}
 use Rattle.job_core.specs.Points.{Spot, all_painted_in}

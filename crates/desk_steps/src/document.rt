@@ -3,8 +3,9 @@
 ghost use Rattle.std.specs.Prelude.{◌≡◌, ◌+◌, true, None, Some, Ok, Err, is_some, IfOk, OnOk, OnErr, IfSome, IfNone};
 ghost use Rattle.std.specs.FinSet as set;
 ghost use Rattle.doc_model.specs.Layers.{plain};
-ghost use Rattle.doc_model.specs.Jobs.{published};
-ghost use Rattle.doc_model.specs.Forest.{none, content, adjusted};
+ghost use Rattle.doc_model.specs.Shots.{published};
+ghost use Rattle.doc_model.specs.Forest.{none, content};
+ghost use Rattle.doc_model.specs.Adjusting.{adjusted};
 ghost use Rattle.doc_model.specs.Changes.{changed};
 ghost use Rattle.doc_model.specs.Laws.{IsDocument};
 ghost use Rattle.doc_model.specs.declared.tree.TreeFault.{TreeFault};

@@ -4,9 +4,9 @@ ghost use Rattle.std.specs.Prelude.{◌≡◌, true, false, Some, IfOk, OnOk, On
 ghost use Rattle.std.specs.FinMap as map;
 ghost use Rattle.std.specs.FinSet as set;
 ghost use Rattle.geom_core.specs.Grid.{IsWorldKey};
-ghost use Rattle.geom_core.specs.Points.{Point};
+ghost use Rattle.geom_core.specs.Areas.{Point};
 ghost use Rattle.tile_core.specs.Pixels.{pixel_at};
-ghost use Rattle.doc_model.specs.Jobs.{published, in_tile};
+ghost use Rattle.doc_model.specs.Shots.{published, in_tile};
 ghost use Rattle.job_core.specs.Paints as paints;
 ghost use Rattle.job_core.specs.Paints.{Paint, Makes};
 ghost use Rattle.paint_device.specs.InPlace.{LaysUnder};

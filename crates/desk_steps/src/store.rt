@@ -3,10 +3,10 @@
 ghost use Rattle.std.specs.Prelude.{◌≡◌, ◌≤◌, ◌+◌, ℕ, true, false, [], None, Some, Ok, Err, is_some, take, IfOk, OnOk, OnErr, IfErr, IfSome, IfNone, IsNone, ◌↔◌};
 ghost use Rattle.std.specs.FinSet as set;
 ghost use Rattle.geom_core.specs.Grid.{key_of, same_key};
-ghost use Rattle.geom_core.specs.Points.{Point};
+ghost use Rattle.geom_core.specs.Areas.{Point};
 ghost use Rattle.tile_core.specs.Pixels.{pixel_at};
 ghost use Rattle.doc_model.specs.Layers.{Layer, at, plain};
-ghost use Rattle.doc_model.specs.Jobs.{shot_of};
+ghost use Rattle.doc_model.specs.Shots.{shot_of};
 ghost use Rattle.doc_model.specs.Forest.{content};
 ghost use Rattle.doc_model.specs.Changes.{changed, there};
 ghost use Rattle.doc_model.specs.declared.tree.TreeFault.{TreeFault};

@@ -1,12 +1,14 @@
 -- Jobs that don't write what the other reads commute, whole and tile by tile. Of jobs only their laws are used.
 use Rattle.std.proofs.Common.{◌≡◌, Bool, true, false, ◌&&◌, cond, List, refl, sym, ap, ◌∙◌, inl, inr}
 use Rattle.pixel_core.specs.Rgba.{Rgba}
-use Rattle.geom_core.specs.Points.{Point}
-use Rattle.geom_core.specs.Areas.{Area, any_holds}
+use Rattle.geom_core.specs.Areas.{Area, Point}
+use Rattle.geom_core.specs.Overlaps.{any_holds}
 use Rattle.geom_core.proofs.Tests.{true_or_false}
 use Rattle.doc_model.specs.declared.job.Job.{Job}
-use Rattle.doc_model.specs.Layers.{Layer, at, layer_ext}
-use Rattle.doc_model.specs.Jobs.{reads, writes, apply, in_tile}
+use Rattle.doc_model.specs.Layers.{Layer, at}
+use Rattle.doc_model.proofs.LayerLaws.{layer_ext}
+use Rattle.doc_model.specs.Jobs.{reads, writes, apply}
+use Rattle.doc_model.specs.Shots.{in_tile}
 use Rattle.doc_model.specs.Laws.{SameOn, Apart, JobsCommute, TilesCommute}
 use Rattle.doc_model.proofs.JobLaws.{laws_of_jobs}
 use Rattle.doc_model.proofs.Shots.{at-published, default-published}

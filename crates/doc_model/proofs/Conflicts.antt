@@ -4,13 +4,13 @@ use Rattle.std.specs.Prelude.{ℤ, ◌+ℤ◌, pos, int_le, int_lt, slice_get}
 use Rattle.std.specs.List.{list_any}
 use Rattle.std.proofs.lemmas.Bool.Decides.{nat_tests}
 use borrow.Author.Differences.{ints}
-use Rattle.geom_core.specs.Points.{Point}
-use Rattle.geom_core.specs.Areas.{Area, holds, any_holds, meets}
+use Rattle.geom_core.specs.Areas.{Area, holds, meets, Point}
+use Rattle.geom_core.specs.Overlaps.{any_holds}
 use Rattle.doc_model.specs.declared.job.Job.{Job}
 use Rattle.doc_model.specs.declared.job.Kind.{Kind}
 use Rattle.geom_core.proofs.Tests.{true_or_false, and_left, and_right, both_true, or_cases, or_left, or_right, is_some-None}
-use Rattle.doc_model.specs.Least.{least, least_from, all_from}
-use Rattle.doc_model.specs.Strokes.{runs, runs_at, passes, Jobs, conflict, conflicting, first_conflicting, second_of, pair_at, pair_of, any_meet, one_run, kept, up_to}
+use Rattle.doc_model.specs.Strokes.{runs, runs_at, passes, Jobs, conflict, conflicting, first_conflicting, second_of, pair_at, pair_of, any_meet, one_run, least, least_from, all_from}
+use Rattle.doc_model.specs.Kept.{kept, up_to}
 
 -- what the least number tells
 abbrev pub IsLeastFrom : ℕ → ℕ → (ℕ → Bool) → Option ℕ → Type 0

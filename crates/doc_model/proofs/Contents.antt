@@ -1,7 +1,8 @@
 -- The content of a paint node, and a document with another one.
 use Rattle.std.proofs.Common.{◌≡◌, ℕ, Bool, true, false, cond, Option, Some, None, refl, ap, ◌∙◌, eqb}
 use Rattle.doc_model.specs.declared.tree.Look.{Look}
-use Rattle.doc_model.specs.Forest.{Forest, none, paint, group, content, with_content, adjusted, or_else}
+use Rattle.doc_model.specs.Forest.{Forest, none, paint, group, content, with_content, or_else}
+use Rattle.doc_model.specs.Adjusting.{adjusted}
 
 same_group : {A : Type 0} (id : ℕ) (look : Look) {a a' b b' : Forest A} → a ≡ a' → b ≡ b' → group id look a b ≡ group id look a' b'
 same_group id look e h i = group id look (e i) (h i)

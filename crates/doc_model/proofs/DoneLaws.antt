@@ -1,5 +1,5 @@
--- What a stroke or a change leaves, done or not.
-use Rattle.std.proofs.Common.{◌≡◌, ◌≢◌, ℕ, Bool, true, false, List, [], ◌∷◌, ◌++◌, Option, Some, None, Result, Ok, Err, refl, sym, ap, ◌∙◌, ◌⊎◌, inl, inr}
+-- What an entry leaves, done or not.
+use Rattle.std.proofs.Common.{◌≡◌, ◌≢◌, ℕ, suc, ◌+◌, length, Bool, true, false, List, [], ◌∷◌, ◌++◌, Option, Some, None, Result, Ok, Err, refl, sym, ap, ◌∙◌, arith, ◌⊎◌, inl, inr}
 use Rattle.doc_model.specs.declared.canvas.Canvas.{Canvas}
 use Rattle.doc_model.specs.declared.tree.TreeFault.{TreeFault}
 use Rattle.doc_model.specs.declared.command.Outcome.{Outcome}
@@ -9,8 +9,8 @@ use Rattle.doc_model.specs.Forest.{content}
 use Rattle.doc_model.specs.Picture.{Doc}
 use Rattle.doc_model.specs.Changes.{changed}
 use Rattle.doc_model.specs.Strokes.{Stroke, Fate, Open, Ended, Cancelled, Entry, Strokes, Changes, Undoes, Redoes, Purges, Exports, conflict}
-use Rattle.doc_model.specs.Meaning.{Story, told, told_stroke, closed_stroke, laid_stroke, told_change, ends_with, advanced}
-use Rattle.doc_model.specs.Laws.{is_change, UndoGivesBack, RefusedLeavesNothing}
+use Rattle.doc_model.specs.Meaning.{Story, start, meaning, told, told_all, told_stroke, closed_stroke, laid_stroke, told_change, undone, redone, ends_with, advanced}
+use Rattle.doc_model.specs.Laws.{is_change, UndoGivesBack, RefusedLeavesNothing, OneOutcomeAnEntry}
 
 -- a story goes on: it advances to a document, or it has one more outcome, which is not Done
 abbrev GoesOn : Story → Story → Type 0
@@ -58,8 +58,55 @@ undo_gives_back canvas s e h done = elim (goes_on canvas s e h) [
   | inr t ↦ absurd (t.1 (last_same s.outcomes t.0 outcome.Done (sym (ap outcomes_of t.2) ∙ done)))
 ]
 
+-- an entry is done, or it leaves nothing but an outcome, which is not Done
+abbrev DoneOrNothing : Story → Story → Type 0
+DoneOrNothing s t = (t.outcomes ≡ s.outcomes ++ outcome.Done ∷ []) ⊎ ((o : Outcome) × (o ≢ outcome.Done) × (t ≡ ends_with s o))
+
+done_or_nothing : (s t : Story) → GoesOn s t → DoneOrNothing s t
+done_or_nothing s t (inl on) = inl (ap outcomes_of on.1)
+done_or_nothing s t (inr on) = inr on
+
+undoes : (s : Story) (past : List Doc) → DoneOrNothing s (undone s past)
+undoes s [] = inr (outcome.NothingToUndo, (λ e. cc), refl)
+undoes s (d ∷ past) = inl refl
+
+redoes : (s : Story) (future : List Doc) → DoneOrNothing s (redone s future)
+redoes s [] = inr (outcome.NothingToRedo, (λ e. cc), refl)
+redoes s (d ∷ future) = inl refl
+
+each_entry : (canvas : Canvas) (s : Story) (e : Entry) → DoneOrNothing s (told canvas s e)
+each_entry canvas s (Strokes stroke) = done_or_nothing s _ (stroked s stroke (conflict stroke.jobs))
+each_entry canvas s (Changes change) = done_or_nothing s _ (changes s (changed plain change s.document))
+each_entry canvas s Undoes = undoes s s.past
+each_entry canvas s Redoes = redoes s s.future
+each_entry canvas s (Purges n) = inl refl
+each_entry canvas s Exports = inl refl
+
 pub refused_leaves_nothing : RefusedLeavesNothing
-refused_leaves_nothing canvas s e o h last other = elim (goes_on canvas s e h) [
-  | inl t ↦ absurd (other (last_same s.outcomes o outcome.Done (sym last ∙ ap outcomes_of t.1)))
+refused_leaves_nothing canvas s e o last other = elim (each_entry canvas s e) [
+  | inl done ↦ absurd (other (last_same s.outcomes o outcome.Done (sym last ∙ done)))
   | inr t ↦ t.2 ∙ ap (ends_with s) (last_same s.outcomes t.0 o (sym (ap outcomes_of t.2) ∙ last))
 ]
+
+length_last : (xs : List Outcome) (x : Outcome) → length (xs ++ x ∷ []) ≡ suc (length xs)
+length_last [] x = refl
+length_last (y ∷ xs) x = ap suc (length_last xs x)
+
+-- each entry adds one outcome
+pub one_outcome : (canvas : Canvas) (s : Story) (e : Entry) → length (told canvas s e).outcomes ≡ suc (length s.outcomes)
+one_outcome canvas s e = elim (each_entry canvas s e) [
+  | inl done ↦ ap length done ∙ length_last s.outcomes outcome.Done
+  | inr t ↦ ap (λ (u : Story). length u.outcomes) t.2 ∙ length_last s.outcomes t.0
+]
+
+outcomes_after : (canvas : Canvas) (s : Story) (es : List Entry) → length (told_all canvas s es).outcomes ≡ length s.outcomes + length es
+outcomes_after canvas s [] = omega arith
+outcomes_after canvas s (e ∷ es) =
+    let one : length (told canvas s e).outcomes ≡ suc (length s.outcomes) = one_outcome canvas s e in
+    let rest : length (told_all canvas (told canvas s e) es).outcomes ≡ length (told canvas s e).outcomes + length es = outcomes_after canvas (told canvas s e) es in
+    omega arith
+
+pub one_outcome_an_entry : OneOutcomeAnEntry
+one_outcome_an_entry canvas es =
+    let all : length (meaning canvas es).outcomes ≡ 0 + length es = outcomes_after canvas start es in
+    omega arith

@@ -2,9 +2,9 @@
 use Rattle.std.proofs.Common.{◌≡◌, ℕ, suc, zero, ◌+◌, ◌-◌, ◌<◌, ◌≤◌, Bool, true, false, cond, [], ◌∷◌, ◌++◌, Option, Some, None, is_some, length, take, refl, sym, ap, ◌∙◌, arith, subst}
 use Rattle.doc_model.specs.declared.job.Job.{Job}
 use Rattle.doc_model.specs.declared.job.Kind.{Kind}
-use Rattle.doc_model.specs.Least.{least, least_from}
-use Rattle.doc_model.specs.Strokes as strokes
-use Rattle.doc_model.specs.Strokes.{Jobs, conflict, conflicting, first_conflicting, second_of, pair_at, pair_of, up_to}
+use Rattle.doc_model.specs.Kept as strokes_kept
+use Rattle.doc_model.specs.Strokes.{Jobs, conflict, conflicting, first_conflicting, second_of, pair_at, pair_of, least, least_from}
+use Rattle.doc_model.specs.Kept.{up_to}
 use Rattle.doc_model.proofs.Conflicts.{conflicting-take, IsLeastFrom, least_from_is}
 
 pub take_front : (jobs rest : Jobs) → take (length jobs) (jobs ++ rest) ≡ jobs
@@ -74,7 +74,7 @@ abbrev BeginsWith : Jobs → Kind × Job → Option ℕ → Option ℕ → Type 
 BeginsWith jobs x o p = (rest : Jobs) × (up_to (jobs ++ x ∷ []) (pair_at (jobs ++ x ∷ []) p) ≡ up_to jobs (pair_at jobs o) ++ rest)
 
 -- what is kept with one more job begins with what was kept
-pub kept_more : (jobs : Jobs) (x : Kind × Job) → (rest : Jobs) × (strokes.kept (jobs ++ x ∷ []) ≡ strokes.kept jobs ++ rest)
+pub kept_more : (jobs : Jobs) (x : Kind × Job) → (rest : Jobs) × (strokes_kept.kept (jobs ++ x ∷ []) ≡ strokes_kept.kept jobs ++ rest)
 unfolding conflict
 kept_more jobs x = go (second_of jobs) (least_from_is 0 (length jobs) (λ j. is_some (first_conflicting jobs j))) (second_of (jobs ++ x ∷ [])) (second_more jobs x)
   where

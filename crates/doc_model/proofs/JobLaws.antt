@@ -4,16 +4,16 @@ use Rattle.std.specs.Prelude.{◌-ℤ◌, ◌+ℤ◌, ℤ, pos, int_le, int_lt}
 use Rattle.std.specs.List.{list_any}
 use borrow.Author.Differences.{ints}
 use Rattle.pixel_core.specs.Rgba.{Rgba}
-use Rattle.pixel_core.specs.Bytes.{mul}
-use Rattle.pixel_core.specs.Compose.{compose}
+use Rattle.pixel_core.specs.Compose.{compose, mul}
 use Rattle.brush_mask.specs.Mask.{mask}
-use Rattle.geom_core.specs.Points.{Point, point, same_point}
-use Rattle.geom_core.specs.Areas.{Area, holds, any_holds, moved, points_of}
+use Rattle.geom_core.specs.Areas.{Area, holds, moved, points_of, Point, point, same_point}
+use Rattle.geom_core.specs.Overlaps.{any_holds}
 use Rattle.geom_core.proofs.Members.{any-points_of}
 use Rattle.geom_core.proofs.Tests.{and_left, and_right, both_true, or_left, or_right}
 use Rattle.doc_model.specs.declared.job.Job.{Job}
 use Rattle.doc_model.specs.declared.job.Job.TheVariants.{Fill, Dab, Move, Blur}
-use Rattle.doc_model.specs.Layers.{Layer, at, at-painted, default-painted}
+use Rattle.doc_model.specs.Layers.{Layer, at}
+use Rattle.doc_model.proofs.LayerLaws.{at-painted, default-painted}
 use Rattle.doc_model.specs.Jobs.{reads, writes, value, apply, grown, square, mean}
 use Rattle.doc_model.specs.Laws.{SameOn, LawsOfJobs}
 

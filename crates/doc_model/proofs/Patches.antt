@@ -5,7 +5,8 @@ use Rattle.std.specs.List.{list_any, list_all, filter, filter_map}
 use Rattle.std.proofs.lemmas.Bool.Decides.{nat_tests}
 use Rattle.geom_core.proofs.Tests.{and_left, and_right, both_true, none_left, none_right, not_true}
 use Rattle.geom_core.proofs.Lying.{lies_trans, bound_lies, common_lies_left, common_lies_right, same_key-same, cell_of_common, same_cell_key}
-use Rattle.geom_core.specs.Areas.{Area, bound, common, clipped, meets, lies_in}
+use Rattle.geom_core.specs.Areas.{Area, meets, lies_in}
+use Rattle.geom_core.specs.Overlaps.{bound, common, clipped}
 use Rattle.geom_core.specs.Grid.{Key, cell, cell_of, cells, parts, same_key, keys_in_rows, count_from}
 use Rattle.doc_model.specs.declared.canvas.Walk.{Walk}
 use Rattle.doc_model.specs.declared.canvas.Walk.TheVariants.{All}

@@ -4,7 +4,8 @@ use Rattle.std.specs.List.{list_any}
 use Rattle.std.proofs.lemmas.Bool.Decides.{nat_tests}
 use Rattle.std.proofs.lemmas.List.Folds.{list_any-append}
 use Rattle.doc_model.specs.declared.tree.Look.{Look}
-use Rattle.doc_model.specs.Forest.{Forest, none, paint, group, has, is_group, join, children, parent, path, order, content, with_content, or_else}
+use Rattle.doc_model.specs.Forest.{Forest, none, paint, group, has, is_group, join, children, content, with_content, or_else}
+use Rattle.doc_model.specs.Readers.{parent, path, order}
 use Rattle.doc_model.proofs.Parents.{Distinct, side, side_has, child_has}
 
 -- whether an id stands in a list

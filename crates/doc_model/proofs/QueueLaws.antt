@@ -6,8 +6,8 @@ use borrow.Author.Differences.{ints}
 use Rattle.std.specs.List.{list_any, filter_map}
 use Rattle.std.proofs.lemmas.Bool.Decides.{nat_tests}
 use Rattle.std.proofs.lemmas.List.Folds.{list_any-append}
-use Rattle.geom_core.specs.Points.{Point}
-use Rattle.geom_core.specs.Areas.{Area, area, holds, bound, clipped, common, meets}
+use Rattle.geom_core.specs.Areas.{Area, area, holds, meets, Point}
+use Rattle.geom_core.specs.Overlaps.{bound, clipped, common}
 use Rattle.geom_core.specs.Grid.{cells, parts}
 use Rattle.geom_core.proofs.Cells.{any_cells}
 use Rattle.doc_model.specs.declared.canvas.Walk.{Walk}

@@ -2,8 +2,8 @@
 use Rattle.std.proofs.Common.{◌≡◌, ℕ, ◌≤◌, Bool, true, false, ◌&&◌, cond, List, [], ◌∷◌, Some, None, refl, arith, inl, inr}
 use Rattle.std.specs.Prelude.{ℤ, pos, ◌+ℤ◌, int_le, int_lt}
 use borrow.Author.Differences.{ints}
-use Rattle.geom_core.specs.Points.{Point}
-use Rattle.geom_core.specs.Areas.{Area, holds, common, meets}
+use Rattle.geom_core.specs.Areas.{Area, holds, meets, Point}
+use Rattle.geom_core.specs.Overlaps.{common}
 use Rattle.geom_core.specs.Grid.{parts}
 use Rattle.geom_core.proofs.Tests.{and_left, and_right, both_true, or_cases}
 use Rattle.doc_model.specs.declared.canvas.Canvas.{Canvas}

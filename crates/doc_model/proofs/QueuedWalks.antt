@@ -2,7 +2,8 @@
 use Rattle.std.proofs.Common.{◌≡◌, ◌+◌, Bool, true, false, ◌&&◌, cond, List, [], ◌∷◌, ◌++◌, map, length, Some, None, subst, sym}
 use Rattle.std.specs.Prelude.{nat_le}
 use Rattle.std.specs.List.{AllByRecursion}
-use Rattle.geom_core.specs.Areas.{Area, bound, common, meets}
+use Rattle.geom_core.specs.Areas.{Area, meets}
+use Rattle.geom_core.specs.Overlaps.{bound, common}
 use Rattle.geom_core.specs.Grid.{parts}
 use Rattle.doc_model.specs.declared.canvas.Walk.{Walk}
 use Rattle.doc_model.specs.declared.canvas.Walk.TheVariants.{All}

@@ -1,8 +1,7 @@
 -- Worked rows, by computing.
 use Rattle.std.proofs.Common.{◌≡◌, refl, negsuc, ℕ, List, [], ◌∷◌, Some, None, pos, true, false, length, suc, zero, ◌+◌, ◌*◌, ◌/◌, ◌%◌}
 use Rattle.pixel_core.specs.Rgba.{rgba, clear}
-use Rattle.pixel_core.specs.Bytes.{mul}
-use Rattle.pixel_core.specs.Compose.{compose}
+use Rattle.pixel_core.specs.Compose.{compose, mul}
 use Rattle.pixel_core.specs.declared.blending.Op.TheVariants.{Over}
 use Rattle.geom_core.specs.Areas.{area}
 use Rattle.geom_core.specs.Grid.{cells}
@@ -16,10 +15,10 @@ use Rattle.doc_model.specs.declared.tree.TreeFault.TheVariants.{Taken, NoNode, N
 use Rattle.doc_model.specs.declared.canvas.Walk.TheVariants.{Up, All}
 use Rattle.doc_model.specs.declared.canvas.Patch.{Patch}
 use Rattle.doc_model.specs.Updates.{queued}
-use Rattle.doc_model.specs.Layers.{at-plain, default-plain}
+use Rattle.doc_model.proofs.LayerLaws.{at-plain, default-plain}
 use Rattle.doc_model.proofs.JobLaws.{at-apply, default-apply}
 use Rattle.doc_model.specs.Strokes.{conflict, entries}
-use Rattle.doc_model.specs.Lawful.{checks}
+use Rattle.doc_model.specs.Jobs.{checks}
 use Rattle.doc_model.specs.Meaning.{meaning, Story}
 
 red_fill : conflict ((Con, Fill (area (pos 0) (pos 0) 2 1) (rgba 255 0 0 255) Over 255)

@@ -3,7 +3,8 @@ use Rattle.std.proofs.Common.{◌≡◌, ℕ, Bool, true, false, ◌||◌, cond,
 use Rattle.std.proofs.lemmas.Bool.Decides.{nat_tests}
 use Rattle.geom_core.proofs.Tests.{none_left, none_right, or_left, or_right, true_or_false, kept}
 use Rattle.doc_model.specs.declared.tree.Look.{Look}
-use Rattle.doc_model.specs.Forest.{Forest, none, paint, group, has, content, with_content, adjusted, or_else}
+use Rattle.doc_model.specs.Forest.{Forest, none, paint, group, has, content, with_content, or_else}
+use Rattle.doc_model.specs.Adjusting.{adjusted}
 use Rattle.doc_model.proofs.Parents.{Distinct}
 use Rattle.doc_model.proofs.Contents.{adjusted-with_content}
 

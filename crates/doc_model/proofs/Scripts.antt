@@ -1,8 +1,7 @@
 -- Whole scripts and what they mean, by computing.
 use Rattle.std.proofs.Common.{◌≡◌, refl, List, [], ◌∷◌, pos, true, false, ℕ}
 use Rattle.pixel_core.specs.Rgba.{Rgba, rgba, clear}
-use Rattle.pixel_core.specs.Bytes.{mul}
-use Rattle.pixel_core.specs.Compose.{compose}
+use Rattle.pixel_core.specs.Compose.{compose, mul}
 use Rattle.pixel_core.specs.declared.blending.Op.TheVariants.{Over, Erase}
 use Rattle.geom_core.specs.Areas.{area}
 use Rattle.doc_model.specs.declared.job.Job.{Job}
@@ -13,11 +12,10 @@ use Rattle.doc_model.specs.declared.command.Command.TheVariants.{Change, Stroke,
 use Rattle.doc_model.specs.declared.command.Outcome.TheVariants as outcome
 use Rattle.doc_model.specs.declared.command.Outcome.TheVariants.{Done}
 use Rattle.doc_model.specs.declared.tree.Change.TheVariants as change
-use Rattle.doc_model.specs.Layers.{at-plain, default-plain}
+use Rattle.doc_model.proofs.LayerLaws.{at-plain, default-plain}
 use Rattle.doc_model.proofs.JobLaws.{at-apply, default-apply}
 use Rattle.doc_model.specs.Strokes.{conflict, entries}
-use Rattle.doc_model.specs.Meaning.{meaning, Story}
-use Rattle.doc_model.specs.Outcomes.{some_refused}
+use Rattle.doc_model.specs.Meaning.{meaning, Story, some_refused}
 
 abbrev red : Rgba
 red = rgba 255 0 0 255

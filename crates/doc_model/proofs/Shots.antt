@@ -1,12 +1,14 @@
 -- What a shot shows, and what a published tile leaves. Of jobs only their laws are used.
 use Rattle.std.proofs.Common.{◌≡◌, Bool, true, false, ◌&&◌, cond, List, refl, ◌∙◌}
-use Rattle.geom_core.specs.Points.{Point}
-use Rattle.geom_core.specs.Areas.{Area, any_holds}
+use Rattle.geom_core.specs.Areas.{Area, Point}
+use Rattle.geom_core.specs.Overlaps.{any_holds}
 use Rattle.geom_core.specs.Grid.{Key}
 use Rattle.geom_core.proofs.Tests.{taken}
 use Rattle.doc_model.specs.declared.job.Job.{Job}
-use Rattle.doc_model.specs.Layers.{Layer, at, plain, at-plain, default-plain, at-painted, default-painted}
-use Rattle.doc_model.specs.Jobs.{writes, apply, shot_of, published, in_tile}
+use Rattle.doc_model.specs.Layers.{Layer, at, plain}
+use Rattle.doc_model.proofs.LayerLaws.{at-plain, default-plain, at-painted, default-painted}
+use Rattle.doc_model.specs.Jobs.{writes, apply}
+use Rattle.doc_model.specs.Shots.{shot_of, published, in_tile}
 use Rattle.doc_model.specs.Laws.{SameOn}
 
 and-true : (b : Bool) → (b && true) ≡ b

@@ -1,5 +1,5 @@
 -- Trees of paint nodes and groups.
-use Rattle.std.specs.Prelude.{ℕ, suc, zero, ◌+◌, ◌==◌, Bool, false, ◌||◌, if◌then◌else◌, Option, Some, None, List, [], ◌∷◌, ◌++◌, max}
+use Rattle.std.specs.Prelude.{ℕ, suc, zero, ◌+◌, ◌==◌, Bool, false, ◌||◌, if◌then◌else◌, Option, Some, None, max}
 use Rattle.doc_model.specs.declared.tree.Look.{Look}
 
 -- Nodes side by side, from the bottom. A paint node has an id, a look and a content, a group an id, a look and the nodes in it
@@ -115,33 +115,3 @@ module _ {A : Type 0} where
   with_content q new none = none
   with_content q new (paint id look x rest) = paint id look (if q == id then new else x) (with_content q new rest)
   with_content q new (group id look nodes rest) = group id look (with_content q new nodes) (with_content q new rest)
-
-  -- the content of the paint node q, changed by a function
-  abbrev pub adjusted : ℕ → (A → A) → Forest A → Forest A
-  adjusted q change none = none
-  adjusted q change (paint id look x rest) = paint id look (if q == id then change x else x) (adjusted q change rest)
-  adjusted q change (group id look nodes rest) = group id look (adjusted q change nodes) (adjusted q change rest)
-
-  -- the group in which the node q stands, or None where q isn't there. above is the group round all
-  abbrev pub parent : ℕ → ℕ → Forest A → Option ℕ
-  parent q above none = None
-  parent q above (paint id look x rest) = if q == id then Some above else parent q above rest
-  parent q above (group id look nodes rest) = if q == id then Some above else (if has q nodes then parent q id nodes else parent q above rest)
-
-  -- q and the groups above it, up to but without the one round all; [] where q isn't there
-  abbrev pub path : ℕ → Forest A → List ℕ
-  path q none = []
-  path q (paint id look x rest) = if q == id then id ∷ [] else path q rest
-  path q (group id look nodes rest) = if q == id then id ∷ [] else (if has q nodes then path q nodes ++ id ∷ [] else path q rest)
-
-  -- the groups, each after those in it
-  abbrev pub order : Forest A → List ℕ
-  order none = []
-  order (paint id look x rest) = order rest
-  order (group id look nodes rest) = order nodes ++ (id ∷ order rest)
-
--- each content by its id
-abbrev pub each : {A B : Type 0} → (ℕ → A → B) → Forest A → Forest B
-each f none = none
-each f (paint id look x rest) = paint id look (f id x) (each f rest)
-each f (group id look nodes rest) = group id look (each f nodes) (each f rest)

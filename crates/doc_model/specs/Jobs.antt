@@ -1,15 +1,13 @@
 -- What a job does to a layer.
 use Rattle.std.specs.Prelude.{ℕ, ◌+◌, ◌*◌, ◌==◌, ℤ, pos, ◌-ℤ◌, Bool, true, if◌then◌else◌, List, [], ◌∷◌, map, sum}
 use Rattle.pixel_core.specs.Rgba.{Rgba, clear}
-use Rattle.pixel_core.specs.Bytes.{mul, nearest}
-use Rattle.pixel_core.specs.Compose.{compose}
+use Rattle.pixel_core.specs.Compose.{compose, mul, nearest}
 use Rattle.brush_mask.specs.Mask.{mask}
-use Rattle.geom_core.specs.Points.{Point, point}
-use Rattle.geom_core.specs.Areas.{Area, area, holds, moved, points_of}
-use Rattle.geom_core.specs.Grid.{Key, key_of, same_key}
+use Rattle.geom_core.specs.Areas.{Area, Point, area, lies_in, point, holds, world, moved, points_of}
 use Rattle.doc_model.specs.declared.job.Job.{Job}
 use Rattle.doc_model.specs.declared.job.Job.TheVariants.{Fill, Dab, Move, Blur}
-use Rattle.doc_model.specs.Layers.{Layer, at, painted, plain}
+use Rattle.doc_model.specs.Layers.{Layer, at, painted}
+use Rattle.std.specs.List.{list_all}
 
 -- the square of side 2r + 1 round (x, y)
 abbrev pub square : ℤ → ℤ → ℕ → Area
@@ -32,6 +30,10 @@ reads (Fill rect colour op strength) = rect ∷ []
 reads (Dab x y r soft colour op strength) = square x y r ∷ []
 reads (Move rect dx dy) = rect ∷ moved rect dx dy ∷ []
 reads (Blur rect r) = grown rect r ∷ []
+
+-- each rectangle that it reads lies in the world
+abbrev pub checks : Job → Bool
+checks job = list_all (λ a. lies_in a world) (reads job)
 
 -- the sum of a channel over some pixels, each by its alpha
 abbrev pub weighed : (Rgba → ℕ) → List Rgba → ℕ
@@ -69,15 +71,3 @@ apply job layer = painted (writes job) (λ _. true) (value job layer) layer
 abbrev pub apply_all : List Job → Layer → Layer
 apply_all [] layer = layer
 apply_all (job ∷ jobs) layer = apply_all jobs (apply job layer)
-
--- the layer's pixels on these rectangles, and its default pixel elsewhere
-unfoldable pub shot_of : List Area → Layer → Layer
-shot_of rects layer = painted rects (λ _. true) (at layer) (plain layer.default_pixel)
-
--- whether the point lies in the tile
-abbrev pub in_tile : Key → Point → Bool
-in_tile key p = same_key (key_of p) key
-
--- the layer with a job's value on its shot, at the points of the job's writes in one tile
-unfoldable pub published : Job → Layer → Key → Layer → Layer
-published job shot key layer = painted (writes job) (in_tile key) (at (apply job shot)) layer

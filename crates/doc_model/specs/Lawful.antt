@@ -1,13 +1,13 @@
 -- Which commands may follow which.
-use Rattle.std.specs.Prelude.{ℕ, ◌==◌, nat_lt, nat_le, Bool, true, false, ◌&&◌, not, List, [], ◌∷◌, length}
-use Rattle.std.specs.List.{list_any, list_all, filter}
-use Rattle.geom_core.specs.Areas.{Area, lies_in, world}
+use Rattle.std.specs.Prelude.{filter, nat_lt, nat_le, Bool, true, ◌&&◌, not, List, [], ◌∷◌, length}
+use Rattle.std.specs.List.{list_any}
+use Rattle.geom_core.specs.Areas.{Area}
 use Rattle.doc_model.specs.declared.job.Job.{Job}
 use Rattle.doc_model.specs.declared.job.Job.TheVariants.{Fill, Dab, Move, Blur}
 use Rattle.doc_model.specs.declared.command.Command.{Command}
 use Rattle.doc_model.specs.declared.command.Command.TheVariants as command
-use Rattle.doc_model.specs.Jobs.{reads}
-use Rattle.doc_model.specs.Strokes.{Fate, Open, Ended, Cancelled, Entry, Strokes, Exports, fed}
+use Rattle.doc_model.specs.Jobs.{checks}
+use Rattle.doc_model.specs.Strokes.{Entry, Strokes, fed, has_room, is_export, is_open, is_open_stroke, is_stroke}
 
 -- whether a rectangle has 1 to 4096 columns and rows
 abbrev pub of_limits : Area → Bool
@@ -20,40 +20,10 @@ within_limits (Dab x y r soft colour op strength) = nat_le r 128
 within_limits (Move rect dx dy) = of_limits rect
 within_limits (Blur rect r) = of_limits rect && (nat_le 1 r && nat_le r 16)
 
--- each rectangle that it reads lies in the world
-abbrev pub checks : Job → Bool
-checks job = list_all (λ a. lies_in a world) (reads job)
-
--- whether the entry is the stroke with that number
-abbrev pub is_stroke : ℕ → Entry → Bool
-is_stroke n (Strokes s) = s.no == n
-is_stroke n e = false
-
--- whether the stroke is still open
-abbrev pub is_open : Fate → Bool
-is_open Open = true
-is_open Ended = false
-is_open Cancelled = false
-
--- whether the entry is the stroke with that number, still open
-abbrev pub is_open_stroke : ℕ → Entry → Bool
-is_open_stroke n (Strokes s) = (s.no == n) && is_open s.fate
-is_open_stroke n e = false
-
 -- whether the entry isn't an open stroke
 abbrev pub is_closed_entry : Entry → Bool
 is_closed_entry (Strokes s) = not (is_open s.fate)
 is_closed_entry e = true
-
--- whether the entry is the stroke with that number, with fewer than 4096 jobs
-abbrev pub has_room : ℕ → Entry → Bool
-has_room n (Strokes s) = (s.no == n) && nat_lt (length s.jobs) 4096
-has_room n e = false
-
--- whether the entry is an export
-abbrev pub is_export : Entry → Bool
-is_export Exports = true
-is_export e = false
 
 -- whether the command may follow those that made these entries
 abbrev pub may_follow : List Entry → Command → Bool

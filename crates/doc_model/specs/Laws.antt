@@ -1,15 +1,16 @@
 -- Laws of jobs, and of undo and redo.
-use Rattle.std.specs.Prelude.{◌≡◌, ◌≢◌, ◌≤◌, Bool, true, false, Ok, List, [], ◌∷◌, ◌++◌}
+use Rattle.std.specs.Prelude.{◌≡◌, ◌≢◌, ◌≤◌, Bool, true, false, Ok, List, [], ◌∷◌, ◌++◌, length}
 use Rattle.std.specs.List.{AllByRecursion}
-use Rattle.geom_core.specs.Points.{Point}
-use Rattle.geom_core.specs.Areas.{Area, any_holds}
+use Rattle.geom_core.specs.Areas.{Area, Point}
+use Rattle.geom_core.specs.Overlaps.{any_holds}
 use Rattle.geom_core.specs.Grid.{Key}
 use Rattle.doc_model.specs.declared.canvas.Canvas.{Canvas}
 use Rattle.doc_model.specs.declared.job.Job.{Job}
 use Rattle.doc_model.specs.declared.job.Kind.{Kind}
 use Rattle.doc_model.specs.declared.tree.Change.{Change}
 use Rattle.doc_model.specs.Layers.{Layer, at, plain}
-use Rattle.doc_model.specs.Jobs.{reads, writes, apply, published}
+use Rattle.doc_model.specs.Jobs.{reads, writes, apply}
+use Rattle.doc_model.specs.Shots.{published}
 use Rattle.doc_model.specs.Forest.{Forest, count, height}
 use Rattle.doc_model.specs.Ids.{IsTree}
 use Rattle.doc_model.specs.Picture.{Doc}
@@ -72,9 +73,13 @@ abbrev pub UndoGivesBack : Type 0
 UndoGivesBack = (canvas : Canvas) (s : Story) (e : Entry) → is_change e ≡ true → (told canvas s e).outcomes ≡ s.outcomes ++ Done ∷ []
     → ((told canvas (told canvas s e) Undoes).document ≡ s.document) × ((told canvas (told canvas s e) Undoes).past ≡ s.past)
 
--- a cancelled or refused stroke or change leaves nothing but its outcome
+-- an entry that is cancelled or refused, whatever it is, leaves nothing but its outcome
 abbrev pub RefusedLeavesNothing : Type 0
-RefusedLeavesNothing = (canvas : Canvas) (s : Story) (e : Entry) (o : Outcome) → is_change e ≡ true → (told canvas s e).outcomes ≡ s.outcomes ++ o ∷ [] → o ≢ Done → told canvas s e ≡ record s { outcomes = s.outcomes ++ o ∷ [] }
+RefusedLeavesNothing = (canvas : Canvas) (s : Story) (e : Entry) (o : Outcome) → (told canvas s e).outcomes ≡ s.outcomes ++ o ∷ [] → o ≢ Done → told canvas s e ≡ record s { outcomes = s.outcomes ++ o ∷ [] }
+
+-- a meaning has one outcome an entry
+abbrev pub OneOutcomeAnEntry : Type 0
+OneOutcomeAnEntry = (canvas : Canvas) (es : List Entry) → length (meaning canvas es).outcomes ≡ length es
 
 -- whether jobs disturb each other, or clash in a run, doesn't depend on their order
 pub record ConflictsBothWays : Type 0 where

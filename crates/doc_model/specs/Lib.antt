@@ -5,7 +5,6 @@ pub mod Ids
 pub mod Flat
 pub mod Picture
 pub mod Changes
-pub mod Least
 pub mod Strokes
 pub mod Lawful
 pub mod Meaning
@@ -14,5 +13,7 @@ pub mod Updates
 pub mod UpdateLaws
 pub mod Codes
 pub mod Canvases
-pub mod Outcomes
 pub mod Readers
+pub mod Adjusting
+pub mod Shots
+pub mod Kept

@@ -1,5 +1,5 @@
--- What entries do, one after another.
-use Rattle.std.specs.Prelude.{ℕ, if◌then◌else◌, Option, Some, None, Result, Ok, Err, List, [], ◌∷◌, ◌++◌, map, take}
+-- What entries do, one after another, and which outcomes are refusals.
+use Rattle.std.specs.Prelude.{Bool, ℕ, if◌then◌else◌, true, Option, false, Some, None, Result, Ok, Err, List, [], ◌∷◌, ◌++◌, map, take}
 use Rattle.doc_model.specs.declared.job.Job.{Job}
 use Rattle.doc_model.specs.declared.job.Kind.{Kind}
 use Rattle.doc_model.specs.declared.canvas.Canvas.{Canvas}
@@ -12,6 +12,7 @@ use Rattle.doc_model.specs.Forest.{none, content, with_content}
 use Rattle.doc_model.specs.Picture.{Doc, Frame, frame}
 use Rattle.doc_model.specs.Changes.{changed, there}
 use Rattle.doc_model.specs.Strokes.{Stroke, Fate, Cancelled, Entry, Strokes, Changes, Undoes, Redoes, Purges, Exports, conflict}
+use Rattle.std.specs.List.{list_any}
 
 -- past and future from the newest on
 pub record Story : Type 0 where
@@ -85,3 +86,13 @@ told_all canvas s (e ∷ es) = told_all canvas (told canvas s e) es
 -- what the entries make of an empty document
 abbrev pub meaning : Canvas → List Entry → Story
 meaning canvas es = told_all canvas start es
+
+-- whether an entry was refused: all but a done one and a cancelled one
+abbrev pub refused : Outcome → Bool
+refused outcome.Done = false
+refused outcome.Cancelled = false
+refused o = true
+
+-- whether some entry was refused
+abbrev pub some_refused : List Outcome → Bool
+some_refused outcomes = list_any refused outcomes

@@ -1,5 +1,5 @@
--- Commands, the entries that they make, and conflicts of jobs.
-use Rattle.std.specs.Prelude.{ℕ, suc, ◌-◌, ◌==◌, Bool, true, false, ◌||◌, ◌&&◌, not, if◌then◌else◌, Option, Some, None, is_some, List, [], ◌∷◌, ◌++◌, map, length, take, slice_get}
+-- Commands, the entries that they make, which of these are open, and conflicts of jobs.
+use Rattle.std.specs.Prelude.{ℕ, suc, nat_lt, ◌-◌, zero, ◌==◌, Bool, ◌+◌, true, false, ◌||◌, ◌&&◌, not, if◌then◌else◌, Option, Some, None, is_some, List, [], ◌∷◌, ◌++◌, map, length, slice_get}
 use Rattle.std.specs.List.{list_any}
 use Rattle.geom_core.specs.Areas.{Area, meets}
 use Rattle.doc_model.specs.declared.job.Job.{Job}
@@ -9,7 +9,6 @@ use Rattle.doc_model.specs.declared.tree.Change.{Change}
 use Rattle.doc_model.specs.declared.command.Command.{Command}
 use Rattle.doc_model.specs.declared.command.Command.TheVariants as command
 use Rattle.doc_model.specs.Jobs.{reads, writes}
-use Rattle.doc_model.specs.Least.{least, all_from}
 
 -- the jobs of a stroke with their kinds
 abbrev pub Jobs : Type 0
@@ -68,6 +67,46 @@ all_fed es (c ∷ cs) = all_fed (fed es c) cs
 -- the entries that the commands make
 abbrev pub entries : List Command → List Entry
 entries commands = all_fed [] commands
+
+-- whether the entry is the stroke with that number
+abbrev pub is_stroke : ℕ → Entry → Bool
+is_stroke n (Strokes s) = s.no == n
+is_stroke n e = false
+
+-- whether the stroke is still open
+abbrev pub is_open : Fate → Bool
+is_open Open = true
+is_open Ended = false
+is_open Cancelled = false
+
+-- whether the entry is the stroke with that number, still open
+abbrev pub is_open_stroke : ℕ → Entry → Bool
+is_open_stroke n (Strokes s) = (s.no == n) && is_open s.fate
+is_open_stroke n e = false
+
+-- whether the entry is the stroke with that number, with fewer than 4096 jobs
+abbrev pub has_room : ℕ → Entry → Bool
+has_room n (Strokes s) = (s.no == n) && nat_lt (length s.jobs) 4096
+has_room n e = false
+
+-- whether the entry is an export
+abbrev pub is_export : Entry → Bool
+is_export Exports = true
+is_export e = false
+
+-- the least of the n numbers from k on that passes
+abbrev pub least_from : ℕ → ℕ → (ℕ → Bool) → Option ℕ
+least_from k zero test = None
+least_from k (suc n) test = if test k then Some k else least_from (k + 1) n test
+
+-- the least number below n that passes
+abbrev pub least : ℕ → (ℕ → Bool) → Option ℕ
+least n test = least_from 0 n test
+
+-- whether each of the n numbers from k on passes
+abbrev pub all_from : ℕ → ℕ → (ℕ → Bool) → Bool
+all_from k zero test = true
+all_from k (suc n) test = test k && all_from (k + 1) n test
 
 -- whether a job may stand in a run
 abbrev pub runs : Kind → Bool
@@ -139,12 +178,3 @@ pair_at jobs (Some j) = pair_of (first_conflicting jobs j) j
 -- the conflicting pair with the least second number, and among these the least first; jobs are numbered from 1
 unfoldable pub conflict : Jobs → Option (ℕ × ℕ)
 conflict jobs = pair_at jobs (second_of jobs)
-
--- the jobs before the second one of a pair, or all
-abbrev pub up_to : Jobs → Option (ℕ × ℕ) → Jobs
-up_to jobs None = jobs
-up_to jobs (Some pair) = take (pair.1 - 1) jobs
-
--- the jobs before the second of the pair
-abbrev pub kept : Jobs → Jobs
-kept jobs = up_to jobs (conflict jobs)

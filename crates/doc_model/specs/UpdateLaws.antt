@@ -1,7 +1,6 @@
 -- Laws of the list of patches that wait for a walk.
 use Rattle.std.specs.Prelude.{◌≡◌, Bool, true, List, []}
-use Rattle.geom_core.specs.Points.{Point}
-use Rattle.geom_core.specs.Areas.{Area, holds}
+use Rattle.geom_core.specs.Areas.{Area, holds, Point}
 use Rattle.doc_model.specs.declared.canvas.Canvas.{Canvas}
 use Rattle.doc_model.specs.declared.canvas.Walk.{Walk}
 use Rattle.doc_model.specs.declared.canvas.Walk.TheVariants.{All}

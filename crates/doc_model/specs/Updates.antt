@@ -1,8 +1,8 @@
 -- The list of patches that wait for a walk.
 use Rattle.std.specs.Prelude.{◌≡◌, ◌≤◌, ◌+◌, ◌==◌, nat_le, Bool, true, false, ◌&&◌, not, if◌then◌else◌, Option, Some, None, List, [], ◌∷◌, ◌++◌, map, length}
 use Rattle.std.specs.List.{filter, list_any, list_all}
-use Rattle.geom_core.specs.Points.{Point}
-use Rattle.geom_core.specs.Areas.{Area, bound, clipped, holds, lies_in}
+use Rattle.geom_core.specs.Areas.{Area, holds, lies_in, Point}
+use Rattle.geom_core.specs.Overlaps.{bound, clipped}
 use Rattle.geom_core.specs.Grid.{cell, cell_of, parts, same_key}
 use Rattle.doc_model.specs.declared.canvas.Walk.{Walk}
 use Rattle.doc_model.specs.declared.canvas.Walk.TheVariants.{Up, All}

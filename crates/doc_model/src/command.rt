@@ -1,7 +1,7 @@
 //! What is asked of a document, and how it ends.
 
 ghost use Rattle.std.specs.Prelude.{◌≡◌};
-ghost use Rattle.doc_model.specs.Outcomes.{refused};
+ghost use Rattle.doc_model.specs.Meaning.{refused};
 
 use crate::job::{Job, Kind};
 use crate::tree::{Change, TreeFault};

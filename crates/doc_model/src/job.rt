@@ -1,8 +1,8 @@
 //! Jobs, and how they stand to their neighbours.
 ghost use Rattle.std.specs.Prelude.{◌≡◌, ◌≤◌, ◌≤ℤ◌, ◌-ℤ◌, ◌&&◌, pos, negsuc, int_le, [], ◌∷◌, true, false, IfOk, OnOk, OnErr};
 ghost use Rattle.geom_core.specs.Areas.{lies_in, moved, world};
-ghost use Rattle.doc_model.specs.Jobs.{square, grown, reads, writes};
-ghost use Rattle.doc_model.specs.Lawful.{of_limits, within_limits, checks};
+ghost use Rattle.doc_model.specs.Jobs.{square, grown, reads, writes, checks};
+ghost use Rattle.doc_model.specs.Lawful.{of_limits, within_limits};
 
 use arrayvec::ArrayVec;
 use geom_core::{OutOfWorld, Rect};

@@ -1,7 +1,7 @@
 //! Values worked out by hand.
 
 ghost use Rattle.std.specs.Prelude.{◌≡◌, ◌≤◌, true};
-ghost use Rattle.doc_model.specs.Lawful.{checks};
+ghost use Rattle.doc_model.specs.Jobs.{checks};
 
 use crate::{Canvas, Job, Outcome, TreeFault};
 use geom_core::Rect;

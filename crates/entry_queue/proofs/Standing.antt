@@ -8,8 +8,10 @@ use Rattle.doc_model.specs.declared.command.Command.{Command}
 use Rattle.doc_model.specs.declared.command.Command.TheVariants as command
 use Rattle.doc_model.specs.declared.command.Outcome.{Outcome}
 use Rattle.doc_model.specs.Strokes as doc
-use Rattle.doc_model.specs.Strokes.{Fate, Open, Ended, Cancelled, Stroke, entries, all_fed, fed, conflict}
-use Rattle.doc_model.specs.Lawful.{is_closed_entry, is_stroke, is_open, is_open_stroke, may_follow, lawful_after, lawful, checks, within_limits}
+use Rattle.doc_model.specs.Kept as doc_kept
+use Rattle.doc_model.specs.Strokes.{Fate, Open, Ended, Cancelled, Stroke, entries, all_fed, fed, conflict, is_stroke, is_open, is_open_stroke}
+use Rattle.doc_model.specs.Lawful.{is_closed_entry, may_follow, lawful_after, lawful, within_limits}
+use Rattle.doc_model.specs.Jobs.{checks}
 use Rattle.doc_model.proofs.Feeding.{NumbersDiffer, lawful_differ, entries_last, length_fed, take_fed}
 use Rattle.stroke_core.specs.Fed as stroke
 use Rattle.stroke_core.specs.Fed.{Fed, found}
@@ -99,12 +101,12 @@ grown_kept s job = go (found (kept_of s) job) refl
     stands : stroke.StandsFor s.jobs (kept_of s)
     stands = record { kept_is = refl; conflict_is = refl }
 
-    kept_now : (o : Option (ℕ × ℕ)) → found (kept_of s) job ≡ o → with_last (doc.kept s.jobs) job o ≡ doc.kept (s.jobs ++ job ∷ [])
-    kept_now None e = let t : stroke.StandsFor (s.jobs ++ job ∷ []) (record (kept_of s) { jobs = doc.kept s.jobs ++ job ∷ [] }) = stands_added s.jobs job (kept_of s) stands e in t.kept_is
+    kept_now : (o : Option (ℕ × ℕ)) → found (kept_of s) job ≡ o → with_last (doc_kept.kept s.jobs) job o ≡ doc_kept.kept (s.jobs ++ job ∷ [])
+    kept_now None e = let t : stroke.StandsFor (s.jobs ++ job ∷ []) (record (kept_of s) { jobs = doc_kept.kept s.jobs ++ job ∷ [] }) = stands_added s.jobs job (kept_of s) stands e in t.kept_is
     kept_now (Some pair) e = let t : stroke.StandsFor (s.jobs ++ job ∷ []) (record (kept_of s) { overlap = Some pair }) = stands_refused s.jobs job (kept_of s) pair stands e in t.kept_is
 
     go : (o : Option (ℕ × ℕ)) → found (kept_of s) job ≡ o → grown (kept_of s) job ≡ kept_of (record s { jobs = s.jobs ++ job ∷ [] })
-    go o e i = record { no = s.no; layer = s.layer; exclusive = s.exclusive; jobs = (ap (with_last (doc.kept s.jobs) job) e ∙ kept_now o e) i; overlap = found_stands s.jobs job (kept_of s) stands i }
+    go o e i = record { no = s.no; layer = s.layer; exclusive = s.exclusive; jobs = (ap (with_last (doc_kept.kept s.jobs) job) e ∙ kept_now o e) i; overlap = found_stands s.jobs job (kept_of s) stands i }
 
 job_same : (n : ℕ) (kind : Kind) (job : Job) (e : doc.Entry) → IsOpenAt n e → with_job n (kind, job) (queued e) ≡ queued (doc.with_job n kind job e)
 job_same n kind job (doc.Strokes s) o = elim (true_or_false (eqb s.no n)) [
@@ -156,7 +158,7 @@ left_changed : (n k : ℕ) (here : Entry → Entry) (there : doc.Entry → doc.E
 left_changed n k here there es left same all h = ap (map here) h ∙ changed_same n here there (drop k es) same (all_drop (IsOpenAt n) k es all) ∙ sym (ap (map queued) (drop_map there k es))
 
 begun_kept : (n layer : ℕ) (exclusive : Bool) → begun n layer exclusive ≡ kept_of (record { no = n; layer = layer; exclusive = exclusive; jobs = []; fate = Open })
-begun_kept n layer exclusive = sym (λ i. record { no = n; layer = layer; exclusive = exclusive; jobs = doc.up_to [] (conflict_nil i); overlap = conflict_nil i })
+begun_kept n layer exclusive = sym (λ i. record { no = n; layer = layer; exclusive = exclusive; jobs = doc_kept.up_to [] (conflict_nil i); overlap = conflict_nil i })
 
 left_pushed : (k : ℕ) (es : List doc.Entry) (c : Command) (left : List Entry) → NumbersDiffer es → may_follow es c ≡ true → k ≤ length es → left ≡ map queued (drop k es) → pushed left c ≡ map queued (drop k (fed es c))
 left_pushed k es (command.Change change) left d m l h = left_last k es _ left l h

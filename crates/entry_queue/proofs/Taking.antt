@@ -9,9 +9,12 @@ use Rattle.doc_model.specs.declared.job.Kind.{Kind}
 use Rattle.doc_model.specs.declared.command.Command.{Command}
 use Rattle.doc_model.specs.declared.command.Command.TheVariants as command
 use Rattle.doc_model.specs.Strokes as doc
-use Rattle.doc_model.specs.Strokes.{Fate, Open, Ended, Cancelled, Stroke, Jobs, entries, all_fed, fed, conflict, up_to}
+use Rattle.doc_model.specs.Kept as doc_kept
+use Rattle.doc_model.specs.Kept.{up_to}
 use Rattle.doc_model.specs.Lawful as lawful
-use Rattle.doc_model.specs.Lawful.{is_closed_entry, is_stroke, is_open, is_open_stroke, may_follow, lawful_after, checks, within_limits}
+use Rattle.doc_model.specs.Lawful.{is_closed_entry, may_follow, lawful_after, within_limits}
+use Rattle.doc_model.specs.Strokes.{is_stroke, is_open, is_open_stroke, Fate, Open, Ended, Cancelled, Stroke, Jobs, entries, all_fed, fed, conflict}
+use Rattle.doc_model.specs.Jobs.{checks}
 use Rattle.doc_model.proofs.Feeding.{NumbersDiffer, lawful_differ}
 use Rattle.entry_queue.specs.declared.entry.Entry.{Entry}
 use Rattle.entry_queue.specs.Pushed.{Pending, StandsFor, has_room, is_numbered, is_waiting, kept_of, queued, stroke_of, takes}
@@ -57,14 +60,14 @@ length_taken (suc k) [] = omega arith
 length_taken (suc k) (x ∷ xs) = let h : length (take k xs) ≤ length xs = length_taken k xs in omega arith
 
 -- no more jobs are kept than there are
-few_kept : (jobs : Jobs) → length (doc.kept jobs) ≤ length jobs
+few_kept : (jobs : Jobs) → length (doc_kept.kept jobs) ≤ length jobs
 few_kept jobs = go (conflict jobs)
   where
     go : (o : Option (ℕ × ℕ)) → length (up_to jobs o) ≤ length jobs
     go None = omega arith
     go (Some pair) = length_taken _ jobs
 
-room_same : (n : ℕ) (e : doc.Entry) → (is_open_stroke n e && lawful.has_room n e) ≡ true → has_room n (queued e) ≡ true
+room_same : (n : ℕ) (e : doc.Entry) → (is_open_stroke n e && doc.has_room n e) ≡ true → has_room n (queued e) ≡ true
 room_same n (doc.Strokes s) h = go s.fate (and_right (eqb s.no n) _ (and_left _ _ h))
   where
     less : (a b : ℕ) → a ≤ b → nat_lt b 4096 ≡ true → nat_lt a 4096 ≡ true
@@ -73,7 +76,7 @@ room_same n (doc.Strokes s) h = go s.fate (and_right (eqb s.no n) _ (and_left _ 
     go : (f : Fate) → is_open f ≡ true → has_room n (stroke_of f (kept_of s)) ≡ true
     go Open o =
         let both : (eqb s.no n && nat_lt (length s.jobs) 4096) ≡ true = and_right (eqb s.no n && is_open s.fate) _ h in
-        both_true _ _ (and_left (eqb s.no n) _ both) (less (length (doc.kept s.jobs)) (length s.jobs) (few_kept s.jobs) (and_right (eqb s.no n) _ both))
+        both_true _ _ (and_left (eqb s.no n) _ both) (less (length (doc_kept.kept s.jobs)) (length s.jobs) (few_kept s.jobs) (and_right (eqb s.no n) _ both))
     go Ended o = cc
     go Cancelled o = cc
 room_same n (doc.Changes c) h = cc
@@ -119,7 +122,7 @@ open_not_closed n doc.Redoes h k = cc
 open_not_closed n (doc.Purges j) h k = cc
 open_not_closed n doc.Exports h k = cc
 
-room_is_stroke : (n : ℕ) (e : doc.Entry) → lawful.has_room n e ≡ true → is_stroke n e ≡ true
+room_is_stroke : (n : ℕ) (e : doc.Entry) → doc.has_room n e ≡ true → is_stroke n e ≡ true
 room_is_stroke n (doc.Strokes s) h = and_left (eqb s.no n) _ h
 room_is_stroke n (doc.Changes c) h = h
 room_is_stroke n doc.Undoes h = h
@@ -127,22 +130,22 @@ room_is_stroke n doc.Redoes h = h
 room_is_stroke n (doc.Purges k) h = h
 room_is_stroke n doc.Exports h = h
 
-any_room_is_stroke : (n : ℕ) (es : List doc.Entry) → list_any (lawful.has_room n) es ≡ true → list_any (is_stroke n) es ≡ true
+any_room_is_stroke : (n : ℕ) (es : List doc.Entry) → list_any (doc.has_room n) es ≡ true → list_any (is_stroke n) es ≡ true
 any_room_is_stroke n [] h = h
-any_room_is_stroke n (e ∷ es) h = elim (or_cases (lawful.has_room n e) _ h) [
+any_room_is_stroke n (e ∷ es) h = elim (or_cases (doc.has_room n e) _ h) [
   | inl k ↦ or_left _ _ (room_is_stroke n e k)
   | inr k ↦ or_right _ _ (any_room_is_stroke n es k)
 ]
 
 -- the stroke that is open is the one that has room
-open_with_room : (n : ℕ) (es : List doc.Entry) → NumbersDiffer es → list_any (is_open_stroke n) es ≡ true → list_any (lawful.has_room n) es ≡ true → list_any (λ e. is_open_stroke n e && lawful.has_room n e) es ≡ true
+open_with_room : (n : ℕ) (es : List doc.Entry) → NumbersDiffer es → list_any (is_open_stroke n) es ≡ true → list_any (doc.has_room n) es ≡ true → list_any (λ e. is_open_stroke n e && doc.has_room n e) es ≡ true
 open_with_room n [] d o r = o
 open_with_room n (e ∷ es) d o r = elim (or_cases (is_open_stroke n e) _ o) [
-  | inl h ↦ elim (or_cases (lawful.has_room n e) _ r) [
+  | inl h ↦ elim (or_cases (doc.has_room n e) _ r) [
     | inl k ↦ or_left _ _ (both_true _ _ h k)
     | inr k ↦ (let f : list_any (is_stroke n) es ≡ false = d.0 n (open_is_stroke n e h) in let t : list_any (is_stroke n) es ≡ true = any_room_is_stroke n es k in cc)
   ]
-  | inr h ↦ elim (or_cases (lawful.has_room n e) _ r) [
+  | inr h ↦ elim (or_cases (doc.has_room n e) _ r) [
     | inl k ↦ (let f : list_any (is_stroke n) es ≡ false = d.0 n (room_is_stroke n e k) in let t : list_any (is_stroke n) es ≡ true = any_open_is_stroke n es h in cc)
     | inr k ↦ or_right _ _ (open_with_room n es d.1 h k)
   ]
@@ -158,10 +161,10 @@ takes_following k es (command.Stroke n layer exclusive) d m all = elim (true_or_
   | inr h ↦ ap not h
 ]
 takes_following k es (command.Add n kind job) d m all =
-    let stroke : (list_any (is_open_stroke n) es && list_any (lawful.has_room n) es) ≡ true = and_right (checks job && within_limits job) _ m in
+    let stroke : (list_any (is_open_stroke n) es && list_any (doc.has_room n) es) ≡ true = and_right (checks job && within_limits job) _ m in
     both_true _ _ (and_left (checks job) _ (and_left (checks job && within_limits job) _ m))
-    (any_queued (λ e. is_open_stroke n e && lawful.has_room n e) (has_room n) (drop k es) (room_same n)
-    (any_behind (λ e. is_open_stroke n e && lawful.has_room n e) k es (λ e h. open_not_closed n e (and_left (is_open_stroke n e) _ h)) all
+    (any_queued (λ e. is_open_stroke n e && doc.has_room n e) (has_room n) (drop k es) (room_same n)
+    (any_behind (λ e. is_open_stroke n e && doc.has_room n e) k es (λ e h. open_not_closed n e (and_left (is_open_stroke n e) _ h)) all
     (open_with_room n es d (and_left (list_any (is_open_stroke n) es) _ stroke) (and_right (list_any (is_open_stroke n) es) _ stroke))))
 takes_following k es (command.End n) d m all = waits n k es all m
 takes_following k es (command.Cancel n) d m all = waits n k es all m
@@ -242,7 +245,7 @@ fit_taken (suc k) [] h = refl
 fit_taken (suc k) (j ∷ jobs) h = both_true _ _ (and_left (within_limits j.1) _ h) (fit_taken k jobs (and_right (within_limits j.1) _ h))
 
 -- and so are those that are kept
-pub kept_fit : (jobs : Jobs) → all_fit jobs ≡ true → all_fit (doc.kept jobs) ≡ true
+pub kept_fit : (jobs : Jobs) → all_fit jobs ≡ true → all_fit (doc_kept.kept jobs) ≡ true
 kept_fit jobs h = go (conflict jobs)
   where
     go : (o : Option (ℕ × ℕ)) → all_fit (up_to jobs o) ≡ true

@@ -3,8 +3,7 @@ use Rattle.std.proofs.Common.{◌≡◌, ℕ, ◌+◌, ◌*◌, ◌/◌, ◌<◌
 use Rattle.std.specs.Prelude.{ℤ, pos, negsuc, ◌+ℤ◌, int_le, int_lt}
 use Rattle.std.proofs.lemmas.Bool.Decides.{nat_tests}
 use borrow.Author.Differences.{ints}
-use Rattle.geom_core.specs.Points.{Point, point}
-use Rattle.geom_core.specs.Areas.{holds}
+use Rattle.geom_core.specs.Areas.{holds, Point, point}
 use Rattle.geom_core.specs.Grid.{key_of}
 use Rattle.geom_core.proofs.Tests.{taken, both_true, and_left, and_right}
 use Rattle.tile_core.specs.Marks.{on_canvas}

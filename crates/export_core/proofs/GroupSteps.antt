@@ -1,8 +1,7 @@
 -- The children of a group, one after another, as a tree tells them.
 use Rattle.std.proofs.Common.{refl, ◌≡◌, ℕ, suc, ◌≤◌, Bool, true, false, List, Option, Some, None, sym, ap, ◌∙◌, arith}
 use Rattle.pixel_core.specs.Rgba.{Rgba}
-use Rattle.geom_core.specs.Points.{Point}
-use Rattle.geom_core.specs.Areas.{Area, holds}
+use Rattle.geom_core.specs.Areas.{Area, holds, Point}
 use Rattle.geom_core.proofs.Tests.{taken, kept}
 use Rattle.doc_model.specs.declared.tree.Look.{Look}
 use Rattle.doc_model.specs.Forest.{Forest, none, has, width, upper}

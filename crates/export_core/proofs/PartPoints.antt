@@ -4,8 +4,8 @@ use Rattle.std.specs.FinMap as finite
 use Rattle.std.specs.Prelude.{ℤ, pos, negsuc, ◌+ℤ◌, ◌-ℤ◌, ◌*ℤ◌, int_le, int_lt, ◌≤ℤ◌, ◌<ℤ◌, nat_abs}
 use borrow.Author.Differences.{ints}
 use Rattle.pixel_core.specs.Rgba.{Rgba, clear}
-use Rattle.geom_core.specs.Points.{Point}
-use Rattle.geom_core.specs.Areas.{Area, area, holds, IsWithin, IsInWorld}
+use Rattle.geom_core.specs.Areas.{Area, area, holds, Point}
+use Rattle.geom_core.specs.Overlaps.{IsWithin, IsInWorld}
 use Rattle.geom_core.specs.Grid.{Key, key_of, same_key, tile}
 use Rattle.geom_core.proofs.Tests.{and_left, and_right, both_true, taken, kept}
 use Rattle.geom_core.proofs.Tiles.{holder, key_of_holder, key_same, key_is}

@@ -8,8 +8,7 @@ use Rattle.std.proofs.lemmas.List.Folds.{list_any_more}
 use Rattle.std.proofs.lemmas.Option.{get_or_from_slice_get, slice_get_within}
 use Rattle.pixel_core.specs.Rgba.{Rgba, clear}
 use Rattle.pixel_core.specs.Compose.{on_paper}
-use Rattle.geom_core.specs.Points.{Point, point}
-use Rattle.geom_core.specs.Areas.{Area, area, points_of}
+use Rattle.geom_core.specs.Areas.{Area, area, points_of, Point, point}
 use Rattle.geom_core.specs.Place.{across, down}
 use Rattle.geom_core.specs.Grid.{Key, key_cmp_total, key_of, same_key, keys_of}
 use Rattle.geom_core.proofs.Tests.{taken, kept, true_or_false, none_left, none_right, is_some-None}

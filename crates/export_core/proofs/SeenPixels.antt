@@ -3,12 +3,11 @@ use Rattle.std.proofs.Common.{◌≡◌, ℕ, ◌+◌, ◌-◌, ◌*◌, ◌<◌
 use Rattle.std.proofs.lemmas.Bool.Decides.{nat_tests}
 use Rattle.pixel_core.specs.declared.blending.Op.{Op}
 use Rattle.pixel_core.specs.declared.blending.Op.TheVariants.{Over, Erase, Multiply, Screen, Addition}
-use Rattle.pixel_core.specs.Bytes.{mul, nearest}
 use Rattle.pixel_core.specs.Rgba.{Rgba, rgba, clear}
-use Rattle.pixel_core.specs.Compose.{weight, channel, erased, laid as laid_by, composed_at, compose, on_paper}
+use Rattle.pixel_core.specs.Compose.{weight, channel, erased, laid as laid_by, composed_at, compose, on_paper, mul, nearest}
 use Rattle.pixel_core.proofs.Rounding.{exact_at, whole, laws_of_mul}
 use Rattle.pixel_core.proofs.Sums.{test_true, same_rgba, laid_open}
-use Rattle.geom_core.specs.Points.{Point}
+use Rattle.geom_core.specs.Areas.{Point}
 use Rattle.geom_core.proofs.Tests.{and_right}
 use Rattle.doc_model.specs.declared.tree.Look.{Look}
 use Rattle.doc_model.specs.Layers.{at}

@@ -4,7 +4,7 @@ use Rattle.std.specs.Prelude.{pos}
 use Rattle.std.specs.FinSet as set
 use Rattle.std.specs.FinSet.{FinSet}
 use Rattle.pixel_core.specs.Rgba.{Rgba, clear}
-use Rattle.geom_core.specs.Points.{Point, point}
+use Rattle.geom_core.specs.Areas.{Point, point}
 use Rattle.geom_core.specs.Grid.{Key, key_cmp, key_of, tile}
 use Rattle.tile_core.specs.Marks.{on_canvas}
 use Rattle.tile_core.specs.Damage.{Parts, part_at, is_damaged, intact}

@@ -1,13 +1,13 @@
 -- When a frame of tiles shows a document.
 use Rattle.std.specs.Prelude.{◌≡◌, ℕ, ◌<◌, pos, false, None}
 use Rattle.std.specs.FinMap as map
-use Rattle.geom_core.specs.Points.{point}
+use Rattle.geom_core.specs.Areas.{point}
 use Rattle.geom_core.specs.Grid.{key_of}
 use Rattle.doc_model.specs.declared.canvas.Canvas.{Canvas}
 use Rattle.doc_model.specs.Picture.{Doc, picture, frame}
 use Rattle.tile_core.specs.Frames.{Scene, put_at}
 use Rattle.tile_core.specs.Damage.{Parts, part_at, is_damaged}
-use Rattle.ppm_out.specs.Pictures.{colours_of}
+use Rattle.ppm_out.specs.Scenes.{colours_of}
 use Rattle.export_core.specs.Pieces.{Alike}
 
 -- the frame has the canvas's sides, and at each of its points the document's picture on the paper

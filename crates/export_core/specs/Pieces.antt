@@ -4,8 +4,7 @@ use Rattle.std.specs.FinMap as map
 use Rattle.pixel_core.specs.Rgba.{Rgba, clear}
 use Rattle.pixel_core.specs.declared.blending.Op.{Op}
 use Rattle.pixel_core.specs.declared.blending.Op.TheVariants.{Erase}
-use Rattle.geom_core.specs.Points.{Point}
-use Rattle.geom_core.specs.Areas.{Area, holds}
+use Rattle.geom_core.specs.Areas.{Area, holds, Point}
 use Rattle.geom_core.specs.Place.{across, down}
 use Rattle.geom_core.specs.Grid.{Key, key_of, same_key}
 use Rattle.tile_core.specs.Pixels.{Pixels, pixel_or}

@@ -1,8 +1,8 @@
 -- Parts of tiles.
 use Rattle.std.specs.Prelude.{◌≡◌, ◌%◌, ◌-ℤ◌, pos, true, cond, Option}
 use Rattle.pixel_core.specs.Rgba.{Rgba, clear}
-use Rattle.geom_core.specs.Points.{Point, point}
-use Rattle.geom_core.specs.Areas.{Area, area, holds, IsWithin}
+use Rattle.geom_core.specs.Areas.{Area, area, holds, Point, point}
+use Rattle.geom_core.specs.Overlaps.{IsWithin}
 use Rattle.geom_core.specs.Place.{across, down}
 use Rattle.geom_core.specs.Grid.{IsWorldKey, tile}
 use Rattle.tile_core.specs.Pixels.{Pixels, pixel_at, pixel_or}

@@ -2,7 +2,7 @@
 
 ghost use Rattle.std.specs.Prelude.{◌≡◌, IfOk, OnOk, length, [], IsTrue, ◌↔◌};
 ghost use Rattle.pixel_core.specs.Rgba.{clear};
-ghost use Rattle.geom_core.specs.Areas.{IsWithin};
+ghost use Rattle.geom_core.specs.Overlaps.{IsWithin};
 ghost use Rattle.tile_core.specs.Pixels.{whole_tile};
 ghost use Rattle.compose_core.specs.declared.children.Given.TheVariants.{Plain};
 ghost use Rattle.export_core.specs.Pieces.{LaysOn, ShowsPile, ShowsChildren, shows_itself};

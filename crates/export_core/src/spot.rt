@@ -2,7 +2,7 @@
 
 ghost use Rattle.std.specs.Prelude.{◌≡◌, ◌*◌, vec_len, IfOk, IsTrue, ◌↔◌};
 ghost use Rattle.std.specs.Option.{option_copied};
-ghost use Rattle.geom_core.specs.Areas.{IsWithin};
+ghost use Rattle.geom_core.specs.Overlaps.{IsWithin};
 ghost use Rattle.tile_core.specs.Pixels.{whole_tile, HasPixels};
 ghost use Rattle.export_core.specs.Spots.{IsSpot, part_in_tile, IsRepainted, LaysOver};
 ghost use Rattle.export_core.specs.Pieces.{given_on};

@@ -3,8 +3,8 @@ use Rattle.std.proofs.Common.{◌≡◌, ℕ, ◌≤◌, true, ◌&&◌, arith}
 use Rattle.std.specs.Prelude.{ℤ, pos, ◌+ℤ◌, ◌-ℤ◌, int_le, int_lt, nat_abs}
 use Rattle.std.specs.Int.{int_max, int_min}
 use borrow.Author.Differences.{ints}
-use Rattle.geom_core.specs.Points.{point}
-use Rattle.geom_core.specs.Areas.{Area, holds, right, bottom, lies_in, bound}
+use Rattle.geom_core.specs.Areas.{Area, holds, right, bottom, lies_in, point}
+use Rattle.geom_core.specs.Overlaps.{bound}
 use Rattle.geom_core.specs.Laws.{AllIn, BoundIsLeast}
 use Rattle.geom_core.proofs.Tests.{and_left, and_right, both_true}
 use Rattle.geom_core.proofs.Lying.{bound_lies}

@@ -5,7 +5,8 @@ use Rattle.std.specs.List.{filter, filter_map}
 use Rattle.std.proofs.lemmas.List.{append-nil}
 use Rattle.std.proofs.lemmas.List.Elements.{filter-append}
 use borrow.Author.Differences.{ints}
-use Rattle.geom_core.specs.Areas.{meets, common}
+use Rattle.geom_core.specs.Areas.{meets}
+use Rattle.geom_core.specs.Overlaps.{common}
 use Rattle.geom_core.specs.Grid.{Key, cell, cells, floor_by, how_many, pieces, count_from, keys_in_row, keys_in_rows}
 use Rattle.geom_core.specs.Laws.{PartsAreCells}
 use Rattle.geom_core.proofs.Tests.{and_left, and_right}

@@ -14,3 +14,4 @@ pub mod Order
 pub mod Axes
 pub mod Whole
 pub mod Canvas
+pub mod Entries

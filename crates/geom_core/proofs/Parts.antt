@@ -4,7 +4,8 @@ use Rattle.std.specs.Prelude.{ℤ, pos, ◌+ℤ◌, ◌-ℤ◌, ◌*ℤ◌, int_
 use Rattle.std.proofs.lemmas.Option.{slice_get-map}
 use Rattle.std.proofs.lemmas.List.{length-map}
 use borrow.Author.Differences.{ints}
-use Rattle.geom_core.specs.Areas.{Area, meets, common}
+use Rattle.geom_core.specs.Areas.{Area, meets}
+use Rattle.geom_core.specs.Overlaps.{common}
 use Rattle.geom_core.specs.Grid.{key, cell, floor_by, count_from, how_many, pieces, keys_in_rows, cell_keys_of, cells_of}
 use Rattle.geom_core.specs.Place.{seen}
 use Rattle.geom_core.specs.declared.rect.Rect.TheInside.{Inside}

@@ -3,7 +3,8 @@ use Rattle.std.proofs.Common.{◌≡◌, ℕ, ◌+◌, ◌-◌, ◌*◌, ◌≤�
 use Rattle.std.specs.Prelude.{ℤ, pos, ◌+ℤ◌, ◌-ℤ◌, ◌*ℤ◌, int_lt, nat_abs}
 use Rattle.std.specs.Int.{int_max, int_min}
 use borrow.Author.Differences.{ints}
-use Rattle.geom_core.specs.Areas.{length_between, meets, common, area, Area, bound}
+use Rattle.geom_core.specs.Areas.{meets, area, Area}
+use Rattle.geom_core.specs.Overlaps.{length_between, common, bound}
 use Rattle.std.proofs.lemmas.Bool.Decides.{nat_tests}
 use Rattle.geom_core.specs.declared.rect.Rect.TheInside.{Inside}
 use Rattle.geom_core.specs.Place.{seen}

@@ -4,8 +4,8 @@ use Rattle.std.specs.Prelude.{ℤ, pos, ◌+ℤ◌, ◌-ℤ◌, ◌*ℤ◌, int_
 use Rattle.std.specs.Int.{int_max}
 use Rattle.std.specs.List.{list_any}
 use borrow.Author.Differences.{ints}
-use Rattle.geom_core.specs.Points.{Point}
-use Rattle.geom_core.specs.Areas.{Area, holds, any_holds, meets, common, length_between, right, bottom}
+use Rattle.geom_core.specs.Areas.{Area, holds, meets, right, bottom, Point}
+use Rattle.geom_core.specs.Overlaps.{any_holds, common, length_between}
 use Rattle.geom_core.specs.Grid.{cell, cell_keys_of, cells_of, floor_by, how_many, pieces}
 use Rattle.geom_core.specs.Laws.{CellsAreMet}
 use Rattle.geom_core.proofs.Tests.{and_left, and_right, both_true}

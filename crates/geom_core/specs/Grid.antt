@@ -7,10 +7,10 @@ use Rattle.std.specs.Cmp.{IsTotalOrder}
 use Rattle.std.specs.FinMap.{IsAntisymmetric}
 use Rattle.std.specs.FinSet as set
 use Rattle.std.specs.FinSet.{FinSet}
-use Rattle.geom_core.specs.Points.{Point}
 use Rattle.geom_core.specs.declared.key.TileKey.{TileKey}
 use Rattle.std.specs.Prelude.{◌≤ℤ◌, ◌<ℤ◌}
-use Rattle.geom_core.specs.Areas.{Area, area, right, bottom, clipped, common}
+use Rattle.geom_core.specs.Areas.{Area, area, right, bottom, Point}
+use Rattle.geom_core.specs.Overlaps.{clipped, common}
 use Rattle.std.specs.Coded.{Coded, code_by, coded×, coded_ℤ}
 use Rattle.std.proofs.Common.{ap, refl}
 use Rattle.std.proofs.lemmas.Cmp.{on_total, then_total, int_cmp_total}

@@ -2,8 +2,8 @@
 use Rattle.std.specs.Prelude.{◌≡◌, ◌≤◌, true, Bool, List, pos}
 use Rattle.std.specs.List.{list_any, IsDistinct}
 use Rattle.std.specs.List.Sorted.{IsStrictlySortedBy}
-use Rattle.geom_core.specs.Points.{Point}
-use Rattle.geom_core.specs.Areas.{Area, area, holds, any_holds, meets, common, bound, lies_in, IsShared}
+use Rattle.geom_core.specs.Areas.{Area, area, holds, meets, lies_in, Point}
+use Rattle.geom_core.specs.Overlaps.{any_holds, common, bound, IsShared}
 use Rattle.geom_core.specs.Grid.{Key, key_cmp, key_of, same_key, tile, keys_of, cell, cell_keys_of, cells_of, parts}
 
 -- each point of the first is one of the second

@@ -1,30 +1,13 @@
--- Points of the plane, in row order.
-use Rattle.std.specs.Prelude.{ℤ, Bool}
-use Rattle.std.specs.declared.cmp.Ordering.{Ordering}
-use Rattle.std.specs.Ordering.{int_cmp, ordering_then, eq_by_cmp}
+-- The order of points.
+use Rattle.std.specs.Prelude.{ℤ}
+use Rattle.std.specs.Ordering.{int_cmp}
 use Rattle.std.specs.Cmp.{IsTotalOrder}
 use Rattle.std.specs.FinMap.{IsAntisymmetric}
 use Rattle.std.specs.Coded.{Coded, code_by, coded×, coded_ℤ}
 use Rattle.std.proofs.Common.{ap, refl}
 use Rattle.std.proofs.lemmas.Cmp.{on_total, then_total, int_cmp_total}
 use Rattle.std.proofs.lemmas.Map.Lookups.{exact_pairs, exact_signed}
-
--- a point by its column and row
-pub record Point : Type 0 where
-  pub x : ℤ
-  pub y : ℤ
-
--- the point of a column and a row
-abbrev pub point : ℤ → ℤ → Point
-point x y = record { x = x; y = y }
-
--- by row, and then by column
-abbrev pub point_cmp : Point → Point → Ordering
-point_cmp p q = ordering_then (int_cmp p.y q.y) (int_cmp p.x q.x)
-
--- whether two points are one
-abbrev pub same_point : Point → Point → Bool
-same_point = eq_by_cmp point_cmp
+use Rattle.geom_core.specs.Areas.{Point, point, point_cmp}
 
 -- points stand in one order
 pub point_cmp_total : IsTotalOrder point_cmp

@@ -4,7 +4,7 @@ use Rattle.std.specs.List.{flat_map}
 use Rattle.std.specs.Io.KnownBytes.{Appends}
 use Rattle.std.proofs.KnownBytes.{Appends-trans}
 use Rattle.io_edge.specs.declared.outside.Failed.{Failed}
-use Rattle.io_edge.specs.Bytes.{AppendsPrefix}
+use Rattle.io_edge.specs.Told.{AppendsPrefix}
 
 -- a prefix of a part, behind what was added before it
 pub prefix_behind : (a b c : Option (List ℕ)) (before part rest whole : List ℕ) → Appends a b before → AppendsPrefix b c part → whole ≡ before ++ (part ++ rest) → AppendsPrefix a c whole

@@ -3,7 +3,8 @@
 ghost use Rattle.std.specs.Prelude.{◌≡◌, ◌<◌, ◌≤◌, ◌==◌, ◌||◌, [], Some, length, min, is_err, IfOk};
 ghost use Rattle.std.specs.Io.{ReadsAtMost};
 ghost use Rattle.std.specs.Io.KnownBytes.{ReadConsumes, WriteAppends};
-ghost use Rattle.io_edge.specs.Faults.{HasCause, one_more};
+ghost use Rattle.io_edge.specs.Faults.{HasCause};
+ghost use Rattle.io_edge.specs.Told.{one_more};
 ghost use Rattle.io_edge.specs.Memory.{fails_at};
 
 use crate::outside::{Failed, Sink, Source};

@@ -5,8 +5,7 @@ use borrow.Author.Differences.{ints}
 use borrow.Rule.Slice.PartMut.{put_mid}
 use Rattle.std.proofs.lemmas.Bool.Decides.{nat_tests}
 use Rattle.pixel_core.specs.Rgba.{Rgba, clear, IsCanonical}
-use Rattle.pixel_core.specs.Bytes.{mul}
-use Rattle.pixel_core.specs.Compose.{compose}
+use Rattle.pixel_core.specs.Compose.{compose, mul}
 use Rattle.pixel_core.proofs.Rounding.{laws_of_mul}
 use Rattle.pixel_core.proofs.ComposeLaws.{unseen_leaves}
 use Rattle.brush_mask.specs.Mask.{mask}

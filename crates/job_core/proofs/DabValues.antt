@@ -4,13 +4,14 @@ use Rattle.std.specs.Prelude.{ℤ, pos, ◌+ℤ◌, ◌-ℤ◌, ◌≤ℤ◌, in
 use borrow.Author.Differences.{ints}
 use Rattle.pixel_core.specs.Rgba.{Rgba, clear}
 use Rattle.pixel_core.specs.Compose.{compose}
-use Rattle.geom_core.specs.Areas.{Area, right, lies_in, place_in, world, IsWithin, IsShared}
+use Rattle.geom_core.specs.Areas.{Area, right, lies_in, world}
+use Rattle.geom_core.specs.Overlaps.{place_in, IsWithin, IsShared}
 use Rattle.geom_core.specs.Grid.{Key, tile}
 use Rattle.geom_core.proofs.Tests.{and_left, and_right, taken}
 use Rattle.tile_core.specs.Blocks.{Piece}
 use Rattle.tile_core.specs.Shots.{Sight, sight_at}
 use Rattle.tile_core.specs.Pixels.{HasPixels}
-use Rattle.doc_model.specs.Jobs.{square}
+use Rattle.doc_model.specs.Jobs.{square, checks}
 use Rattle.job_core.specs.declared.ink.Ink.{Ink}
 use Rattle.job_core.specs.declared.dabs.Brush.{Brush}
 use Rattle.job_core.specs.Paints.{paint, IsPainted}
@@ -21,7 +22,6 @@ use Rattle.tile_core.specs.Parts.{in_part}
 use Rattle.std.proofs.lemmas.Bool.Decides.{nat_tests}
 use Rattle.job_core.specs.Made.{IsBlock, dabbed, strength_at}
 use Rattle.job_core.specs.Tasks.{dab_of}
-use Rattle.doc_model.specs.Lawful.{checks}
 use Rattle.job_core.proofs.Keys.{due_key}
 use Rattle.job_core.proofs.Values.{seen_at, painted_once}
 

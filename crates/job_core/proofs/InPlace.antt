@@ -5,9 +5,9 @@ use Rattle.std.specs.Prelude.{IfSome, Option, Some, None, int_le, int_lt, ◌≤
 use Rattle.pixel_core.specs.Rgba.{Rgba, clear}
 use Rattle.pixel_core.specs.Compose.{compose}
 use Rattle.std.proofs.lemmas.List.{get_or-replicate}
-use Rattle.geom_core.specs.Points.{Point}
 use Rattle.geom_core.specs.Place.{across, down}
-use Rattle.geom_core.specs.Areas.{Area, holds, any_holds, world, IsWithin, IsShared}
+use Rattle.geom_core.specs.Areas.{Area, holds, world, Point}
+use Rattle.geom_core.specs.Overlaps.{any_holds, IsWithin, IsShared}
 use Rattle.geom_core.proofs.Tests.{and_left, and_right, both_true, or_left, taken}
 use Rattle.geom_core.specs.Grid.{Key, tile, IsWorldKey}
 use Rattle.geom_core.proofs.Spots.{TileSpot, tile_spot}
@@ -16,7 +16,8 @@ use Rattle.tile_core.specs.Pixels.{Pixels, pixel_of, pixel_at}
 use Rattle.tile_core.specs.Parts.{in_part, IsPartOf}
 use Rattle.tile_core.proofs.LaidBlocks.{Axis, axis, rest_of}
 use Rattle.doc_model.specs.declared.job.Job.{Job}
-use Rattle.doc_model.specs.Jobs.{square, writes, value, in_tile}
+use Rattle.doc_model.specs.Jobs.{square, writes, value}
+use Rattle.doc_model.specs.Shots.{in_tile}
 use Rattle.doc_model.specs.Layers.{Layer, at}
 use Rattle.doc_model.proofs.JobLaws.{at-apply}
 use Rattle.job_core.specs.declared.ink.Ink.{Ink}

@@ -10,8 +10,8 @@ use Rattle.geom_core.proofs.Tests.{and_left, and_right, both_true, or_cases}
 use Rattle.tile_core.specs.Shots.{Sight}
 use Rattle.doc_model.specs.declared.job.Job.{Job}
 use Rattle.doc_model.specs.declared.job.Job.TheVariants.{Fill, Dab, Move, Blur}
-use Rattle.doc_model.specs.Jobs.{grown, square, writes}
-use Rattle.doc_model.specs.Lawful.{checks, within_limits}
+use Rattle.doc_model.specs.Jobs.{grown, square, writes, checks}
+use Rattle.doc_model.specs.Lawful.{within_limits}
 use Rattle.job_core.specs.Due.{IsDue}
 use Rattle.job_core.proofs.Values.{HasPoints, some_of_limits, key_met, one_met, world_key}
 

@@ -7,8 +7,8 @@ use borrow.Author.Differences.{ints}
 use Rattle.std.proofs.lemmas.List.Folds.{list_any-append}
 use Rattle.std.proofs.lemmas.List.Elements.{All-from_recursion}
 use Rattle.pixel_core.specs.Rgba.{Rgba, clear}
-use Rattle.geom_core.specs.Points.{Point, point}
-use Rattle.geom_core.specs.Areas.{Area, holds, any_holds, right, bottom, lies_in, meets, moved, place_in, clipped, common, world, IsWithin, IsShared}
+use Rattle.geom_core.specs.Areas.{Area, holds, right, bottom, lies_in, meets, moved, world, Point, point}
+use Rattle.geom_core.specs.Overlaps.{any_holds, place_in, clipped, common, IsWithin, IsShared}
 use Rattle.geom_core.specs.Grid.{Key, same_key, tile, keys_of}
 use Rattle.geom_core.proofs.Tests.{and_left, and_right, both_true, or_left, or_right, or_cases, taken}
 use Rattle.tile_core.specs.Blocks.{Piece}
@@ -17,7 +17,8 @@ use Rattle.tile_core.specs.Pixels.{HasPixels}
 use Rattle.tile_core.proofs.Taken.{within_holds, plain_pixels}
 use Rattle.doc_model.specs.declared.job.Job.TheVariants.{Move}
 use Rattle.doc_model.specs.Jobs.{apply, value}
-use Rattle.doc_model.specs.Layers.{at, plain, default-painted, default-plain}
+use Rattle.doc_model.specs.Layers.{at, plain}
+use Rattle.doc_model.proofs.LayerLaws.{default-painted, default-plain}
 use Rattle.job_core.specs.Paints.{layer_of, paint, HasValue, IsPainted}
 use Rattle.job_core.specs.Due.{IsDue}
 use Rattle.job_core.specs.Laid.{LaysOver}
@@ -248,7 +249,7 @@ module _ (rect : Area) (dx dy : ℤ) (s : Sight) (key : Key) where
   both_there false true false = refl
   both_there false false k = refl
 
-  in_the_tile : (p : Point) (x : Bool) → x ≡ ((holds rect p || (holds (moved rect dx dy) p || false)) && holds (tile key) p) → x ≡ ((holds rect p || (holds (moved rect dx dy) p || false)) && Rattle.doc_model.specs.Jobs.in_tile key p)
+  in_the_tile : (p : Point) (x : Bool) → x ≡ ((holds rect p || (holds (moved rect dx dy) p || false)) && holds (tile key) p) → x ≡ ((holds rect p || (holds (moved rect dx dy) p || false)) && Rattle.doc_model.specs.Shots.in_tile key p)
   in_the_tile p x e = e ∙ ap (λ t. (holds rect p || (holds (moved rect dx dy) p || false)) && t) (tile_held key p)
 
   -- a tile that the moved rectangle doesn't meet

@@ -7,8 +7,8 @@ use Rattle.std.proofs.lemmas.List.{take_all}
 use Rattle.std.proofs.lemmas.Grind.{take_at_read}
 use Rattle.std.proofs.lemmas.List.Elements.{All-from_recursion, recursion_from_All, All-take}
 use Rattle.std.proofs.lemmas.List.Sums.{take_while-cons}
-use Rattle.geom_core.specs.Points.{Point}
-use Rattle.geom_core.specs.Areas.{Area, any_holds, lies_in}
+use Rattle.geom_core.specs.Areas.{Area, lies_in, Point}
+use Rattle.geom_core.specs.Overlaps.{any_holds}
 use Rattle.geom_core.specs.Grid.{Key, same_key, tile, keys_of, all_keys_of}
 use Rattle.geom_core.proofs.Axes.{tiles_met}
 use Rattle.geom_core.proofs.Tests.{and_left, and_right, both_true, taken}
@@ -16,9 +16,10 @@ use Rattle.tile_core.specs.Pixels.{Pixels}
 use Rattle.doc_model.specs.declared.job.Job.{Job}
 use Rattle.doc_model.specs.declared.job.Job.TheVariants.{Fill, Dab, Move, Blur}
 use Rattle.doc_model.specs.declared.job.Kind.{Kind}
-use Rattle.doc_model.specs.Jobs.{square, writes, apply, in_tile}
+use Rattle.doc_model.specs.Shots.{in_tile}
 use Rattle.doc_model.specs.Layers.{Layer, at}
-use Rattle.doc_model.specs.Lawful.{checks, within_limits}
+use Rattle.doc_model.specs.Lawful.{within_limits}
+use Rattle.doc_model.specs.Jobs.{checks, square, writes, apply}
 use Rattle.doc_model.specs.Strokes.{Jobs}
 use Rattle.doc_model.proofs.JobLaws.{laws_of_jobs}
 use Rattle.doc_model.proofs.Shots.{at-published}

@@ -7,8 +7,8 @@ use Rattle.std.proofs.Math.Seq.{take-append_seam}
 use Rattle.std.proofs.lemmas.Bool.Decides.{nat_tests}
 use Rattle.std.proofs.lemmas.List.Elements.{All-from_recursion}
 use Rattle.pixel_core.specs.Rgba.{Rgba, clear}
-use Rattle.geom_core.specs.Points.{Point}
-use Rattle.geom_core.specs.Areas.{Area, holds, any_holds, lies_in, meets, place_in, world, IsShared}
+use Rattle.geom_core.specs.Areas.{Area, holds, lies_in, meets, world, Point}
+use Rattle.geom_core.specs.Overlaps.{any_holds, place_in, IsShared}
 use Rattle.geom_core.specs.Grid.{Key, key_of, same_key, tile, keys_of, all_keys_of, IsWorldKey}
 use Rattle.geom_core.proofs.Tests.{and_left, and_right, both_true, or_left, or_right, or_cases, taken}
 use Rattle.geom_core.proofs.Bounds.{lies_held}
@@ -18,9 +18,11 @@ use Rattle.tile_core.specs.Blocks.{Piece, piece}
 use Rattle.tile_core.specs.Shots.{Sight, sight_at}
 use Rattle.tile_core.specs.Pixels.{HasPixels}
 use Rattle.doc_model.specs.declared.job.Job.{Job}
-use Rattle.doc_model.specs.Jobs.{apply, writes, value, in_tile}
+use Rattle.doc_model.specs.Jobs.{apply, writes, value}
+use Rattle.doc_model.specs.Shots.{in_tile}
 use Rattle.doc_model.specs.Lawful.{of_limits}
-use Rattle.doc_model.specs.Layers.{at, plain, at-painted}
+use Rattle.doc_model.specs.Layers.{at, plain}
+use Rattle.doc_model.proofs.LayerLaws.{at-painted}
 use Rattle.doc_model.proofs.JobLaws.{at-apply}
 use Rattle.job_core.specs.Paints.{layer_of, paint, HasValue, IsPainted}
 use Rattle.job_core.specs.Made.{IsBlock}

@@ -1,8 +1,7 @@
 -- Rows of a dab.
 use Rattle.std.specs.Prelude.{◌≡◌, ℕ, ◌<◌, ℤ, pos, ◌+ℤ◌, List, length, slice_index_or}
 use Rattle.pixel_core.specs.Rgba.{Rgba, clear}
-use Rattle.pixel_core.specs.Bytes.{mul}
-use Rattle.pixel_core.specs.Compose.{compose}
+use Rattle.pixel_core.specs.Compose.{compose, mul}
 use Rattle.job_core.specs.declared.ink.Ink.{Ink}
 use Rattle.job_core.specs.declared.dabs.Brush.{Brush}
 use Rattle.job_core.specs.Laid.{Change}

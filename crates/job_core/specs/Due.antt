@@ -5,8 +5,8 @@ use Rattle.geom_core.specs.Areas.{lies_in}
 use Rattle.geom_core.specs.Grid.{Key, same_key, all_keys_of}
 use Rattle.tile_core.specs.Shots.{Sight}
 use Rattle.doc_model.specs.declared.job.Job.{Job}
-use Rattle.doc_model.specs.Jobs.{reads, writes}
-use Rattle.doc_model.specs.Lawful.{checks, within_limits}
+use Rattle.doc_model.specs.Jobs.{reads, writes, checks}
+use Rattle.doc_model.specs.Lawful.{within_limits}
 
 -- the job lies in the world and meets the limits, the shot has what it reads, and it writes in the key's tile
 pub record IsDue (job : Job) (shot : Sight) (key : Key) : Type 0 where

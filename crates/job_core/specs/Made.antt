@@ -1,11 +1,9 @@
 -- Blocks by what they have at each point.
 use Rattle.std.specs.Prelude.{◌≡◌, ℕ, ℤ, pos, negsuc, ◌-ℤ◌, ◌≤ℤ◌, if◌then◌else◌}
 use Rattle.pixel_core.specs.Rgba.{Rgba}
-use Rattle.pixel_core.specs.Bytes.{mul}
-use Rattle.pixel_core.specs.Compose.{compose}
+use Rattle.pixel_core.specs.Compose.{compose, mul}
 use Rattle.brush_mask.specs.Mask.{mask}
-use Rattle.geom_core.specs.Points.{Point, point}
-use Rattle.geom_core.specs.Areas.{Area, holds}
+use Rattle.geom_core.specs.Areas.{Area, holds, Point, point}
 use Rattle.geom_core.specs.Grid.{Key}
 use Rattle.tile_core.specs.Blocks.{Piece}
 use Rattle.tile_core.specs.Pixels.{HasPixels}

@@ -1,15 +1,17 @@
 -- What painting one tile of a job leaves.
 use Rattle.std.specs.Prelude.{◌≡◌, true, ◌&&◌, List, map, All, refl}
 use Rattle.std.specs.Coded.{Coded, code_by, coded×, coded_list}
-use Rattle.pixel_core.specs.Rgba.{Rgba, pixel_code}
-use Rattle.geom_core.specs.Points.{Point}
-use Rattle.geom_core.specs.Areas.{Area, holds, any_holds, area_code}
+use Rattle.pixel_core.specs.Rgba.{Rgba}
+use Rattle.pixel_core.specs.Words.{pixel_code}
+use Rattle.geom_core.specs.Areas.{Area, holds, Point}
+use Rattle.geom_core.specs.Overlaps.{any_holds, area_code}
 use Rattle.geom_core.specs.Grid.{Key, key_code, IsWorldKey}
 use Rattle.tile_core.specs.Blocks.{Piece, piece, piece_at}
 use Rattle.tile_core.specs.Shots.{Sight, sight_at, sight_code}
 use Rattle.doc_model.specs.contracts.job.Job as job
 use Rattle.doc_model.specs.declared.job.Job.{Job}
-use Rattle.doc_model.specs.Jobs.{apply, writes, in_tile}
+use Rattle.doc_model.specs.Jobs.{apply, writes}
+use Rattle.doc_model.specs.Shots.{in_tile}
 use Rattle.doc_model.specs.Layers.{Layer, at, painted, plain}
 
 -- the layer that a shot shows: its pixels on its rectangles, and its default pixel elsewhere

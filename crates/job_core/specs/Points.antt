@@ -2,16 +2,16 @@
 use Rattle.std.specs.Prelude.{◌≡◌, ◌≤◌, ◌&&◌, Bool, true, false, [], ◌∷◌, length, All, refl}
 use Rattle.std.specs.List.{list_any, list_all, take_while}
 use Rattle.std.specs.Coded.{Coded, code_by, coded×, coded_list}
-use Rattle.geom_core.specs.Points.{Point}
-use Rattle.geom_core.specs.Areas.{Area, lies_in}
+use Rattle.geom_core.specs.Areas.{Area, lies_in, Point}
 use Rattle.geom_core.specs.Grid.{Key, key_code, same_key, all_keys_of, tile, IsWorldKey}
 use Rattle.tile_core.specs.Pixels.{Pixels, pixel_at}
 use Rattle.doc_model.specs.contracts.job.Job as job
 use Rattle.doc_model.specs.contracts.job.Kind as kind
 use Rattle.doc_model.specs.declared.job.Job.{Job}
 use Rattle.doc_model.specs.declared.job.Job.TheVariants.{Fill, Dab, Move, Blur}
-use Rattle.doc_model.specs.Jobs.{apply, writes, in_tile, published}
-use Rattle.doc_model.specs.Lawful.{checks, within_limits}
+use Rattle.doc_model.specs.Shots.{in_tile, published}
+use Rattle.doc_model.specs.Lawful.{within_limits}
+use Rattle.doc_model.specs.Jobs.{checks, apply, writes}
 use Rattle.doc_model.specs.Layers.{Layer, at}
 use Rattle.doc_model.specs.Strokes.{Jobs}
 

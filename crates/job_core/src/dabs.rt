@@ -1,7 +1,8 @@
 //! Dabs.
 
 ghost use Rattle.std.specs.Prelude.{◌≡◌, [], ◌∷◌, ◌+◌, ◌*◌, ◌≤◌, ◌<◌, ◌≤ℤ◌, ◌+ℤ◌, ◌-ℤ◌, ℕ, negsuc, pos, true, IfOk, vec_len, length};
-ghost use Rattle.geom_core.specs.Areas.{IsWithin, lies_in, world};
+ghost use Rattle.geom_core.specs.Areas.{lies_in, world};
+ghost use Rattle.geom_core.specs.Overlaps.{IsWithin};
 ghost use Rattle.geom_core.specs.Grid.{IsWorldKey, tile};
 ghost use Rattle.tile_core.specs.Pixels.{HasPixels};
 ghost use Rattle.job_core.specs.Tasks.{dab_of};

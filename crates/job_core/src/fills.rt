@@ -1,7 +1,7 @@
 //! Fills.
 
 ghost use Rattle.std.specs.Prelude.{◌≡◌, [], ◌∷◌, ◌*◌, ◌+◌, ◌≤◌, true, IfOk, vec_len, length};
-ghost use Rattle.geom_core.specs.Areas.{IsWithin};
+ghost use Rattle.geom_core.specs.Overlaps.{IsWithin};
 ghost use Rattle.geom_core.specs.Grid.{IsWorldKey, tile};
 ghost use Rattle.pixel_core.specs.Compose.{compose};
 ghost use Rattle.tile_core.specs.Pixels.{HasPixels};

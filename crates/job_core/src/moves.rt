@@ -1,8 +1,8 @@
 //! Moves.
 
 ghost use Rattle.std.specs.Prelude.{◌≡◌, ◌∷◌, ◌*◌, true, pos, ◌-ℤ◌, IfOk, IfSome, IfNone, vec_len, length, replicate, option_to_list};
-ghost use Rattle.geom_core.specs.Points.{Point};
-ghost use Rattle.geom_core.specs.Areas.{IsWithin, IsShared, holds, lies_in, moved as moved_area, world};
+ghost use Rattle.geom_core.specs.Areas.{holds, lies_in, moved as moved_area, world, Point};
+ghost use Rattle.geom_core.specs.Overlaps.{IsWithin, IsShared};
 ghost use Rattle.geom_core.specs.Grid.{IsWorldKey, tile};
 ghost use Rattle.tile_core.specs.Pixels.{HasPixels};
 ghost use Rattle.doc_model.specs.declared.job.Job.TheVariants.{Move};

@@ -4,8 +4,8 @@ ghost use Rattle.std.specs.Prelude.{◌≡◌, true, IfOk, IfSome, IfNone, slice
 ghost use Rattle.std.specs.List.{list_any, list_all};
 ghost use Rattle.geom_core.specs.Grid.{same_key, all_keys_of};
 ghost use Rattle.geom_core.specs.Areas.{lies_in};
-ghost use Rattle.doc_model.specs.Jobs.{reads, writes};
-ghost use Rattle.doc_model.specs.Lawful.{checks, within_limits};
+ghost use Rattle.doc_model.specs.Jobs.{reads, writes, checks};
+ghost use Rattle.doc_model.specs.Lawful.{within_limits};
 ghost use Rattle.job_core.specs.Paints.{paint, made_of, IsPainted};
 ghost use Rattle.job_core.specs.Due.{IsDue};
 

@@ -1,7 +1,8 @@
 //! The part of a rectangle in one tile.
 
 ghost use Rattle.std.specs.Prelude.{◌≡◌, true};
-ghost use Rattle.geom_core.specs.Areas.{meets, IsShared};
+ghost use Rattle.geom_core.specs.Areas.{meets};
+ghost use Rattle.geom_core.specs.Overlaps.{IsShared};
 ghost use Rattle.geom_core.specs.Grid.{IsWorldKey, tile};
 
 use geom_core::{Rect, TileKey};

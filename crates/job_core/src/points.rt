@@ -3,12 +3,13 @@
 ghost use Rattle.std.specs.Prelude.{◌≡◌, ◌≤◌, ◌∷◌, ◌&&◌, [], true, false, All, length, ◌+◌, ◌*◌, IfSome, IfNone, IsTrue, replicate, slice_get, Some};
 ghost use Rattle.std.specs.List.{list_any, list_all, take_while};
 ghost use Rattle.pixel_core.specs.Rgba.{Rgba};
-ghost use Rattle.geom_core.specs.Points.{Point};
-ghost use Rattle.geom_core.specs.Areas.{Area, IsInWorld, holds, lies_in, meets};
+ghost use Rattle.geom_core.specs.Areas.{Area, holds, lies_in, meets, Point};
+ghost use Rattle.geom_core.specs.Overlaps.{IsInWorld};
 ghost use Rattle.geom_core.specs.Grid.{IsWorldKey, keys_of, same_key, all_keys_of, tile};
 ghost use Rattle.tile_core.specs.Pixels.{Pixels};
-ghost use Rattle.doc_model.specs.Jobs.{writes, in_tile, square as square_of};
-ghost use Rattle.doc_model.specs.Lawful.{checks, within_limits};
+ghost use Rattle.doc_model.specs.Shots.{in_tile};
+ghost use Rattle.doc_model.specs.Lawful.{within_limits};
+ghost use Rattle.doc_model.specs.Jobs.{checks, writes, square as square_of};
 ghost use Rattle.job_core.specs.Points.{is_point_op, is_within as is_within_of, spot, IsPointJob, IsPointWork, IsRun, LaysJob, LaysPoints};
 ghost use Rattle.job_core.specs.Laid.{LeavesAll};
 ghost use Rattle.job_core.specs.Tasks.{fill_of, dab_of};

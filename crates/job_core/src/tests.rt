@@ -4,8 +4,8 @@ ghost use Rattle.std.specs.Prelude.{◌≡◌, ◌↔◌, ◌<◌, true, All, Is
 ghost use Rattle.std.specs.List.{list_any, list_all};
 ghost use Rattle.geom_core.specs.Areas.{lies_in};
 ghost use Rattle.geom_core.specs.Grid.{same_key, all_keys_of};
-ghost use Rattle.doc_model.specs.Jobs.{writes};
-ghost use Rattle.doc_model.specs.Lawful.{checks, within_limits};
+ghost use Rattle.doc_model.specs.Jobs.{writes, checks};
+ghost use Rattle.doc_model.specs.Lawful.{within_limits};
 
 use super::*;
 use doc_model::{Job, Kind};

@@ -2,7 +2,7 @@
 use Rattle.std.proofs.Common.{◌≡◌, ℕ, List, [], ◌++◌, Option, sym, subst, ◌∙◌, append_assoc, append-nil}
 use Rattle.std.specs.Io.KnownBytes.{Appends}
 use Rattle.std.proofs.KnownBytes.{Appends-trans}
-use Rattle.io_edge.specs.Bytes.{AppendsPrefix}
+use Rattle.io_edge.specs.Told.{AppendsPrefix}
 use Rattle.io_edge.proofs.Written.{prefix_behind}
 
 -- all of the whole but the rest was written

@@ -5,7 +5,8 @@ use Rattle.std.proofs.Math.Seq.{drop-cons}
 use Rattle.std.proofs.lemmas.List.Sums.{sum_by-append}
 use Rattle.tile_core.specs.Frames.{Scene, row_colours}
 use Rattle.ppm_out.proofs.Lines.{lines, lines_more}
-use Rattle.log_out.specs.Summary.{sheet_of, frame_line, frame_lines}
+use Rattle.log_out.specs.Summary.{sheet_of}
+use Rattle.log_out.specs.Log.{frame_line, frame_lines}
 
 -- the next line
 pub sheets_at : (frames : List Scene) (i : ℕ) (f : Scene) → i < length frames → f ≡ get_or frames i f

@@ -3,11 +3,12 @@
 ghost use Rattle.std.specs.Prelude.{◌≡◌, ◌*◌, ◌≤◌, Bool, OnOk, OnErr, length, map};
 ghost use Rattle.std.specs.List.{count_by, sum};
 ghost use Rattle.std.specs.Io.KnownBytes.{Appends};
-ghost use Rattle.io_edge.specs.Bytes.{AppendsPrefix};
+ghost use Rattle.io_edge.specs.Told.{AppendsPrefix};
 ghost use Rattle.io_edge.specs.Faults.{HasCause};
-ghost use Rattle.doc_model.specs.Outcomes.{refused};
-ghost use Rattle.ppm_out.specs.Pictures.{colours_of};
-ghost use Rattle.log_out.specs.Summary.{done, cancelled, counts, colour_sum as sum_of, sheet_of, frame_line, sum_text};
+ghost use Rattle.doc_model.specs.Meaning.{refused};
+ghost use Rattle.ppm_out.specs.Scenes.{colours_of};
+ghost use Rattle.log_out.specs.Summary.{sheet_of};
+ghost use Rattle.log_out.specs.Log.{done, cancelled, counts, colour_sum as sum_of, frame_line, sum_text};
 
 use doc_model::Outcome;
 use io_edge::{Failed, Sink, write_pieces};

@@ -3,8 +3,7 @@ use Rattle.std.proofs.Common.{◌≡◌, ℕ, true, false, List, [], ◌∷◌, 
 use Rattle.std.specs.FinSet as set
 use Rattle.std.specs.FinSet.{FinSet}
 use Rattle.std.specs.List.{list_any, AllByRecursion}
-use Rattle.geom_core.specs.Points.{Point}
-use Rattle.geom_core.specs.Areas.{Area, holds}
+use Rattle.geom_core.specs.Areas.{Area, holds, Point}
 use Rattle.geom_core.specs.Grid.{key_cmp, key_of}
 use Rattle.doc_model.specs.declared.canvas.Walk.TheVariants.{Up}
 use Rattle.doc_model.specs.declared.canvas.Patch.{Patch}

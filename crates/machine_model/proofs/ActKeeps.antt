@@ -41,7 +41,8 @@ use Rattle.machine_model.specs.Sound.{IsOrderly}
 use Rattle.machine_model.proofs.Lists.{all_map}
 use Rattle.machine_model.proofs.StateTrees.{trees}
 use Rattle.machine_model.proofs.FeedKeeps.{not_begun}
-use Rattle.machine_model.proofs.Stories.{IsPlain, story_acts, told_more, one_outcome}
+use Rattle.doc_model.proofs.DoneLaws.{one_outcome}
+use Rattle.machine_model.proofs.Stories.{IsPlain, story_acts, told_more}
 use Rattle.machine_model.proofs.WalksStand.{none_stand, group_with}
 use Rattle.machine_model.proofs.LeavingCounts.{jobs_of, jobs_left_any}
 use Rattle.machine_model.proofs.JobKeeps.{parent_stands}

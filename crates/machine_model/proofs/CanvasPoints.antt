@@ -3,8 +3,7 @@ use Rattle.std.proofs.Common.{◌≡◌, ℕ, suc, zero, ◌≤◌, true, ◌&&�
 use Rattle.std.specs.Prelude.{ℤ, pos, ◌+ℤ◌, ◌≤ℤ◌, ◌<ℤ◌, int_le, int_lt}
 use Rattle.std.specs.List.{AllByRecursion}
 use borrow.Author.Differences.{ints}
-use Rattle.geom_core.specs.Points.{Point}
-use Rattle.geom_core.specs.Areas.{Area, right, bottom, holds, row, rows, points_of}
+use Rattle.geom_core.specs.Areas.{Area, right, bottom, holds, row, rows, points_of, Point}
 use Rattle.geom_core.proofs.Tests.{and_left, and_right, both_true}
 use Rattle.doc_model.specs.declared.canvas.Canvas.{Canvas}
 use Rattle.doc_model.specs.Picture.{canvas_area}

@@ -5,8 +5,8 @@ use Rattle.std.specs.Ordering.{nat_cmp}
 use Rattle.std.specs.FinMap.{FinMap}
 use Rattle.std.specs.List.{list_any, AllByRecursion}
 use Rattle.pixel_core.specs.Rgba.{clear}
-use Rattle.geom_core.specs.Points.{Point}
-use Rattle.geom_core.specs.Areas.{holds, any_holds}
+use Rattle.geom_core.specs.Areas.{holds, Point}
+use Rattle.geom_core.specs.Overlaps.{any_holds}
 use Rattle.geom_core.specs.Grid.{key_of}
 use Rattle.doc_model.specs.declared.canvas.Walk.TheVariants.{Up}
 use Rattle.doc_model.specs.declared.canvas.Patch.{Patch}

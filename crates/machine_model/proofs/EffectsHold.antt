@@ -1,12 +1,14 @@
 -- What the events do, and what they leave alone.
 use Rattle.machine_model.proofs.Choices.{and_none}
 use Rattle.std.proofs.Common.{false, ◌≡◌, ◌≢◌, ℕ, true, ◌&&◌, cond, [], Option, Some, None, refl, sym, ap, ◌∙◌, subst, eqb, ◌||◌, arith, ◌∷◌}
-use Rattle.geom_core.specs.Points.{Point}
-use Rattle.geom_core.specs.Areas.{any_holds, holds}
+use Rattle.geom_core.specs.Areas.{holds, Point}
+use Rattle.geom_core.specs.Overlaps.{any_holds}
 use Rattle.geom_core.proofs.Tests.{taken, kept, both_true, or_left, neither}
 use Rattle.doc_model.specs.declared.command.Outcome.TheVariants.{Done}
-use Rattle.doc_model.specs.Layers.{at, Layer, painted, at-painted}
-use Rattle.doc_model.specs.Jobs.{reads, writes, apply, in_tile, published}
+use Rattle.doc_model.specs.Layers.{at, Layer, painted}
+use Rattle.doc_model.proofs.LayerLaws.{at-painted}
+use Rattle.doc_model.specs.Jobs.{reads, writes, apply}
+use Rattle.doc_model.specs.Shots.{in_tile, published}
 use Rattle.doc_model.specs.Forest.{content, is_group}
 use Rattle.doc_model.specs.Strokes.{Stroke, conflict}
 use Rattle.doc_model.proofs.Shots.{at-published, default-published, shot_same}

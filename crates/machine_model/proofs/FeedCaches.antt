@@ -3,7 +3,7 @@ use Rattle.doc_model.proofs.Feeding.{entries_last}
 use Rattle.machine_model.proofs.FeedKeeps.{first_last, first_map, head_is}
 use Rattle.std.proofs.Common.{◌≡◌, ℕ, Bool, true, false, cond, List, [], ◌∷◌, ◌++◌, Option, Some, None, refl, sym, ap, ◌∙◌, eqb, subst, ◌⊎◌, inl, inr, length, drop}
 use Rattle.std.specs.List.{list_any, AllByRecursion}
-use Rattle.geom_core.specs.Points.{Point}
+use Rattle.geom_core.specs.Areas.{Point}
 use Rattle.doc_model.specs.declared.job.Job.{Job}
 use Rattle.doc_model.specs.declared.job.Kind.{Kind}
 use Rattle.doc_model.specs.declared.command.Command.{Command}

@@ -4,7 +4,8 @@ use Rattle.std.specs.List.{list_any}
 use Rattle.geom_core.specs.Grid.{key_of}
 use Rattle.doc_model.specs.declared.job.Job.{Job}
 use Rattle.doc_model.specs.declared.job.Kind.{Kind}
-use Rattle.doc_model.specs.Layers.{Layer, at, layer_ext}
+use Rattle.doc_model.specs.Layers.{Layer, at}
+use Rattle.doc_model.proofs.LayerLaws.{layer_ext}
 use Rattle.doc_model.specs.Jobs.{apply_all}
 use Rattle.doc_model.specs.Strokes.{conflict}
 use Rattle.machine_model.specs.State.{State, Slot, Free, Paints, Walks}

@@ -2,13 +2,14 @@
 use Rattle.std.proofs.Common.{◌≡◌, ℕ, suc, zero, ◌-◌, ◌<◌, ◌≤◌, Bool, true, false, ◌&&◌, cond, List, [], ◌∷◌, ◌++◌, length, refl, sym, ap, ◌∙◌, arith}
 use Rattle.std.specs.Prelude.{slice_get}
 use Rattle.std.specs.List.{AllByRecursion}
-use Rattle.geom_core.specs.Points.{Point}
-use Rattle.geom_core.specs.Areas.{any_holds}
+use Rattle.geom_core.specs.Areas.{Point}
+use Rattle.geom_core.specs.Overlaps.{any_holds}
 use Rattle.geom_core.specs.Grid.{Key, key_of}
 use Rattle.doc_model.specs.declared.job.Job.{Job}
 use Rattle.doc_model.specs.declared.job.Kind.{Kind}
 use Rattle.doc_model.specs.Layers.{Layer, at}
-use Rattle.doc_model.specs.Jobs.{apply, reads, shot_of}
+use Rattle.doc_model.specs.Jobs.{apply, reads}
+use Rattle.doc_model.specs.Shots.{shot_of}
 use Rattle.doc_model.specs.Strokes.{Jobs, one_run, runs_at, passes, runs}
 use Rattle.doc_model.proofs.Conflicts.{all_from_same}
 use Rattle.machine_model.specs.State.{Slot, Free, Paints, Walks}

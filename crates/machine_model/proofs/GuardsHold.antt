@@ -4,7 +4,8 @@ use Rattle.std.specs.Prelude.{slice_get}
 use Rattle.doc_model.specs.declared.job.Job.{Job}
 use Rattle.doc_model.specs.declared.job.Kind.{Kind}
 use Rattle.doc_model.specs.declared.job.Kind.TheVariants.{Bar}
-use Rattle.doc_model.specs.Jobs.{reads, published, shot_of}
+use Rattle.doc_model.specs.Jobs.{reads}
+use Rattle.doc_model.specs.Shots.{shot_of}
 use Rattle.doc_model.specs.Strokes.{Stroke, Exports}
 use Rattle.machine_model.specs.State.{Painter, Free, Paints, State, head_stroke}
 use Rattle.machine_model.specs.Slots.{is_walker, no_walker}

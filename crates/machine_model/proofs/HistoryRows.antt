@@ -1,15 +1,14 @@
 -- An undo and a redo with exports in between, by computing.
 use Rattle.std.proofs.Common.{◌≡◌, List, [], ◌∷◌, refl, pos}
 use Rattle.pixel_core.specs.Rgba.{Rgba, rgba}
-use Rattle.pixel_core.specs.Bytes.{mul}
-use Rattle.pixel_core.specs.Compose.{compose}
+use Rattle.pixel_core.specs.Compose.{compose, mul}
 use Rattle.geom_core.specs.Areas.{area}
 use Rattle.geom_core.specs.Grid.{key, cells}
 use Rattle.doc_model.specs.declared.canvas.Canvas.{Canvas}
 use Rattle.doc_model.specs.declared.canvas.Walk.TheVariants.{All}
 use Rattle.doc_model.specs.declared.command.Command.TheVariants as command
 use Rattle.doc_model.specs.declared.tree.Change.TheVariants as change
-use Rattle.doc_model.specs.Layers.{at-plain}
+use Rattle.doc_model.proofs.LayerLaws.{at-plain}
 use Rattle.doc_model.specs.Updates.{queued, refreshed}
 use Rattle.machine_model.specs.State.{State, new_state, IsSettled}
 use Rattle.machine_model.specs.Event.{Event, Feed, Act, WalkStart, WalkPublish, WalkEnd}

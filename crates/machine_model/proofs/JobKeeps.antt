@@ -8,8 +8,11 @@ use Rattle.geom_core.specs.Areas.{Area}
 use Rattle.geom_core.specs.Grid.{Key}
 use Rattle.doc_model.specs.declared.canvas.Walk.TheVariants.{Up}
 use Rattle.doc_model.specs.declared.canvas.Patch.{Patch}
-use Rattle.doc_model.specs.Jobs.{reads, writes, shot_of, published}
-use Rattle.doc_model.specs.Forest.{parent, with_content, adjusted}
+use Rattle.doc_model.specs.Jobs.{reads, writes}
+use Rattle.doc_model.specs.Shots.{shot_of, published}
+use Rattle.doc_model.specs.Forest.{with_content}
+use Rattle.doc_model.specs.Readers.{parent}
+use Rattle.doc_model.specs.Adjusting.{adjusted}
 use Rattle.doc_model.specs.Picture.{Doc, canvas_area}
 use Rattle.doc_model.specs.Strokes.{Stroke}
 use Rattle.doc_model.specs.Updates.{IsQueue, queued}

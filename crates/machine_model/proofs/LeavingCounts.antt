@@ -1,8 +1,9 @@
 -- What is counted where an entry leaves the queue.
 use Rattle.std.proofs.Common.{◌≡◌, ℕ, suc, zero, ◌+◌, ◌≤◌, List, [], ◌∷◌, ◌++◌, Option, Some, None, length, take, refl, ap, ◌∙◌, arith}
 use Rattle.doc_model.specs.declared.command.Outcome.{Outcome}
-use Rattle.doc_model.specs.Strokes.{Jobs, Entry, Strokes, Changes, Undoes, Redoes, Purges, Exports, entries, conflict, up_to}
-use Rattle.doc_model.specs.Strokes as strokes
+use Rattle.doc_model.specs.Strokes.{Jobs, Entry, Strokes, Changes, Undoes, Redoes, Purges, Exports, entries, conflict}
+use Rattle.doc_model.specs.Kept.{up_to}
+use Rattle.doc_model.specs.Kept as strokes_kept
 use Rattle.machine_model.specs.State.{State, head}
 use Rattle.machine_model.specs.Counted.{jobs_in}
 use Rattle.machine_model.proofs.Lists.{length_last}
@@ -41,7 +42,7 @@ length_take_le (suc m) [] = omega arith
 length_take_le (suc m) (x ∷ xs) = let h : length (take m xs) ≤ length xs = length_take_le m xs in omega arith
 
 -- no more jobs are kept than there are
-pub kept_few : (jobs : Jobs) → length (strokes.kept jobs) ≤ length jobs
+pub kept_few : (jobs : Jobs) → length (strokes_kept.kept jobs) ≤ length jobs
 kept_few jobs = go (conflict jobs)
   where
     go : (o : Option (ℕ × ℕ)) → length (up_to jobs o) ≤ length jobs

@@ -4,8 +4,9 @@ use Rattle.std.specs.Prelude.{slice_get, slice_set}
 use Rattle.geom_core.specs.Grid.{Key}
 use Rattle.doc_model.specs.declared.job.Kind.{Kind}
 use Rattle.doc_model.specs.Layers.{Layer}
-use Rattle.doc_model.specs.Jobs.{published}
-use Rattle.doc_model.specs.Forest.{content, adjusted, with_content}
+use Rattle.doc_model.specs.Shots.{published}
+use Rattle.doc_model.specs.Forest.{content, with_content}
+use Rattle.doc_model.specs.Adjusting.{adjusted}
 use Rattle.doc_model.specs.Picture.{Doc}
 use Rattle.doc_model.specs.Strokes.{Stroke}
 use Rattle.doc_model.proofs.Contents.{content-with_content, adjusted-with_content}

@@ -3,15 +3,17 @@ use Rattle.machine_model.proofs.Choices.{same_and}
 use Rattle.std.proofs.Common.{◌≡◌, ℕ, suc, ◌<◌, Bool, true, false, ◌&&◌, ◌||◌, cond, List, ◌∷◌, Some, refl, sym, ap, ◌∙◌, arith, eqb, subst}
 use Rattle.std.specs.Prelude.{slice_get, slice_set}
 use Rattle.std.proofs.lemmas.Bool.Decides.{nat_tests}
-use Rattle.geom_core.specs.Points.{Point}
-use Rattle.geom_core.specs.Areas.{any_holds}
+use Rattle.geom_core.specs.Areas.{Point}
+use Rattle.geom_core.specs.Overlaps.{any_holds}
 use Rattle.geom_core.specs.Grid.{Key, key_of, same_key}
 use Rattle.geom_core.proofs.Tests.{taken, kept, and_left, and_right}
 use Rattle.doc_model.specs.declared.job.Job.{Job}
 use Rattle.doc_model.specs.declared.job.Kind.{Kind}
 use Rattle.doc_model.specs.Layers.{Layer, at}
-use Rattle.doc_model.specs.Jobs.{reads, writes, apply, shot_of, published, in_tile}
-use Rattle.doc_model.specs.Forest.{with_content, adjusted}
+use Rattle.doc_model.specs.Jobs.{reads, writes, apply}
+use Rattle.doc_model.specs.Shots.{shot_of, published, in_tile}
+use Rattle.doc_model.specs.Forest.{with_content}
+use Rattle.doc_model.specs.Adjusting.{adjusted}
 use Rattle.doc_model.proofs.JobLaws.{laws_of_jobs}
 use Rattle.doc_model.proofs.Shots.{shot_same, at-published, default-published}
 use Rattle.doc_model.proofs.Contents.{adjusted-with_content}

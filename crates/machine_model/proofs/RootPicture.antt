@@ -7,8 +7,8 @@ use Rattle.std.specs.FinMap.{FinMap}
 use Rattle.std.specs.List.{list_any, AllByRecursion}
 use Rattle.std.proofs.lemmas.Bool.Decides.{nat_tests}
 use Rattle.pixel_core.specs.Rgba.{Rgba, clear}
-use Rattle.geom_core.specs.Points.{Point}
-use Rattle.geom_core.specs.Areas.{holds, any_holds}
+use Rattle.geom_core.specs.Areas.{holds, Point}
+use Rattle.geom_core.specs.Overlaps.{any_holds}
 use Rattle.doc_model.specs.declared.canvas.Walk.TheVariants.{Up}
 use Rattle.doc_model.specs.declared.canvas.Patch.{Patch}
 use Rattle.doc_model.specs.Layers.{Layer, at}

@@ -5,7 +5,8 @@ use Rattle.doc_model.specs.declared.job.Job.{Job}
 use Rattle.doc_model.specs.declared.job.Kind.{Kind}
 use Rattle.doc_model.specs.Jobs.{reads, writes}
 use Rattle.doc_model.specs.Laws.{Apart}
-use Rattle.doc_model.specs.Strokes.{Jobs, kept, disturb, any_meet}
+use Rattle.doc_model.specs.Strokes.{Jobs, disturb, any_meet}
+use Rattle.doc_model.specs.Kept.{kept}
 use Rattle.doc_model.proofs.Conflicts.{apart_unless_meet, kept_clear}
 use Rattle.doc_model.proofs.Commuting.{jobs_commute, tiles_commute}
 use Rattle.machine_model.specs.UnderWay.{both_uni}

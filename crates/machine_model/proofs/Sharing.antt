@@ -1,22 +1,24 @@
 -- Who may be at work beside whom.
-use Rattle.std.proofs.Common.{◌≡◌, ◌≢◌, ℕ, suc, zero, ◌-◌, ◌<◌, Bool, true, false, ◌&&◌, List, [], ◌∷◌, Option, Some, None, refl, sym, ap, ◌∙◌, arith, ◌⊎◌, inl, inr}
+use Rattle.std.proofs.Common.{◌≡◌, ◌≢◌, ℕ, suc, zero, ◌-◌, ◌<◌, Bool, true, false, ◌&&◌, ◌||◌, List, [], ◌∷◌, Option, Some, None, refl, sym, ap, ◌∙◌, arith, ◌⊎◌, inl, inr}
 use Rattle.std.specs.Prelude.{slice_get, nat_lt}
-use Rattle.std.specs.List.{list_all}
+use Rattle.std.specs.List.{list_all, list_any}
 use Rattle.std.proofs.lemmas.Bool.Decides.{nat_tests}
 use Rattle.geom_core.specs.Areas.{meets}
 use Rattle.geom_core.proofs.Tests.{true_or_false, and_left, and_right, not_true}
 use Rattle.doc_model.specs.declared.job.Job.{Job}
 use Rattle.doc_model.specs.declared.job.Kind.{Kind}
-use Rattle.doc_model.specs.Strokes.{Jobs, Stroke, kept, runs, runs_at, passes, one_run, is_uni}
+use Rattle.doc_model.specs.declared.job.Kind.TheVariants.{Con, Seq, Bar, Uni}
+use Rattle.doc_model.specs.Strokes.{Jobs, Stroke, runs, runs_at, passes, one_run, is_uni}
+use Rattle.doc_model.specs.Kept.{kept}
 use Rattle.doc_model.proofs.Conflicts.{all_from_at}
 use Rattle.machine_model.specs.State.{Painter, Walker, Slot, Free, Paints, Walks, State, head_stroke}
 use Rattle.machine_model.specs.Slots.{painter_in}
-use Rattle.machine_model.specs.Guards.{kept_jobs}
+use Rattle.machine_model.specs.Guards.{kept_jobs, blocks, excludes, is_bar}
 use Rattle.machine_model.specs.UnderWay.{Once, SlotIsStarted, UnderWay, both_uni}
 use Rattle.machine_model.specs.Walking.{walks_apart, all_apart}
 use Rattle.machine_model.specs.Sound.{IsOrderly}
 use Rattle.machine_model.specs.CommutingLaws.{AreOfOneRun}
-use Rattle.machine_model.specs.GuardLaws.{RunsAs, MayShare, OnlyRunsShare, WalksNeverMeet}
+use Rattle.machine_model.specs.GuardLaws.{RunsAs, MayShare, OnlyRunsShare, SharersMayStart, WalksNeverMeet}
 use Rattle.machine_model.proofs.Lists.{all_get, each_get}
 use Rattle.machine_model.proofs.SlotPainters.{painter_found, runs_found}
 use Rattle.machine_model.proofs.JobKeeps.{painting}
@@ -122,6 +124,64 @@ only_runs_share s p q a b sound x y apart = go (painting s p x.painter x.at_work
       | inl one ↦ share_of_run found.2.stroke.jobs (a, x.painter.job) (b, y.painter.job) one
       | inr one ↦ swapped (share_of_run found.2.stroke.jobs (b, y.painter.job) (a, x.painter.job) one)
     ]
+
+-- what a job may share with doesn't keep it out
+lets_in : (a b : Kind) → MayShare a b → excludes a (Some b) ≡ false
+lets_in Con Con may = refl
+lets_in Con Uni may = refl
+lets_in Uni Con may = refl
+lets_in Uni Uni may = let t : true ≡ false = may.not_both in cc
+lets_in Seq b may = let t : false ≡ true = may.first in cc
+lets_in Bar b may = let t : false ≡ true = may.first in cc
+lets_in Con Seq may = let t : false ≡ true = may.second in cc
+lets_in Con Bar may = let t : false ≡ true = may.second in cc
+lets_in Uni Seq may = let t : false ≡ true = may.second in cc
+lets_in Uni Bar may = let t : false ≡ true = may.second in cc
+
+-- a job of a run is no barrier
+no_barrier : (kind : Kind) → runs kind ≡ true → is_bar kind ≡ false
+no_barrier Con h = refl
+no_barrier Uni h = refl
+no_barrier Seq h = cc
+no_barrier Bar h = cc
+
+-- where each slot lets the job in, none blocks it
+none_blocks : (test : Slot → Bool) (slots : List Slot) → ((p : ℕ) (slot : Slot) → slice_get slots p ≡ Some slot → test slot ≡ false) → list_any test slots ≡ false
+none_blocks test [] each = refl
+none_blocks test (x ∷ xs) each = ap (λ b. b || list_any test xs) (each zero x refl) ∙ none_blocks test xs (λ p. each (suc p))
+
+pub sharers_may_start : SharersMayStart
+sharers_may_start s place kind job sound next run share free = (
+  _,
+  record {
+    stroke = next.stroke;
+    at_head = next.at_head;
+    next = next.next;
+    begun = next.begun;
+    not_cancelled = next.not_cancelled;
+    no_overlap = next.no_overlap;
+    free = free;
+    job = (kind, job);
+    is_next = next.listed;
+    unblocked = none_blocks (blocks (kept_jobs next.stroke) kind) s.slots let_in;
+    barrier = (λ bar. absurd (let t : true ≡ false = sym bar ∙ no_barrier kind run in cc));
+    new_is = refl;
+  },
+)
+  where
+    same_stroke : (t : Stroke) → head_stroke s ≡ Some t → t ≡ next.stroke
+    same_stroke t h = let e : Some t ≡ Some next.stroke = sym h ∙ next.at_head in cc
+
+    let_in : (p : ℕ) (slot : Slot) → slice_get s.slots p ≡ Some slot → blocks (kept_jobs next.stroke) kind slot ≡ false
+    let_in p Free at = refl
+    let_in p (Walks w) at = refl
+    let_in p (Paints w) at =
+        let found : (k : Kind) × (x : RunsAs s p k) × (x.painter ≡ w) = listed_job s p w sound at in
+        let listed : slice_get (kept_jobs next.stroke) w.index ≡ Some (found.0, found.1.painter.job) =
+        ap (λ (v : Painter). slice_get (kept_jobs next.stroke) v.index) (sym found.2)
+        ∙ ap (λ (t : Stroke). slice_get (kept_jobs t) found.1.painter.index) (sym (same_stroke found.1.stroke found.1.at_head))
+        ∙ found.1.listed in
+        rw listed (lets_in kind found.0 (share p found.0 found.1))
 
 -- a walk and a later one
 apart_later : (slots : List Slot) (q : ℕ) (slot : Slot) (a b : Walker) → slot ≡ Walks a → list_all (walks_apart slot) slots ≡ true → slice_get slots q ≡ Some (Walks b) → meets a.patch.rect b.patch.rect ≡ false

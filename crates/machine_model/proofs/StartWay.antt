@@ -6,15 +6,17 @@ use Rattle.std.specs.Option.{unwrap_or}
 use Rattle.std.specs.List.{list_any, AllByRecursion}
 use Rattle.std.proofs.lemmas.Bool.Decides.{nat_tests}
 use Rattle.pixel_core.specs.Rgba.{Rgba, clear}
-use Rattle.geom_core.specs.Points.{Point}
-use Rattle.geom_core.specs.Areas.{any_holds}
+use Rattle.geom_core.specs.Areas.{Point}
+use Rattle.geom_core.specs.Overlaps.{any_holds}
 use Rattle.geom_core.specs.Grid.{Key, key_of}
 use Rattle.geom_core.proofs.Tests.{taken, kept, none_left, none_right}
 use Rattle.doc_model.specs.declared.job.Job.{Job}
 use Rattle.doc_model.specs.declared.job.Kind.{Kind}
 use Rattle.doc_model.specs.declared.job.Kind.TheVariants.{Con, Seq, Bar, Uni}
-use Rattle.doc_model.specs.Layers.{at, layer_ext, plain}
-use Rattle.doc_model.specs.Jobs.{reads, shot_of}
+use Rattle.doc_model.specs.Layers.{at, plain}
+use Rattle.doc_model.proofs.LayerLaws.{layer_ext}
+use Rattle.doc_model.specs.Jobs.{reads}
+use Rattle.doc_model.specs.Shots.{shot_of}
 use Rattle.doc_model.specs.Forest.{content}
 use Rattle.doc_model.proofs.Shots.{at-shot_of, default-shot_of}
 use Rattle.doc_model.proofs.Contents.{content-with_content}

@@ -1,18 +1,17 @@
 -- An entry that is no stroke does to the story what it means.
-use Rattle.std.proofs.Common.{◌≡◌, ℕ, suc, zero, ◌≤◌, true, List, [], ◌∷◌, ◌++◌, Option, Some, None, length, take, drop, map, refl, sym, ap, ◌∙◌, arith}
+use Rattle.std.proofs.Common.{◌≡◌, ℕ, suc, zero, ◌≤◌, true, List, [], ◌∷◌, ◌++◌, Some, length, take, drop, map, refl, sym, ap, ◌∙◌, arith}
 use Rattle.std.specs.List.{list_all}
 use Rattle.std.specs.Prelude.{Result, Ok, Err}
 use Rattle.doc_model.specs.declared.tree.TreeFault.{TreeFault}
 use Rattle.doc_model.specs.Picture.{Doc}
-use Rattle.doc_model.specs.Layers.{Layer, plain}
+use Rattle.doc_model.proofs.DoneLaws.{one_outcome}
+use Rattle.doc_model.specs.Layers.{plain}
 use Rattle.doc_model.specs.Changes.{changed}
 use Rattle.doc_model.specs.declared.canvas.Canvas.{Canvas}
-use Rattle.doc_model.specs.Forest.{content}
 use Rattle.machine_model.specs.Told.{Told}
-use Rattle.doc_model.specs.Strokes.{conflict, entries, Fate, Open, Ended, Cancelled, Stroke, Entry, Strokes, Changes, Undoes, Redoes, Purges, Exports}
-use Rattle.doc_model.specs.Meaning.{start, told_all, told_stroke, closed_stroke, laid_stroke, Story, told, told_change, undone, redone}
+use Rattle.doc_model.specs.Strokes.{entries, Entry, Strokes, Changes, Undoes, Redoes, Purges, Exports}
+use Rattle.doc_model.specs.Meaning.{start, told_all, Story, told, told_change, undone, redone}
 use Rattle.machine_model.specs.State.{Reach, Whole, Part, State, story, head, first}
-use Rattle.machine_model.proofs.Lists.{length_last}
 use Rattle.geom_core.proofs.Tests.{both_true, and_left, and_right}
 use Rattle.doc_model.specs.Lawful.{is_closed_entry}
 use Rattle.machine_model.specs.Effects.{after_entry, after_change, after_undo, after_redo}
@@ -55,41 +54,6 @@ story_acts s Undoes no_stroke = story_undo s s.past
 story_acts s Redoes no_stroke = story_redo s s.future
 story_acts s (Purges n) no_stroke = ap (λ p. record (story (after_entry s (Purges n))) { past = p }) (take_map (λ (e : Doc × Reach). e.0) n s.past)
 story_acts s Exports no_stroke = refl
-
--- each entry adds one outcome
-one_outcome_laid : (s : Story) (stroke : Stroke) (o : Option Layer) → length (laid_stroke s stroke o).outcomes ≡ suc (length s.outcomes)
-one_outcome_laid s stroke None = length_last _ _
-one_outcome_laid s stroke (Some layer) = length_last _ _
-
-one_outcome_closed : (s : Story) (stroke : Stroke) (f : Fate) → length (closed_stroke s stroke f).outcomes ≡ suc (length s.outcomes)
-one_outcome_closed s stroke Cancelled = length_last _ _
-one_outcome_closed s stroke Open = one_outcome_laid s stroke (content stroke.layer s.document)
-one_outcome_closed s stroke Ended = one_outcome_laid s stroke (content stroke.layer s.document)
-
-one_outcome_stroke : (s : Story) (stroke : Stroke) (o : Option (ℕ × ℕ)) → length (told_stroke s stroke o).outcomes ≡ suc (length s.outcomes)
-one_outcome_stroke s stroke (Some pair) = length_last _ _
-one_outcome_stroke s stroke None = one_outcome_closed s stroke stroke.fate
-
-one_outcome_change : (s : Story) (r : Result Doc TreeFault) → length (told_change s r).outcomes ≡ suc (length s.outcomes)
-one_outcome_change s (Ok new) = length_last _ _
-one_outcome_change s (Err fault) = length_last _ _
-
-one_outcome_undo : (s : Story) (past : List Doc) → length (undone s past).outcomes ≡ suc (length s.outcomes)
-one_outcome_undo s [] = length_last _ _
-one_outcome_undo s (d ∷ past) = length_last _ _
-
-one_outcome_redo : (s : Story) (future : List Doc) → length (redone s future).outcomes ≡ suc (length s.outcomes)
-one_outcome_redo s [] = length_last _ _
-one_outcome_redo s (d ∷ future) = length_last _ _
-
--- every entry does
-pub one_outcome : (canvas : Canvas) (s : Story) (e : Entry) → length (told canvas s e).outcomes ≡ suc (length s.outcomes)
-one_outcome canvas s (Strokes stroke) = one_outcome_stroke s stroke (conflict stroke.jobs)
-one_outcome canvas s (Changes change) = one_outcome_change s (changed plain change s.document)
-one_outcome canvas s Undoes = one_outcome_undo s s.past
-one_outcome canvas s Redoes = one_outcome_redo s s.future
-one_outcome canvas s (Purges n) = length_last _ _
-one_outcome canvas s Exports = length_last _ _
 
 told_all_last : (canvas : Canvas) (s : Story) (es : List Entry) (e : Entry) → told_all canvas s (es ++ e ∷ []) ≡ told canvas (told_all canvas s es) e
 told_all_last canvas s [] e = refl

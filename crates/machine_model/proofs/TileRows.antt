@@ -1,11 +1,9 @@
 -- Two jobs that publish into one tile, in both orders, by computing.
 use Rattle.std.proofs.Common.{◌≡◌, false, List, [], ◌∷◌, Some, refl, pos}
 use Rattle.pixel_core.specs.Rgba.{Rgba, rgba, clear}
-use Rattle.pixel_core.specs.Bytes.{mul}
-use Rattle.pixel_core.specs.Compose.{compose}
+use Rattle.pixel_core.specs.Compose.{compose, mul}
 use Rattle.pixel_core.specs.declared.blending.Op.TheVariants.{Over}
-use Rattle.geom_core.specs.Points.{point}
-use Rattle.geom_core.specs.Areas.{area}
+use Rattle.geom_core.specs.Areas.{area, point}
 use Rattle.geom_core.specs.Grid.{Key, key, cells}
 use Rattle.doc_model.specs.declared.canvas.Canvas.{Canvas}
 use Rattle.doc_model.specs.declared.job.Job.{Job}
@@ -13,7 +11,8 @@ use Rattle.doc_model.specs.declared.job.Job.TheVariants.{Fill}
 use Rattle.doc_model.specs.declared.job.Kind.TheVariants.{Con}
 use Rattle.doc_model.specs.declared.command.Command.TheVariants as command
 use Rattle.doc_model.specs.declared.tree.Change.TheVariants as change
-use Rattle.doc_model.specs.Layers.{Layer, at, at-plain}
+use Rattle.doc_model.specs.Layers.{Layer, at}
+use Rattle.doc_model.proofs.LayerLaws.{at-plain}
 use Rattle.doc_model.specs.Forest.{content}
 use Rattle.doc_model.specs.Updates.{queued, refreshed}
 use Rattle.doc_model.specs.Strokes.{conflict}

@@ -6,8 +6,7 @@ use Rattle.std.specs.FinMap.{FinMap}
 use Rattle.std.specs.List.{list_any, AllByRecursion}
 use Rattle.std.proofs.lemmas.Bool.Decides.{nat_tests}
 use Rattle.pixel_core.specs.Rgba.{clear}
-use Rattle.geom_core.specs.Points.{Point}
-use Rattle.geom_core.specs.Areas.{holds}
+use Rattle.geom_core.specs.Areas.{holds, Point}
 use Rattle.geom_core.specs.Grid.{key_of}
 use Rattle.geom_core.proofs.Keys.{key_of_held}
 use Rattle.doc_model.specs.declared.canvas.Walk.{Walk}

@@ -6,7 +6,7 @@ use Rattle.geom_core.proofs.Tests.{and_left, and_right, both_true, not_true}
 use Rattle.geom_core.specs.Areas.{Area}
 use Rattle.std.specs.FinMap as map
 use Rattle.doc_model.specs.Layers.{painted}
-use Rattle.doc_model.specs.Jobs.{in_tile}
+use Rattle.doc_model.specs.Shots.{in_tile}
 use Rattle.machine_model.specs.Walks.{walk_value, walk_shot}
 use Rattle.machine_model.specs.Groups.{cache, path_of}
 use Rattle.geom_core.specs.Grid.{Key}

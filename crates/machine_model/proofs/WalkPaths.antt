@@ -7,11 +7,12 @@ use Rattle.std.specs.FinMap.{FinMap}
 use Rattle.std.specs.Option.{unwrap_or}
 use Rattle.std.proofs.lemmas.Bool.Decides.{nat_tests}
 use Rattle.pixel_core.specs.Rgba.{Rgba}
-use Rattle.geom_core.specs.Points.{Point}
+use Rattle.geom_core.specs.Areas.{Point}
 use Rattle.doc_model.specs.declared.canvas.Walk.{Walk}
 use Rattle.doc_model.specs.declared.canvas.Walk.TheVariants.{Up, All}
 use Rattle.doc_model.specs.Layers.{Layer, at}
-use Rattle.doc_model.specs.Forest.{none, paint, group, has, is_group, children, with_content, parent, path, order}
+use Rattle.doc_model.specs.Forest.{none, paint, group, has, is_group, children, with_content}
+use Rattle.doc_model.specs.Readers.{parent, path, order}
 use Rattle.doc_model.specs.Picture.{Doc}
 use Rattle.doc_model.proofs.Parents.{Distinct, side, side_has, child_has, child_parent, parent_side}
 use Rattle.doc_model.proofs.Weights.{tree_distinct, tree_root}

@@ -19,9 +19,9 @@ use Rattle.doc_model.specs.contracts.canvas.Patch as patch
 use Rattle.doc_model.specs.contracts.canvas.Canvas as canvas
 use Rattle.doc_model.specs.contracts.command.Command as command
 use Rattle.doc_model.specs.contracts.command.Outcome as outcome
-use Rattle.doc_model.specs.Layers.{Layer, layer_code}
+use Rattle.doc_model.specs.Layers.{Layer}
 use Rattle.doc_model.specs.Picture.{Doc, Frame}
-use Rattle.doc_model.specs.Codes.{look_code, doc_code}
+use Rattle.doc_model.specs.Codes.{look_code, doc_code, layer_code}
 use Rattle.machine_model.specs.State.{Reach, Whole, Part, Child, Painter, Walker, Slot, Free, Paints, Walks, State}
 
 -- a reach as its layer and tiles, where it has them

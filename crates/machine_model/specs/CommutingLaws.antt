@@ -4,8 +4,10 @@ use Rattle.geom_core.specs.Grid.{Key}
 use Rattle.doc_model.specs.declared.job.Kind.{Kind}
 use Rattle.doc_model.specs.declared.job.Job.{Job}
 use Rattle.doc_model.specs.Layers.{Layer}
-use Rattle.doc_model.specs.Jobs.{apply, published}
-use Rattle.doc_model.specs.Strokes.{Jobs, kept, one_run, is_uni}
+use Rattle.doc_model.specs.Jobs.{apply}
+use Rattle.doc_model.specs.Shots.{published}
+use Rattle.doc_model.specs.Strokes.{Jobs, one_run, is_uni}
+use Rattle.doc_model.specs.Kept.{kept}
 use Rattle.machine_model.specs.State.{State}
 use Rattle.machine_model.specs.Event.{Publish}
 use Rattle.machine_model.specs.Step.{Step}

@@ -1,14 +1,15 @@
 -- What the events do, and what they leave alone.
 use Rattle.std.specs.Prelude.{◌≡◌, ◌≢◌, ℕ, suc, ◌==◌, true, false, ◌||◌, Some, None, [], ◌∷◌, ◌++◌, slice_get}
-use Rattle.geom_core.specs.Points.{Point}
-use Rattle.geom_core.specs.Areas.{holds, any_holds}
+use Rattle.geom_core.specs.Areas.{holds, Point}
+use Rattle.geom_core.specs.Overlaps.{any_holds}
 use Rattle.geom_core.specs.Grid.{Key}
 use Rattle.doc_model.specs.declared.job.Kind.{Kind}
 use Rattle.doc_model.specs.declared.canvas.Walk.TheVariants.{Up}
 use Rattle.doc_model.specs.declared.command.Outcome.{Outcome}
 use Rattle.doc_model.specs.declared.command.Outcome.TheVariants.{Done}
 use Rattle.doc_model.specs.Layers.{Layer, at}
-use Rattle.doc_model.specs.Jobs.{reads, writes, apply, in_tile}
+use Rattle.doc_model.specs.Jobs.{reads, writes, apply}
+use Rattle.doc_model.specs.Shots.{in_tile}
 use Rattle.doc_model.specs.Forest.{is_group, content, with_content}
 use Rattle.doc_model.specs.Picture.{canvas_area}
 use Rattle.doc_model.specs.Strokes.{Stroke}

@@ -6,7 +6,8 @@ use Rattle.std.specs.FinMap as map
 use Rattle.std.specs.FinMap.{FinMap}
 use Rattle.std.specs.FinSet as set
 use Rattle.pixel_core.specs.Rgba.{clear}
-use Rattle.geom_core.specs.Areas.{Area, bound}
+use Rattle.geom_core.specs.Areas.{Area}
+use Rattle.geom_core.specs.Overlaps.{bound}
 use Rattle.geom_core.specs.Grid.{Key, key_set, tile}
 use Rattle.doc_model.specs.declared.tree.TreeFault.{TreeFault}
 use Rattle.doc_model.specs.declared.command.Outcome.{Outcome}
@@ -15,7 +16,8 @@ use Rattle.doc_model.specs.declared.canvas.Walk.TheVariants.{Up}
 use Rattle.doc_model.specs.declared.canvas.Patch.{Patch}
 use Rattle.doc_model.specs.Layers.{Layer, plain}
 use Rattle.doc_model.specs.Jobs.{writes}
-use Rattle.doc_model.specs.Forest.{content, order}
+use Rattle.doc_model.specs.Forest.{content}
+use Rattle.doc_model.specs.Readers.{order}
 use Rattle.doc_model.specs.Picture.{Doc, frame, canvas_area}
 use Rattle.doc_model.specs.Changes.{changed, there}
 use Rattle.doc_model.specs.Strokes.{Jobs, Stroke, Entry, Strokes, Changes, Undoes, Redoes, Purges, Exports}

@@ -6,13 +6,14 @@ use Rattle.std.specs.List.{list_any}
 use Rattle.std.specs.FinMap as map
 use Rattle.std.specs.FinMap.{FinMap}
 use Rattle.pixel_core.specs.Rgba.{Rgba, clear}
-use Rattle.geom_core.specs.Points.{Point}
-use Rattle.geom_core.specs.Areas.{any_holds, holds}
+use Rattle.geom_core.specs.Areas.{holds, Point}
+use Rattle.geom_core.specs.Overlaps.{any_holds}
 use Rattle.doc_model.specs.declared.canvas.Walk.{Walk}
 use Rattle.doc_model.specs.declared.canvas.Walk.TheVariants.{Up, All}
 use Rattle.doc_model.specs.Layers.{Layer, at, plain}
 use Rattle.doc_model.specs.Jobs.{writes}
-use Rattle.doc_model.specs.Forest.{none, paint, group, children, parent, path, order}
+use Rattle.doc_model.specs.Forest.{none, paint, group, children}
+use Rattle.doc_model.specs.Readers.{parent, path, order}
 use Rattle.doc_model.specs.Picture.{Doc, with_look}
 use Rattle.doc_model.specs.Strokes.{Stroke}
 use Rattle.doc_model.specs.Updates.{queued_for}

@@ -1,13 +1,14 @@
 -- Who is never at work beside whom.
 use Rattle.std.specs.Prelude.{◌≡◌, ◌≢◌, ℕ, true, false, ◌&&◌, Some, List, [], slice_get}
 use Rattle.geom_core.specs.Areas.{meets}
+use Rattle.doc_model.specs.declared.job.Job.{Job}
 use Rattle.doc_model.specs.declared.job.Kind.{Kind}
 use Rattle.doc_model.specs.declared.job.Kind.TheVariants.{Bar}
 use Rattle.doc_model.specs.Strokes.{Stroke, Exports, runs, is_uni}
-use Rattle.machine_model.specs.State.{Painter, Walker, Paints, Walks, State, head, head_stroke}
+use Rattle.machine_model.specs.State.{Painter, Walker, Free, Paints, Walks, State, head, head_stroke}
 use Rattle.machine_model.specs.Event.{Event, Start, Act}
 use Rattle.machine_model.specs.Slots.{no_painter, no_walker}
-use Rattle.machine_model.specs.Guards.{kept_jobs}
+use Rattle.machine_model.specs.Guards.{kept_jobs, is_cancelled, overlaps}
 use Rattle.machine_model.specs.Step.{Step}
 use Rattle.machine_model.specs.Sound.{IsOrderly}
 use Rattle.machine_model.specs.SoundnessLaws.{IsReached}
@@ -29,6 +30,25 @@ pub record MayShare (a b : Kind) : Type 0 where
 -- so a sequential job and a barrier are at work alone, and no two uniquely concurrent jobs are
 abbrev pub OnlyRunsShare : Type 0
 OnlyRunsShare = (s : State) (p q : ℕ) (a b : Kind) → IsOrderly s → RunsAs s p a → RunsAs s q b → p ≢ q → MayShare a b
+
+-- in this state the event may happen
+abbrev pub Enabled : State → Event → Type 0
+Enabled s event = (new : State) × Step s event new
+
+-- the job is the next to start: its stroke at the head is under way and leaves something, all jobs before it were started, and none of it conflicts
+pub record IsNext (s : State) (kind : Kind) (job : Job) : Type 0 where
+  pub stroke : Stroke
+  pub at_head : head_stroke s ≡ Some stroke
+  pub not_cancelled : is_cancelled stroke ≡ false
+  pub no_overlap : overlaps stroke ≡ false
+  pub next : ℕ
+  pub begun : s.way ≡ Some next
+  pub listed : slice_get (kept_jobs stroke) next ≡ Some (kind, job)
+
+-- and the other way round: beside jobs at work with which it may share, the next job may start in any free slot, whichever tiles they have published
+abbrev pub SharersMayStart : Type 0
+SharersMayStart = (s : State) (place : ℕ) (kind : Kind) (job : Job) → IsOrderly s → IsNext s kind job → runs kind ≡ true
+    → ((p : ℕ) (k : Kind) → RunsAs s p k → MayShare kind k) → slice_get s.slots place ≡ Some Free → Enabled s (Start place)
 
 -- as a barrier of a stroke that isn't exclusive starts, no walk is at work and none waits
 abbrev pub BarrierStartsClean : Type 0

@@ -7,7 +7,8 @@ use Rattle.doc_model.specs.declared.job.Kind.TheVariants.{Con, Seq, Bar, Uni}
 use Rattle.doc_model.specs.declared.job.Job.{Job}
 use Rattle.doc_model.specs.Forest.{content}
 use Rattle.doc_model.specs.Picture.{Doc}
-use Rattle.doc_model.specs.Strokes.{Jobs, Stroke, Fate, Open, Ended, Cancelled, kept, conflict}
+use Rattle.doc_model.specs.Strokes.{Jobs, Stroke, Fate, Open, Ended, Cancelled, conflict}
+use Rattle.doc_model.specs.Kept.{kept}
 use Rattle.machine_model.specs.State.{Slot, Paints, Walks}
 
 -- the jobs that a stroke may start

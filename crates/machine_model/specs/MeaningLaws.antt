@@ -1,7 +1,6 @@
 -- Once all is settled, the state is what the fed commands mean; and it gets there.
 use Rattle.std.specs.Prelude.{◌≡◌, Bool, true, false, Option, Some, None, List}
-use Rattle.doc_model.specs.Lawful.{is_open}
-use Rattle.doc_model.specs.Strokes.{Stroke, entries}
+use Rattle.doc_model.specs.Strokes.{Stroke, entries, is_open}
 use Rattle.doc_model.specs.Meaning.{meaning}
 use Rattle.machine_model.specs.State.{State, story, head_stroke, IsSettled}
 use Rattle.machine_model.specs.Event.{Event, Feed}

@@ -1,8 +1,7 @@
 -- What the caches show.
 use Rattle.std.specs.Prelude.{◌≡◌, ℕ, true, false, Some, [], ◌∷◌, ◌++◌, map}
 use Rattle.pixel_core.specs.Compose.{on_paper}
-use Rattle.geom_core.specs.Points.{Point}
-use Rattle.geom_core.specs.Areas.{holds, points_of}
+use Rattle.geom_core.specs.Areas.{holds, points_of, Point}
 use Rattle.doc_model.specs.Strokes.{Exports}
 use Rattle.doc_model.specs.Layers.{at}
 use Rattle.doc_model.specs.Picture.{Frame, picture, frame, canvas_area}

@@ -8,8 +8,9 @@ use Rattle.doc_model.specs.declared.job.Job.{Job}
 use Rattle.doc_model.specs.declared.job.Kind.{Kind}
 use Rattle.doc_model.specs.declared.canvas.Patch.{Patch}
 use Rattle.doc_model.specs.Layers.{painted}
-use Rattle.doc_model.specs.Jobs.{reads, writes, shot_of, published, in_tile}
-use Rattle.doc_model.specs.Forest.{adjusted}
+use Rattle.doc_model.specs.Jobs.{reads, writes}
+use Rattle.doc_model.specs.Shots.{shot_of, published, in_tile}
+use Rattle.doc_model.specs.Adjusting.{adjusted}
 use Rattle.doc_model.specs.Picture.{canvas_area}
 use Rattle.doc_model.specs.Lawful.{may_follow}
 use Rattle.doc_model.specs.Strokes.{Stroke, Entry, Exports, entries, conflict}

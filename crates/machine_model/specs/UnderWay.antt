@@ -2,13 +2,14 @@
 use Rattle.std.specs.Prelude.{◌≡◌, ℕ, suc, zero, ◌<◌, ◌≤◌, Bool, true, false, ◌&&◌, if◌then◌else◌, Option, Some, None, List, [], ◌∷◌, map, length, take, slice_get}
 use Rattle.std.specs.List.{AllByRecursion}
 use Rattle.pixel_core.specs.Rgba.{Rgba}
-use Rattle.geom_core.specs.Points.{Point}
-use Rattle.geom_core.specs.Areas.{Area, any_holds}
+use Rattle.geom_core.specs.Areas.{Area, Point}
+use Rattle.geom_core.specs.Overlaps.{any_holds}
 use Rattle.geom_core.specs.Grid.{Key, key_of}
 use Rattle.doc_model.specs.declared.job.Job.{Job}
 use Rattle.doc_model.specs.declared.job.Kind.{Kind}
 use Rattle.doc_model.specs.Layers.{Layer, at}
-use Rattle.doc_model.specs.Jobs.{reads, writes, apply_all, shot_of}
+use Rattle.doc_model.specs.Jobs.{reads, writes, apply_all}
+use Rattle.doc_model.specs.Shots.{shot_of}
 use Rattle.doc_model.specs.Forest.{content, with_content}
 use Rattle.doc_model.specs.Strokes.{Jobs, Stroke, one_run, is_uni}
 use Rattle.machine_model.specs.State.{Slot, Free, Paints, Walks, State, head_stroke}

@@ -1,8 +1,7 @@
 -- The patches that wait, and the walks at work.
 use Rattle.std.specs.Prelude.{◌≡◌, ℕ, ◌==◌, Bool, true, ◌||◌, ◌&&◌, not, List, [], ◌∷◌, map}
 use Rattle.std.specs.List.{list_all, AllByRecursion}
-use Rattle.geom_core.specs.Points.{Point}
-use Rattle.geom_core.specs.Areas.{Area, holds, meets}
+use Rattle.geom_core.specs.Areas.{Area, holds, meets, Point}
 use Rattle.doc_model.specs.declared.canvas.Walk.{Walk}
 use Rattle.doc_model.specs.declared.canvas.Walk.TheVariants.{Up, All}
 use Rattle.doc_model.specs.declared.canvas.Patch.{Patch}

@@ -1,11 +1,10 @@
 -- What a walk reads, and what it computes.
 use Rattle.std.specs.Prelude.{ℕ, ◌==◌, if◌then◌else◌, List, [], ◌∷◌, map}
 use Rattle.pixel_core.specs.Rgba.{Rgba, clear}
-use Rattle.geom_core.specs.Points.{Point}
-use Rattle.geom_core.specs.Areas.{Area}
+use Rattle.geom_core.specs.Areas.{Area, Point}
 use Rattle.doc_model.specs.declared.canvas.Patch.{Patch}
 use Rattle.doc_model.specs.Layers.{at}
-use Rattle.doc_model.specs.Jobs.{shot_of}
+use Rattle.doc_model.specs.Shots.{shot_of}
 use Rattle.doc_model.specs.Picture.{with_look}
 use Rattle.machine_model.specs.State.{Child, State}
 use Rattle.machine_model.specs.Groups.{children_of, path_of}

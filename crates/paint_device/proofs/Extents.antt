@@ -8,7 +8,8 @@ use Rattle.std.specs.FinMap as map
 use Rattle.std.specs.BTreeMap as tree
 use Rattle.std.specs.BTreeMap.{BTreeMap, is_at}
 use Rattle.std.specs.Map.{lookup}
-use Rattle.geom_core.specs.Areas.{Area, area, lies_in, bound}
+use Rattle.geom_core.specs.Areas.{Area, area, lies_in}
+use Rattle.geom_core.specs.Overlaps.{bound}
 use Rattle.geom_core.specs.Grid.{Key, key_cmp, same_key, tile}
 use Rattle.geom_core.proofs.Tests.{and_left, and_right, both_true}
 use Rattle.geom_core.proofs.Tiles.{key_same}

@@ -8,8 +8,8 @@ use Rattle.std.proofs.lemmas.Option.{get_or_from_slice_get, slice_get_within}
 use Rattle.std.proofs.lemmas.List.{take_more}
 use Rattle.std.proofs.Math.Seq.{take-length}
 use Rattle.pixel_core.specs.Rgba.{Rgba}
-use Rattle.geom_core.specs.Points.{Point}
-use Rattle.geom_core.specs.Areas.{Area, any_holds}
+use Rattle.geom_core.specs.Areas.{Area, Point}
+use Rattle.geom_core.specs.Overlaps.{any_holds}
 use Rattle.geom_core.specs.Grid.{Key, key_of, key_cmp, same_key, keys_of, all_keys_of, key_cmp_total}
 use Rattle.geom_core.proofs.Keys.{key_of_any_held}
 use Rattle.tile_core.specs.Pixels.{Pixels, pixel_or}

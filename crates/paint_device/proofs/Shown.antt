@@ -3,12 +3,13 @@ use Rattle.std.proofs.Common.{◌≡◌, Bool, true, false, ◌&&◌, List, [], 
 use Rattle.std.specs.Prelude.{map}
 use Rattle.std.specs.List.{list_any}
 use Rattle.std.specs.FinMap as fin
-use Rattle.geom_core.specs.Points.{Point}
-use Rattle.geom_core.specs.Areas.{holds, any_holds}
+use Rattle.geom_core.specs.Areas.{holds, Point}
+use Rattle.geom_core.specs.Overlaps.{any_holds}
 use Rattle.geom_core.specs.Grid.{Key, key_of, same_key, tile}
 use Rattle.geom_core.proofs.Tests.{true_or_false, is_some-None, or_left, or_right, or_cases, taken, kept}
 use Rattle.geom_core.proofs.Tiles.{own_tile, key_same}
-use Rattle.doc_model.specs.Layers.{at, at-painted, at-plain, default-painted, default-plain}
+use Rattle.doc_model.specs.Layers.{at}
+use Rattle.doc_model.proofs.LayerLaws.{at-painted, at-plain, default-painted, default-plain}
 use Rattle.std.specs.Option.{unwrap_or}
 use Rattle.tile_core.specs.Pixels.{pixel_or}
 use Rattle.paint_device.specs.Sheets.{Sheet, sheet_at}

@@ -3,8 +3,7 @@ use Rattle.std.proofs.Common.{◌≡◌, ℕ, ◌+◌, ◌*◌, ◌%◌, ◌<◌
 use Rattle.std.specs.FinMap as map
 use Rattle.std.proofs.lemmas.List.{get_or-replicate}
 use Rattle.pixel_core.specs.Rgba.{Rgba, clear}
-use Rattle.geom_core.specs.Points.{Point}
-use Rattle.geom_core.specs.Areas.{holds}
+use Rattle.geom_core.specs.Areas.{holds, Point}
 use Rattle.geom_core.specs.Grid.{Key, key_of, same_key, tile, key_cmp_total}
 use Rattle.geom_core.specs.Place.{across, down}
 use Rattle.geom_core.proofs.Tests.{true_or_false, taken, kept}

@@ -1,6 +1,6 @@
 -- What holds of every device's value.
 use Rattle.std.specs.Prelude.{◌≡◌, Option, if◌then◌else◌}
-use Rattle.geom_core.specs.Points.{Point}
+use Rattle.geom_core.specs.Areas.{Point}
 use Rattle.geom_core.specs.Grid.{Key, key_of, same_key}
 use Rattle.tile_core.specs.Pixels.{Pixels, pixel_or}
 use Rattle.doc_model.specs.Layers.{at}

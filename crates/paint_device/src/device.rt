@@ -4,8 +4,8 @@ ghost use Rattle.std.specs.Prelude.{◌+◌, ◌∷◌, [], ◌≡◌, IfOk, OnO
 ghost use Rattle.std.specs.Option.{option_copied};
 ghost use Rattle.std.specs.FinMap as map;
 ghost use Rattle.geom_core.specs.Grid.{Key, IsWorldKey, keys_of};
-ghost use Rattle.geom_core.specs.Areas.{holds, any_holds, world};
-ghost use Rattle.geom_core.specs.Points.{Point, point};
+ghost use Rattle.geom_core.specs.Overlaps.{any_holds};
+ghost use Rattle.geom_core.specs.Areas.{Point, point, holds, world};
 ghost use Rattle.memento_core.specs.Planes.{tile_under};
 ghost use Rattle.tile_core.specs.Blocks.{LaysBlock};
 ghost use Rattle.tile_core.specs.Shots.{sight_at};

@@ -1,7 +1,8 @@
 -- Rounding to the nearest whole number, and products of fractions.
 use Rattle.std.proofs.Common.{◌≡◌, ℕ, ◌+◌, ◌*◌, ◌/◌, ◌≤◌, ◌<◌, arith, ap, ◌∙◌}
 use Rattle.std.proofs.lemmas.Nat.{div-mul-add}
-use Rattle.pixel_core.specs.Bytes.{mul, nearest, IsNearest}
+use Rattle.pixel_core.specs.Bytes.{IsNearest}
+use Rattle.pixel_core.specs.Compose.{mul, nearest}
 use Rattle.pixel_core.specs.Laws.{LawsOfMul}
 
 -- a whole number is the nearest to itself

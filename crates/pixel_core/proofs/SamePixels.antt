@@ -1,5 +1,5 @@
 -- The test of pixels.
-use Rattle.std.proofs.Common.{◌≡◌, true, arith, subst}
+use Rattle.std.proofs.Common.{◌≡◌, ◌≢◌, true, false, arith, subst}
 use Rattle.std.proofs.lemmas.Bool.Decides.{nat_tests}
 use Rattle.pixel_core.specs.Rgba.{Rgba, rgba, same_pixel}
 
@@ -17,3 +17,7 @@ same_pixel-Decides p q = ((λ t. one p q t), (λ e. subst (λ v. same_pixel p v 
         let eb : p.b ≡ q.b = grind (arith, nat_tests) in
         let ea : p.a ≡ q.a = grind (arith, nat_tests) in
         λ i. rgba (er i) (eg i) (eb i) (ea i)
+
+-- pixels that it tells apart differ
+pub other_pixel : (p q : Rgba) → same_pixel p q ≡ false → p ≢ q
+other_pixel p q f e = let t : same_pixel p q ≡ true = (same_pixel-Decides p q).1 e in cc

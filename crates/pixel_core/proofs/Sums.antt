@@ -1,8 +1,7 @@
 -- Bounds of the sums that compose pixels.
 use Rattle.std.proofs.Common.{◌≡◌, ℕ, ◌+◌, ◌-◌, ◌*◌, ◌/◌, ◌≤◌, ◌<◌, arith, ap, refl, ◌≢◌, ◌==◌, true, false}
 use Rattle.std.proofs.Math.Nat.{mul-le-mul_left, div-lt_iff_lt-mul}
-use Rattle.pixel_core.specs.Bytes.{mul, nearest}
-use Rattle.pixel_core.specs.Compose.{weight, compose, laid, channel}
+use Rattle.pixel_core.specs.Compose.{weight, compose, laid, channel, mul, nearest}
 use Rattle.pixel_core.specs.Rgba.{Rgba, if_canonical, rgba}
 use Rattle.pixel_core.specs.declared.blending.Op.{Op}
 use Rattle.pixel_core.specs.declared.blending.Op.TheVariants.{Over, Erase, Multiply, Screen, Addition}

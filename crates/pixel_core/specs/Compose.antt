@@ -10,11 +10,18 @@
 --
 -- Where they round is not in that text: the source's alpha times the strength, a product in B, the alpha that Erase
 -- leaves, and each channel of the result are each rounded to the nearest 255th.
-use Rattle.std.specs.Prelude.{ℕ, ◌+◌, ◌-◌, ◌*◌, ◌==◌, if◌then◌else◌, min, List, [], ◌∷◌}
+use Rattle.std.specs.Prelude.{ℕ, ◌+◌, ◌-◌, ◌*◌, ◌/◌, ◌==◌, if◌then◌else◌, min, List, [], ◌∷◌}
 use Rattle.pixel_core.specs.declared.blending.Op.{Op}
 use Rattle.pixel_core.specs.declared.blending.Op.TheVariants.{Over, Erase, Multiply, Screen, Addition}
-use Rattle.pixel_core.specs.Bytes.{nearest, mul}
 use Rattle.pixel_core.specs.Rgba.{Rgba, clear}
+
+-- n / w, rounded to the nearest whole number, a half upwards
+abbrev pub nearest : ℕ → ℕ → ℕ
+nearest n w = (2 * n + w) / (2 * w)
+
+-- the whole number nearest to a * b / 255
+unfoldable pub mul : ℕ → ℕ → ℕ
+mul a b = nearest (a * b) 255
 
 -- B: the colour where both cover, for one channel
 abbrev pub blend : Op → ℕ → ℕ → ℕ

@@ -2,9 +2,8 @@
 use Rattle.std.specs.Prelude.{ℕ, ◌≡◌, ◌≢◌, ◌≤◌}
 use Rattle.pixel_core.specs.declared.blending.Op.{Op}
 use Rattle.pixel_core.specs.declared.blending.Op.TheVariants.{Over, Erase}
-use Rattle.pixel_core.specs.Bytes.{mul}
 use Rattle.pixel_core.specs.Rgba.{Rgba, clear, IsCanonical}
-use Rattle.pixel_core.specs.Compose.{compose}
+use Rattle.pixel_core.specs.Compose.{compose, mul}
 
 -- the fractions 255 / 255 and 0 / 255, and the order of two
 pub record LawsOfMul : Type 0 where

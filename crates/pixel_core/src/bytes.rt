@@ -1,7 +1,8 @@
 //! Bytes as fractions of 255.
 
 ghost use Rattle.std.specs.Prelude.{◌≡◌, ◌≤◌, ◌*◌};
-ghost use Rattle.pixel_core.specs.Bytes.{nearest, mul as product, IsNearest};
+ghost use Rattle.pixel_core.specs.Bytes.{IsNearest};
+ghost use Rattle.pixel_core.specs.Compose.{nearest, mul as product};
 
 /// The product of two fractions that are counted in 255ths: the whole number nearest to
 /// `a * b / 255`. There are no ties, since 255 is odd.

@@ -3,7 +3,8 @@
 ghost use Rattle.std.specs.Prelude.{◌≡◌};
 ghost use Rattle.std.proofs.Common.{rules};
 ghost use Rattle.std.specs.Cmp.Rules.{comparing};
-ghost use Rattle.pixel_core.specs.Rgba.{if_canonical, bytes_of, IsCanonical};
+ghost use Rattle.pixel_core.specs.Rgba.{if_canonical, IsCanonical};
+ghost use Rattle.pixel_core.specs.Words.{bytes_of};
 
 use std::marker::Model;
 

@@ -3,9 +3,8 @@ use Rattle.std.proofs.Common.{◌≡◌, ℕ, ◌+◌, ◌-◌, ◌*◌, arith, 
 use Rattle.std.proofs.lemmas.Bool.Decides.{nat_tests}
 use Rattle.pixel_core.specs.declared.blending.Op.{Op}
 use Rattle.pixel_core.specs.declared.blending.Op.TheVariants.{Over, Erase, Multiply, Screen, Addition}
-use Rattle.pixel_core.specs.Bytes.{nearest, mul}
 use Rattle.pixel_core.specs.Rgba.{Rgba, rgba, clear, if_canonical}
-use Rattle.pixel_core.specs.Compose.{weight, channel, laid, composed_at, compose, blend}
+use Rattle.pixel_core.specs.Compose.{weight, channel, laid, composed_at, compose, blend, nearest, mul}
 use Rattle.pixel_core.proofs.Rounding.{whole}
 
 -- without alpha the source's colour is nothing

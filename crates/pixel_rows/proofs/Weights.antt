@@ -5,9 +5,8 @@ use Rattle.std.proofs.lemmas.Nat.{div-mul-add}
 use Rattle.std.proofs.Math.Nat.{div-add-mod, mod-lt}
 use Rattle.pixel_core.specs.declared.blending.Op.{Op}
 use Rattle.pixel_core.specs.declared.blending.Op.TheVariants.{Over, Erase}
-use Rattle.pixel_core.specs.Bytes.{nearest}
 use Rattle.pixel_core.specs.Rgba.{Rgba, if_canonical, rgba, clear}
-use Rattle.pixel_core.specs.Compose.{weight, channel, laid, compose, blend}
+use Rattle.pixel_core.specs.Compose.{weight, channel, laid, compose, blend, nearest}
 use Rattle.pixel_core.proofs.Rounding.{whole}
 use Rattle.pixel_core.proofs.Sums.{composed_laid, same_rgba, test_false, test_true, heavy}
 

@@ -2,8 +2,7 @@
 
 ghost use Rattle.std.specs.Prelude.{◌≡◌, ◌+◌, ◌*◌, ◌<◌, ◌≤◌, ◌-◌};
 ghost use Rattle.pixel_core.specs.declared.blending.Op.TheVariants.{Over};
-ghost use Rattle.pixel_core.specs.Bytes.{nearest};
-ghost use Rattle.pixel_core.specs.Compose.{compose as composed};
+ghost use Rattle.pixel_core.specs.Compose.{compose as composed, nearest};
 ghost use Rattle.pixel_rows.specs.declared.quotient.TheConstants.{LOW_BITS, HIGH_BITS};
 
 use crate::quotient::{guess, miss, reciprocal};

@@ -3,8 +3,7 @@
 ghost use Rattle.std.specs.Prelude.{◌≡◌, ◌≢◌, ◌+◌, ◌*◌, ◌<◌, ◌≤◌, ◌-◌};
 ghost use Rattle.pixel_core.specs.declared.blending.Op.{Op};
 ghost use Rattle.pixel_core.specs.declared.blending.Op.TheVariants.{Erase};
-ghost use Rattle.pixel_core.specs.Bytes.{nearest};
-ghost use Rattle.pixel_core.specs.Compose.{blend, compose as composed, weight};
+ghost use Rattle.pixel_core.specs.Compose.{blend, compose as composed, weight, nearest};
 ghost use Rattle.pixel_rows.specs.declared.quotient.TheConstants.{LOW_BITS, HIGH_BITS};
 
 use crate::mixing::{Guess, Mixed, nearest_255th};

@@ -3,14 +3,13 @@ use Rattle.std.proofs.Common.{◌≡◌, ℕ, suc, ◌+◌, List, [], ◌∷◌,
 use Rattle.std.specs.List.{concat, flat_map}
 use Rattle.std.proofs.lemmas.Option.{get_or_from_slice_get, slice_get_within}
 use Rattle.tile_core.specs.Frames.{Scene, Shows, colours_at}
-use Rattle.geom_core.specs.Points.{Point}
-use Rattle.geom_core.specs.Areas.{area, points_of}
+use Rattle.geom_core.specs.Areas.{area, points_of, Point}
 use Rattle.std.specs.Prelude.{Option, Some, Result, Ok, Err, OnOk, OnErr, pos, ◌*◌, slice_get}
 use Rattle.std.specs.Io.KnownBytes.{Appends}
 use Rattle.io_edge.specs.declared.outside.Failed.{Failed}
-use Rattle.io_edge.specs.Bytes.{AppendsPrefix}
+use Rattle.io_edge.specs.Told.{AppendsPrefix}
 use Rattle.io_edge.proofs.Written.{prefix_behind, appends_to, flat_at}
-use Rattle.ppm_out.specs.Pictures.{colours_of, scene_bytes}
+use Rattle.ppm_out.specs.Scenes.{colours_of, scene_bytes}
 
 -- the colours of points, one after another
 pub concat_is : (f : Point → List ℕ) (ps : List Point) → flat_map f ps ≡ concat (map f ps)

@@ -4,9 +4,10 @@ ghost use Rattle.std.specs.Prelude.{◌*◌, ◌≤◌, OnOk, OnErr, length, All
 ghost use Rattle.std.specs.List.{flat_map};
 ghost use Rattle.tile_core.specs.Frames.{Scene, Shows};
 ghost use Rattle.std.specs.Io.KnownBytes.{Appends};
-ghost use Rattle.io_edge.specs.Bytes.{AppendsPrefix};
+ghost use Rattle.io_edge.specs.Told.{AppendsPrefix};
 ghost use Rattle.io_edge.specs.Faults.{HasCause};
-ghost use Rattle.ppm_out.specs.Pictures.{header, frame_bytes, colours_of, scene_bytes};
+ghost use Rattle.ppm_out.specs.Pictures.{header, frame_bytes};
+ghost use Rattle.ppm_out.specs.Scenes.{colours_of, scene_bytes};
 
 use io_edge::{Failed, Sink, write_all, write_pieces};
 use itoa::Buffer;

@@ -6,10 +6,8 @@ use Rattle.doc_model.specs.declared.job.Job.{Job}
 use Rattle.doc_model.specs.declared.job.Job.TheVariants as job
 use Rattle.doc_model.specs.declared.command.Command.TheVariants.{Add}
 use Rattle.script_lines.specs.declared.cause.Cause.{Cause}
-use Rattle.script_lines.specs.Numbers.{natural}
-use Rattle.script_lines.specs.Colours.{rgba}
-use Rattle.script_lines.specs.Lines.{is_field, with_field}
-use Rattle.script_lines.specs.Fronts.{Begins}
+use Rattle.script_lines.specs.Values.{rgba, natural}
+use Rattle.script_lines.specs.Fronts.{Begins, is_field, with_field}
 use Rattle.script_lines.proofs.FieldLemmas.{space_lines, feed_lines}
 use Rattle.script_forms.specs.declared.words.Work.{Work}
 use Rattle.script_forms.specs.declared.words.Work.TheVariants.{Fill, Dab}

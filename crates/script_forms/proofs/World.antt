@@ -3,13 +3,14 @@ use Rattle.std.proofs.Common.{◌≡◌, ℕ, ◌+◌, ◌*◌, ◌≤◌, nat_l
 use Rattle.std.specs.Prelude.{ℤ, pos, negsuc, ◌+ℤ◌, ◌-ℤ◌, int_le}
 use borrow.Author.Differences.{ints}
 use Rattle.geom_core.specs.Areas.{Area, area, lies_in, world}
-use Rattle.doc_model.specs.Jobs.{grown}
+use Rattle.doc_model.specs.Jobs.{grown, checks}
 use Rattle.doc_model.specs.declared.job.Job.{Job}
-use Rattle.doc_model.specs.Lawful.{checks, within_limits}
+use Rattle.doc_model.specs.Lawful.{within_limits}
 use Rattle.std.proofs.lemmas.Bool.Decides.{nat_tests}
 use Rattle.script_lines.specs.declared.cause.Cause.{Cause}
 use Rattle.script_lines.specs.declared.cause.Cause.TheVariants.{OutOfWorld}
-use Rattle.script_forms.specs.Jobs.{in_world, checked}
+use Rattle.script_forms.specs.Jobs.{checked}
+use Rattle.script_forms.specs.Ranges.{in_world}
 
 pub both : (a b : Bool) → a ≡ true → b ≡ true → (a && (b && true)) ≡ true
 both a b h k = rw (h, k) refl

@@ -8,9 +8,7 @@ use Rattle.doc_model.specs.declared.command.Command.{Command}
 use Rattle.doc_model.specs.declared.command.Command.TheVariants as command
 use Rattle.script_lines.specs.declared.cause.Cause.{Cause}
 use Rattle.script_lines.specs.declared.cause.Cause.TheVariants.{FieldCount}
-use Rattle.script_lines.specs.Causes.{◌>>=◌}
-use Rattle.script_lines.specs.Numbers.{natural}
-use Rattle.script_lines.specs.Colours.{rgb, rgba}
+use Rattle.script_lines.specs.Values.{rgb, rgba, natural, ◌>>=◌}
 use Rattle.script_forms.specs.declared.words.Word.{Word}
 use Rattle.script_forms.specs.declared.words.Word.TheVariants.{Layer, Group, Remove, Place, Look, Stroke, Paint, End, Cancel, Undo, Redo, Purge, Export}
 use Rattle.script_forms.specs.Words.{op_of, seen_of, exclusive_of}

@@ -1,22 +1,20 @@
 -- The lines that add a job to a stroke, behind their command word.
-use Rattle.std.specs.Prelude.{ℕ, ℤ, pos, negsuc, ◌≤ℤ◌, ◌≤◌, ◌==◌, List, [], ◌∷◌, length, Result, Ok, Err, if◌then◌else◌}
-use Rattle.geom_core.specs.Areas.{Area, area, lies_in, world}
+use Rattle.std.specs.Prelude.{ℕ, ℤ, pos, negsuc, ◌==◌, List, [], ◌∷◌, length, Result, Ok, Err, if◌then◌else◌}
+use Rattle.geom_core.specs.Areas.{Area, area}
 use Rattle.doc_model.specs.declared.job.Job.{Job}
 use Rattle.doc_model.specs.declared.job.Job.TheVariants as job
 use Rattle.doc_model.specs.declared.command.Command.{Command}
 use Rattle.doc_model.specs.declared.command.Command.TheVariants.{Add}
-use Rattle.doc_model.specs.Lawful.{checks}
 use Rattle.script_lines.specs.declared.cause.Cause.{Cause}
 use Rattle.script_lines.specs.declared.cause.Cause.TheVariants.{FieldCount, OutOfWorld}
-use Rattle.script_lines.specs.Causes.{◌>>=◌}
-use Rattle.script_lines.specs.Numbers.{natural, number_in}
-use Rattle.script_lines.specs.Colours.{rgba}
 use Rattle.script_forms.specs.declared.words.Work.{Work}
 use Rattle.script_forms.specs.declared.words.Work.TheVariants.{Fill, Dab, Move, Blur}
 use Rattle.script_forms.specs.declared.jobs.Outline.{Outline}
 use Rattle.script_forms.specs.declared.jobs.Ink.{Ink}
 use Rattle.script_forms.specs.declared.jobs.Tip.{Tip}
 use Rattle.script_forms.specs.Words.{kind_of, op_of, edge_of}
+use Rattle.doc_model.specs.Jobs.{checks}
+use Rattle.script_lines.specs.Values.{natural, rgba, ◌>>=◌, number_in}
 
 -- the fields of a line behind its command word
 abbrev pub Fields : Type 0
@@ -42,17 +40,6 @@ outline left top width height = do
 abbrev pub area_of : Outline → Area
 area_of o = area o.x o.y o.w o.h
 
--- the numbers are in their ranges
-pub record IsOutline (o : Outline) : Type 0 where
-  pub left : negsuc 32767 ≤ℤ o.x
-  pub right : o.x ≤ℤ pos 32767
-  pub top : negsuc 32767 ≤ℤ o.y
-  pub bottom : o.y ≤ℤ pos 32767
-  pub some_w : 1 ≤ o.w
-  pub w : o.w ≤ 4096
-  pub some_h : 1 ≤ o.h
-  pub h : o.h ≤ 4096
-
 -- a colour, and how it is laid on
 unfoldable pub ink : List ℕ → List ℕ → List ℕ → Result Ink Cause
 ink colour operation strength = do
@@ -69,18 +56,6 @@ tip left top radius edge = do
   r ← natural 0 128 radius
   soft ← edge_of edge
   Ok (record { x = x; y = y; r = r; soft = soft })
-
--- the numbers are in their ranges
-pub record IsTip (t : Tip) : Type 0 where
-  pub left : negsuc 32767 ≤ℤ t.x
-  pub right : t.x ≤ℤ pos 32767
-  pub top : negsuc 32767 ≤ℤ t.y
-  pub bottom : t.y ≤ℤ pos 32767
-  pub r : t.r ≤ 128
-
--- a rectangle, where the world holds it
-abbrev pub in_world : Area → Result Area Cause
-in_world a = if lies_in a world then Ok a else Err OutOfWorld
 
 -- a job, all of whose read rectangles lie in the world
 abbrev pub checked : Job → Result Job Cause

@@ -1,7 +1,8 @@
 -- Lines of jobs at the front of a text.
 use Rattle.std.specs.Prelude.{ℕ, ◌≡◌, List, [], ◌∷◌, Ok}
 use Rattle.doc_model.specs.declared.command.Command.{Command}
-use Rattle.script_lines.specs.Lines.{lines, with_field}
+use Rattle.script_lines.specs.Lines.{lines}
+use Rattle.script_lines.specs.Fronts.{with_field}
 use Rattle.script_forms.specs.declared.words.Work.{Work}
 use Rattle.script_forms.specs.declared.jobs.Outline.{Outline}
 use Rattle.script_forms.specs.declared.jobs.Ink.{Ink}

@@ -1,5 +1,5 @@
 -- The ranges of numbers in scripts.
-use Rattle.std.specs.Prelude.{ℕ, ◌==◌, nat_le, Bool, true, ◌&&◌}
+use Rattle.std.specs.Prelude.{ℕ, ◌==◌, nat_le, pos, Bool, negsuc, true, ◌≤ℤ◌, ◌&&◌, ◌≤◌, Result, Ok, Err, if◌then◌else◌}
 use Rattle.script_lines.specs.Colours.{is_byte, is_pixel}
 use Rattle.doc_model.specs.declared.canvas.Canvas.{Canvas}
 use Rattle.doc_model.specs.declared.job.Job.{Job}
@@ -8,7 +8,13 @@ use Rattle.doc_model.specs.declared.tree.Change.{Change}
 use Rattle.doc_model.specs.declared.tree.Change.TheVariants as change
 use Rattle.doc_model.specs.declared.command.Command.{Command}
 use Rattle.doc_model.specs.declared.command.Command.TheVariants as command
-use Rattle.doc_model.specs.Lawful.{checks, within_limits}
+use Rattle.doc_model.specs.Lawful.{within_limits}
+use Rattle.geom_core.specs.Areas.{Area, lies_in, world}
+use Rattle.script_lines.specs.declared.cause.Cause.{Cause}
+use Rattle.script_lines.specs.declared.cause.Cause.TheVariants.{OutOfWorld}
+use Rattle.script_forms.specs.declared.jobs.Outline.{Outline}
+use Rattle.script_forms.specs.declared.jobs.Tip.{Tip}
+use Rattle.doc_model.specs.Jobs.{checks}
 
 -- a node's number
 abbrev pub is_id : ℕ → Bool
@@ -55,3 +61,26 @@ in_range command.Export = true
 abbrev pub is_sound : Command → Bool
 is_sound (command.Add n kind job) = checks job && within_limits job
 is_sound c = true
+
+-- the numbers are in their ranges
+pub record IsOutline (o : Outline) : Type 0 where
+  pub left : negsuc 32767 ≤ℤ o.x
+  pub right : o.x ≤ℤ pos 32767
+  pub top : negsuc 32767 ≤ℤ o.y
+  pub bottom : o.y ≤ℤ pos 32767
+  pub some_w : 1 ≤ o.w
+  pub w : o.w ≤ 4096
+  pub some_h : 1 ≤ o.h
+  pub h : o.h ≤ 4096
+
+-- the numbers are in their ranges
+pub record IsTip (t : Tip) : Type 0 where
+  pub left : negsuc 32767 ≤ℤ t.x
+  pub right : t.x ≤ℤ pos 32767
+  pub top : negsuc 32767 ≤ℤ t.y
+  pub bottom : t.y ≤ℤ pos 32767
+  pub r : t.r ≤ 128
+
+-- a rectangle, where the world holds it
+abbrev pub in_world : Area → Result Area Cause
+in_world a = if lies_in a world then Ok a else Err OutOfWorld

@@ -1,7 +1,7 @@
 //! What each line says by itself.
 
 ghost use Rattle.std.specs.Prelude.{◌≡◌, [], ◌∷◌, nat_le, ◌&&◌, true, IfOk};
-ghost use Rattle.script_lines.specs.Lines.{pointed};
+ghost use Rattle.script_lines.specs.Fronts.{pointed};
 ghost use Rattle.script_forms.specs.Ranges.{in_limits, is_spot, is_number, change_in_range, in_range, is_sound};
 ghost use Rattle.script_forms.specs.Forms.{sides as told_sides, canvas as told_canvas, spot as told_spot, layer as told_layer, group as told_group, remove as told_remove, place as told_place, look as told_look, stroke as told_stroke, one_number as told_number, alone as told_alone, command_of as told_command};
 

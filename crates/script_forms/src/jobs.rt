@@ -3,12 +3,12 @@
 ghost use Rattle.std.specs.Prelude.{◌≡◌, true, ◌&&◌, ◌≤◌, pos, negsuc, ◌≤ℤ◌, ◌+◌, ◌*◌, ◌-ℤ◌, IfOk, [], ◌∷◌};
 ghost use Rattle.geom_core.specs.Areas.{area, lies_in, world, moved};
 ghost use Rattle.doc_model.specs.declared.job.Job.TheVariants.{Fill, Dab, Move, Blur};
-ghost use Rattle.doc_model.specs.Jobs.{square, grown};
-ghost use Rattle.script_lines.specs.Lines.{pointed};
+ghost use Rattle.doc_model.specs.Jobs.{square, grown, checks};
+ghost use Rattle.script_lines.specs.Fronts.{pointed};
 ghost use Rattle.script_lines.specs.Colours.{is_pixel, is_byte};
-ghost use Rattle.doc_model.specs.Lawful.{checks, within_limits};
-ghost use Rattle.script_forms.specs.Ranges.{job_in_range, in_range, is_sound};
-ghost use Rattle.script_forms.specs.Jobs.{outline as told_outline, IsOutline, ink as told_ink, tip as told_tip, IsTip, fill as told_fill, dab as told_dab, move_by as told_move, blur as told_blur, job_of as told_job, job_fields as fields_of_job, paint as told_paint, in_world, area_of, checked};
+ghost use Rattle.doc_model.specs.Lawful.{within_limits};
+ghost use Rattle.script_forms.specs.Ranges.{job_in_range, in_range, is_sound, IsOutline, IsTip, in_world};
+ghost use Rattle.script_forms.specs.Jobs.{outline as told_outline, ink as told_ink, tip as told_tip, fill as told_fill, dab as told_dab, move_by as told_move, blur as told_blur, job_of as told_job, job_fields as fields_of_job, paint as told_paint, area_of, checked};
 
 use crate::words::{Work, edge_of, kind_of, op_of};
 use doc_model::{Command, Job};

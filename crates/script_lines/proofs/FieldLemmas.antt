@@ -11,14 +11,13 @@ use Rattle.std.proofs.lemmas.Int.Digits.{digits_value_is}
 use Rattle.std.proofs.lemmas.Bool.{eqb-true}
 use Rattle.std.proofs.lemmas.Bool.Decides.{nat_tests}
 use Rattle.std.proofs.lemmas.Grind.{common_steps}
-use Rattle.script_lines.specs.Numbers.{is_magnitude, magnitude, number, number_in, natural}
-use Rattle.script_lines.specs.Lines.{is_blank, is_plain, is_field, is_some_field, fields, lines, with_field}
+use Rattle.script_lines.specs.Lines.{is_blank, is_some_field, fields, lines}
 use Rattle.script_lines.specs.declared.cause.Cause.{Cause}
 use Rattle.script_lines.specs.declared.cause.Cause.TheVariants.{Number}
 use Rattle.pixel_core.specs.Rgba.{Rgba}
-use Rattle.script_lines.specs.Causes.{◌>>=◌}
-use Rattle.script_lines.specs.Colours.{hex_digit, hex_byte, pixel_by, rgba}
-use Rattle.script_lines.specs.Fronts.{Begins}
+use Rattle.script_lines.specs.Colours.{pixel_by}
+use Rattle.script_lines.specs.Values.{hex_digit, hex_byte, rgba, ◌>>=◌, is_magnitude, magnitude, number, number_in, natural}
+use Rattle.script_lines.specs.Fronts.{Begins, is_plain, is_field, with_field}
 use Rattle.script_lines.proofs.SpelledPixels.{drop_is}
 
 pub first : (a b : Bool) → (a && b) ≡ true → a ≡ true

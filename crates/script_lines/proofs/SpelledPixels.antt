@@ -3,7 +3,8 @@ use Rattle.std.proofs.Common.{◌≡◌, ◌==◌, ◌∙◌, ℕ, zero, suc, �
 use Rattle.std.proofs.lemmas.Bool.{eqb-true}
 use Rattle.std.proofs.Math.Seq.{drop-cons}
 use Rattle.std.proofs.Math.ListN.{drop_of_length-le}
-use Rattle.script_lines.specs.Colours.{digit_or_more, hex_byte, pixel_by, rgba}
+use Rattle.script_lines.specs.Colours.{digit_or_more, pixel_by}
+use Rattle.script_lines.specs.Values.{hex_byte, rgba}
 use Rattle.script_lines.specs.declared.colours.TheConstants.{WORTHS}
 
 -- whether the table has the values of the first n characters from 0 on

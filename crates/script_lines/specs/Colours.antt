@@ -1,10 +1,10 @@
--- Colours as a field spells them.
-use Rattle.std.specs.Prelude.{ℕ, ◌+◌, ◌*◌, nat_lt, nat_le, ◌==◌, Bool, true, ◌&&◌, List, [], ◌∷◌, Result, Ok, Err, if◌then◌else◌}
+-- Colours, digit by digit.
+use Rattle.std.specs.Prelude.{ℕ, nat_lt, nat_le, ◌==◌, Bool, true, ◌&&◌, Result, Ok, Err, if◌then◌else◌}
 use Rattle.std.specs.Char.{digit_value}
 use Rattle.pixel_core.specs.Rgba.{Rgba, if_canonical}
 use Rattle.script_lines.specs.declared.cause.Cause.{Cause}
 use Rattle.script_lines.specs.declared.cause.Cause.TheVariants.{Number}
-use Rattle.script_lines.specs.Causes.{◌>>=◌}
+use Rattle.script_lines.specs.Values.{◌>>=◌}
 
 abbrev pub is_byte : ℕ → Bool
 is_byte n = nat_le n 255
@@ -12,17 +12,6 @@ is_byte n = nat_le n 255
 -- whether the numbers are those of a pixel: bytes, all 0 where the alpha is 0
 abbrev pub is_pixel : Rgba → Bool
 is_pixel p = ((is_byte p.r && is_byte p.g) && (is_byte p.b && is_byte p.a)) && (if p.a == 0 then (p.r == 0 && p.g == 0) && p.b == 0 else true)
-
--- the value of a hexadecimal digit, of either case
-abbrev pub hex_digit : ℕ → Result ℕ Cause
-hex_digit b = if nat_lt (digit_value b) 16 then Ok (digit_value b) else Err Number
-
--- the byte that two hexadecimal digits spell
-unfoldable pub hex_byte : ℕ → ℕ → Result ℕ Cause
-hex_byte high low = do
-  x ← hex_digit high
-  y ← hex_digit low
-  Ok (16 * x + y)
 
 -- the value of a hexadecimal digit, or 256 where it is none
 abbrev pub digit_or_more : ℕ → ℕ
@@ -40,22 +29,3 @@ pixel_by told_red told_green told_blue told_alpha = do
   blue ← told_blue
   alpha ← told_alpha
   Ok (if_canonical red green blue alpha)
-
--- six hexadecimal digits: an opaque pixel
-unfoldable pub rgb : List ℕ → Result Rgba Cause
-rgb (a ∷ b ∷ c ∷ d ∷ e ∷ f ∷ []) = do
-  red ← hex_byte a b
-  green ← hex_byte c d
-  blue ← hex_byte e f
-  Ok (if_canonical red green blue 255)
-rgb _ = Err Number
-
--- eight hexadecimal digits: a pixel, clear where the alpha is 0
-unfoldable pub rgba : List ℕ → Result Rgba Cause
-rgba (a ∷ b ∷ c ∷ d ∷ e ∷ f ∷ g ∷ h ∷ []) = do
-  red ← hex_byte a b
-  green ← hex_byte c d
-  blue ← hex_byte e f
-  alpha ← hex_byte g h
-  Ok (if_canonical red green blue alpha)
-rgba _ = Err Number

@@ -1,5 +1,4 @@
-pub mod Causes
 pub mod Lines
-pub mod Numbers
 pub mod Colours
 pub mod Fronts
+pub mod Values

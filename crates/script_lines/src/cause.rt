@@ -1,7 +1,7 @@
 //! What can be wrong with a line.
 
 ghost use Rattle.std.specs.Prelude.{◌≡◌};
-ghost use Rattle.script_lines.specs.Causes.{text as text_of};
+ghost use Rattle.script_lines.specs.Values.{text as text_of};
 
 /// What is wrong with a line of a script.
 #[derive(Clone, Copy, Debug, PartialEq, Eq)]

@@ -1,7 +1,8 @@
 //! Colours as a field spells them.
 
 ghost use Rattle.std.specs.Prelude.{◌≡◌, ◌≤◌, IfOk, true};
-ghost use Rattle.script_lines.specs.Colours.{digit_or_more, below, pixel_by, hex_byte as byte_of, rgb as rgb_of, rgba as rgba_of, is_pixel};
+ghost use Rattle.script_lines.specs.Colours.{digit_or_more, below, pixel_by, is_pixel};
+ghost use Rattle.script_lines.specs.Values.{hex_byte as byte_of, rgb as rgb_of, rgba as rgba_of};
 
 use crate::Cause;
 use pixel_core::Pixel;
@@ -28,7 +29,7 @@ fn hex_digit(digit: u8) -> u32
 }
 
 /// The byte that two hexadecimal digits spell, or 256 or more where they don't.
-#[tactic(auto, unfolding(crate::specs::Colours::hex_byte))]
+#[tactic(auto, unfolding(crate::specs::Values::hex_byte))]
 #[inline]
 fn hex_byte(high: u8, low: u8) -> u32
     ensures value { below 256 result ≡ byte_of high low }
@@ -51,7 +52,7 @@ fn pixel_of(red: u32, green: u32, blue: u32, alpha: u32) -> Result<Pixel, Cause>
 }
 
 /// Six hexadecimal digits: an opaque pixel.
-#[tactic(auto, unfolding(crate::specs::Colours::rgb))]
+#[tactic(auto, unfolding(crate::specs::Values::rgb))]
 pub fn rgb(field: &[u8]) -> Result<Pixel, Cause>
     ensures value { result ≡ rgb_of field.now }
     ensures pixel { IfOk result (λ p. is_pixel p ≡ true) }
@@ -69,7 +70,7 @@ pub fn rgb(field: &[u8]) -> Result<Pixel, Cause>
 }
 
 /// Eight hexadecimal digits: a pixel, clear where the alpha is 0.
-#[tactic(auto, unfolding(crate::specs::Colours::rgba))]
+#[tactic(auto, unfolding(crate::specs::Values::rgba))]
 #[inline(always)]
 pub fn rgba(field: &[u8]) -> Result<Pixel, Cause>
     ensures value { result ≡ rgba_of field.now }

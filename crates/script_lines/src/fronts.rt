@@ -2,8 +2,8 @@
 //! spelling is read; for any other the answer is None, which says nothing of the text.
 
 ghost use Rattle.std.specs.Prelude.{◌≡◌, ◌<◌, ◌≤◌, ◌≤ℤ◌, ◌+◌, ◌∷◌, ◌++◌, pos, true, IfSome};
-ghost use Rattle.script_lines.specs.Numbers.{number as number_of, number_in as in_range, natural as natural_of};
-ghost use Rattle.script_lines.specs.Colours.{rgba as rgba_of, is_pixel};
+ghost use Rattle.script_lines.specs.Colours.{is_pixel};
+ghost use Rattle.script_lines.specs.Values.{rgba as rgba_of, number as number_of, number_in as in_range, natural as natural_of};
 ghost use Rattle.script_lines.specs.Fronts.{Begins};
 
 use crate::colours::rgba;

@@ -1,12 +1,12 @@
 //! Numbers as a field spells them.
 
 ghost use Rattle.std.specs.Prelude.{◌≡◌, ◌<◌, ◌≤◌, ◌≤ℤ◌, ◌^◌, IfOk};
-ghost use Rattle.script_lines.specs.Numbers.{magnitude as magnitude_of, number as number_of, number_in as in_range, natural as natural_of};
+ghost use Rattle.script_lines.specs.Values.{magnitude as magnitude_of, number as number_of, number_in as in_range, natural as natural_of};
 
 use crate::Cause;
 
 /// The number that one to ten digits spell.
-#[tactic(auto, unfolding(crate::specs::Numbers::magnitude))]
+#[tactic(auto, unfolding(crate::specs::Values::magnitude))]
 fn magnitude(bytes: &[u8]) -> Result<u64, Cause>
     ensures value { result ≡ magnitude_of bytes.now }
     ensures small { IfOk result (λ n. n < 10 ^ 10) }
@@ -24,7 +24,7 @@ fn magnitude(bytes: &[u8]) -> Result<u64, Cause>
     Ok(n)
 }
 
-#[tactic(auto, unfolding(crate::specs::Numbers::number))]
+#[tactic(auto, unfolding(crate::specs::Values::number))]
 fn number(bytes: &[u8]) -> Result<i64, Cause>
     ensures { result ≡ number_of bytes.now }
 {
@@ -36,7 +36,7 @@ fn number(bytes: &[u8]) -> Result<i64, Cause>
 }
 
 /// A number from `low` to `high`.
-#[tactic(auto, unfolding(crate::specs::Numbers::number_in))]
+#[tactic(auto, unfolding(crate::specs::Values::number_in))]
 pub fn number_in(low: i32, high: i32, field: &[u8]) -> Result<i32, Cause>
     ensures value { result ≡ in_range low high field.now }
     ensures above { IfOk result (λ n. low ≤ℤ n) }
@@ -51,7 +51,7 @@ pub fn number_in(low: i32, high: i32, field: &[u8]) -> Result<i32, Cause>
 }
 
 /// A number from `low` to `high`, neither of them below 0.
-#[tactic(auto, unfolding(crate::specs::Numbers::natural))]
+#[tactic(auto, unfolding(crate::specs::Values::natural))]
 pub fn natural(low: u64, high: u64, field: &[u8]) -> Result<u64, Cause>
     ensures value { result ≡ natural_of low high field.now }
     ensures above { IfOk result (λ n. low ≤ n) }

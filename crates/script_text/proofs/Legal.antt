@@ -5,12 +5,13 @@ use Rattle.std.proofs.lemmas.List.Folds.{list_all-append}
 use Rattle.doc_model.specs.declared.command.Command.{Command}
 use Rattle.doc_model.specs.declared.command.Command.TheVariants as command
 use Rattle.doc_model.specs.declared.canvas.Canvas.{Canvas}
-use Rattle.doc_model.specs.Strokes.{Entry, fed, all_fed, entries}
-use Rattle.doc_model.specs.Lawful.{is_stroke, is_open_stroke, has_room, is_export, may_follow, lawful_after, lawful}
+use Rattle.doc_model.specs.Strokes.{Entry, fed, all_fed, entries, is_stroke, is_open_stroke, has_room, is_export}
+use Rattle.doc_model.specs.Lawful.{may_follow, lawful_after, lawful}
 use Rattle.script_lines.specs.declared.cause.Cause.{Cause}
 use Rattle.script_lines.specs.declared.cause.Cause.TheVariants.{UsedAgain, UnknownStroke, ClosedStroke, TooManyJobs, TooManyExports}
-use Rattle.script_text.specs.Following.{misfit, not_open, or_else}
-use Rattle.script_text.specs.Script.{is_script, contents, all_closed}
+use Rattle.script_text.specs.Reading.{misfit, not_open, or_else}
+use Rattle.script_text.specs.Script.{contents}
+use Rattle.script_text.specs.Closed.{is_script, all_closed}
 use Rattle.script_forms.specs.Ranges.{in_range, is_sound, in_limits}
 
 free : (a : Bool) → (if a then Some UsedAgain else None) ≡ None → not a ≡ true

@@ -14,8 +14,7 @@ use Rattle.script_forms.specs.Jobs.{Fields, paint}
 use Rattle.script_forms.specs.Forms.{command_of}
 use Rattle.script_forms.specs.Plain.{IsJobLine}
 use Rattle.script_text.specs.declared.reading.Reading.{Reading}
-use Rattle.script_text.specs.Following.{misfit}
-use Rattle.script_text.specs.Reading.{canvas_in, command_in, first_canvas, start_by, cause_by}
+use Rattle.script_text.specs.Reading.{canvas_in, command_in, first_canvas, start_by, cause_by, misfit}
 use Rattle.script_text.specs.Read.{Takes, TakesCommand}
 use Rattle.script_text.proofs.PrintedWords.{words}
 

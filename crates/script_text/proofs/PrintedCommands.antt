@@ -18,7 +18,7 @@ use Rattle.script_forms.specs.Forms.{command_of, canvas, sides, spot, layer, gro
 use Rattle.script_forms.specs.Ranges.{is_id, is_spot, is_number, change_in_range, in_range, is_sound, in_limits}
 use Rattle.script_text.specs.Text.{rgba_text, spot_fields, ground_fields, mark_fields, canvas_fields}
 use Rattle.script_text.proofs.PrintedFields.{rgba_back, rgb_back}
-use Rattle.script_lines.specs.Lines.{is_field}
+use Rattle.script_lines.specs.Fronts.{is_field}
 use Rattle.script_lines.proofs.FieldLemmas.{first, second, both}
 use Rattle.script_text.proofs.PrintedWords.{op_back, op_field, seen_back, seen_field, mark_back, natural_field, rgba_field, rgb_field, upto_back, from_one_back}
 use Rattle.script_text.proofs.PrintedJobs.{Told, told_job}

@@ -10,8 +10,8 @@ use Rattle.std.proofs.lemmas.Str.{digit_value-digit_char}
 use Rattle.std.proofs.lemmas.Str.Parse.{IsNumeralModel, numerals_by_value}
 use Rattle.std.proofs.lemmas.Fmt.{decimal_is_IsNumeral, digits_decimal, length-decimal-le, decimal_nonempty}
 use Rattle.pixel_core.specs.Rgba.{Rgba, if_canonical, rgba as pixel}
-use Rattle.script_lines.specs.Numbers.{is_magnitude, number, number_in, natural}
-use Rattle.script_lines.specs.Colours.{is_byte, is_pixel, hex_byte, hex_digit, rgb, rgba}
+use Rattle.script_lines.specs.Colours.{is_byte, is_pixel}
+use Rattle.script_lines.specs.Values.{hex_byte, hex_digit, rgb, rgba, is_magnitude, number, number_in, natural}
 use Rattle.script_lines.proofs.FieldLemmas.{first, second, magnitude_by, plain_number, in_natural, in_number}
 use Rattle.script_text.specs.Text.{rgb_text, rgba_text}
 

@@ -13,8 +13,9 @@ use Rattle.doc_model.specs.declared.job.Job.{Job}
 use Rattle.doc_model.specs.declared.job.Job.TheVariants as job
 use Rattle.doc_model.specs.declared.command.Command.{Command}
 use Rattle.doc_model.specs.declared.command.Command.TheVariants.{Add}
-use Rattle.doc_model.specs.Lawful.{checks, within_limits, of_limits}
-use Rattle.script_lines.specs.Numbers.{number_in}
+use Rattle.doc_model.specs.Lawful.{within_limits, of_limits}
+use Rattle.doc_model.specs.Jobs.{checks}
+use Rattle.script_lines.specs.Values.{number_in}
 use Rattle.script_lines.specs.Colours.{is_byte, is_pixel}
 use Rattle.script_forms.specs.declared.words.Work.{Work}
 use Rattle.script_forms.specs.declared.words.Work.TheVariants.{Fill, Dab, Move, Blur}
@@ -27,7 +28,7 @@ use Rattle.script_forms.specs.Forms.{command_of}
 use Rattle.script_forms.specs.Ranges.{job_in_range, is_number}
 use Rattle.script_text.specs.Text.{area_fields, ink_fields, job_text_fields, rgba_text, command_text, line}
 use Rattle.script_text.proofs.PrintedFields.{signed_back, rgba_back}
-use Rattle.script_lines.specs.Lines.{is_field}
+use Rattle.script_lines.specs.Fronts.{is_field}
 use Rattle.script_lines.proofs.FieldLemmas.{first, second, both}
 use Rattle.script_text.proofs.PrintedWords.{kind_back, kind_field, op_back, op_field, edge_back, edge_field, natural_field, signed_field, rgba_field, upto_back, from_one_back}
 

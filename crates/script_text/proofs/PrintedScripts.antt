@@ -11,9 +11,10 @@ use Rattle.script_forms.specs.Jobs.{Fields}
 use Rattle.script_forms.specs.Words.{word_text, canvas_text}
 use Rattle.script_forms.specs.Ranges.{in_range, in_limits, is_sound}
 use Rattle.script_text.specs.declared.reading.Start.{Start}
-use Rattle.script_text.specs.Following.{misfit}
-use Rattle.script_text.specs.Script.{Contents, is_script, all_closed}
-use Rattle.script_text.specs.Reading.{NumberedLine, commands_from, command_lines, canvas_in, command_in, canvas_of, commands_of, starts_of, cause_by, cause, first_canvas, end_by, left_open, left_fault, fault_after, fault_in, fault, contents_by, unless, script_in, script}
+use Rattle.script_text.specs.Script.{Contents}
+use Rattle.script_text.specs.Closed.{is_script, all_closed}
+use Rattle.script_text.specs.Reading.{NumberedLine, commands_from, canvas_in, command_in, canvas_of, commands_of, starts_of, cause_by, cause, first_canvas, end_by, left_open, left_fault, fault_after, fault_in, fault, contents_by, unless, script_in, script, misfit}
+use Rattle.script_text.specs.Pieces.{command_lines}
 use Rattle.script_text.specs.Text.{canvas_fields, command_text, text}
 use Rattle.script_text.specs.Laws.{PrintedReadsBack}
 use Rattle.script_lines.proofs.FieldLemmas.{first, second}

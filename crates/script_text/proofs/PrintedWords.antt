@@ -13,8 +13,9 @@ use Rattle.pixel_core.specs.declared.blending.Op.{Op}
 use Rattle.pixel_core.specs.declared.blending.Op.TheVariants.{Over, Erase, Multiply, Screen, Addition}
 use Rattle.doc_model.specs.declared.job.Kind.{Kind}
 use Rattle.doc_model.specs.declared.job.Kind.TheVariants.{Con, Seq, Bar, Uni}
-use Rattle.script_lines.specs.Lines.{begins_command, is_plain, is_field}
-use Rattle.script_lines.specs.Numbers.{natural}
+use Rattle.script_lines.specs.Lines.{begins_command}
+use Rattle.script_lines.specs.Fronts.{is_plain, is_field}
+use Rattle.script_lines.specs.Values.{natural}
 use Rattle.script_forms.specs.declared.words.Work.TheVariants.{Fill, Dab, Move, Blur}
 use Rattle.script_forms.specs.declared.words.Word.{Word}
 use Rattle.script_forms.specs.declared.words.Word.TheVariants.{Layer, Group, Remove, Place, Look, Stroke, Paint, End, Cancel, Undo, Redo, Purge, Export}

@@ -9,17 +9,17 @@ use Rattle.std.proofs.lemmas.List.Elements.{filter_map-append}
 use Rattle.doc_model.specs.declared.canvas.Canvas.{Canvas}
 use Rattle.doc_model.specs.declared.command.Command.{Command}
 use Rattle.doc_model.specs.declared.command.Command.TheVariants as command
-use Rattle.doc_model.specs.Strokes.{Entry, Strokes, Changes, Undoes, Redoes, Purges, Exports, fed, all_fed, entries}
-use Rattle.doc_model.specs.Lawful.{is_stroke, is_open_stroke, has_room, is_export, is_closed_entry, may_follow, lawful_after, lawful, is_open as is_open_fate}
+use Rattle.doc_model.specs.Strokes.{Entry, Strokes, Changes, Undoes, Redoes, Purges, Exports, fed, all_fed, entries, is_stroke, is_open_stroke, has_room, is_export, is_open as is_open_fate}
+use Rattle.doc_model.specs.Lawful.{is_closed_entry, may_follow, lawful_after, lawful}
 use Rattle.script_lines.specs.declared.cause.Cause.{Cause}
 use Rattle.script_lines.specs.declared.cause.Cause.TheVariants.{UsedAgain, UnknownStroke, ClosedStroke, TooManyJobs, TooManyExports}
 use Rattle.script_text.specs.declared.reading.Start.{Start}
 use Rattle.script_text.specs.declared.reading.Reading.{Reading}
 use Rattle.script_text.specs.declared.script.ScriptFault.{ScriptFault}
-use Rattle.script_text.specs.Following.{misfit, or_else}
-use Rattle.script_text.specs.Script.{is_script, contents, all_closed}
+use Rattle.script_text.specs.Script.{contents}
+use Rattle.script_text.specs.Closed.{is_script, all_closed}
 use Rattle.script_forms.specs.Ranges.{in_range, is_sound, in_limits}
-use Rattle.script_text.specs.Reading.{left_open, left_fault, start_by}
+use Rattle.script_text.specs.Reading.{left_open, left_fault, start_by, misfit, or_else}
 use Rattle.script_text.specs.Read.{IsGathered, TakesCommand, started_by}
 
 and_false : (b : Bool) → (b && false) ≡ false

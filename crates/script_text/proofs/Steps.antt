@@ -10,12 +10,11 @@ use Rattle.doc_model.specs.declared.job.Job.{Job}
 use Rattle.doc_model.specs.declared.job.Kind.{Kind}
 use Rattle.doc_model.specs.declared.command.Command.{Command}
 use Rattle.doc_model.specs.declared.command.Command.TheVariants as command
-use Rattle.doc_model.specs.Strokes.{Entry, Strokes, Changes, Undoes, Redoes, Purges, Exports, Fate, Open, Ended, Cancelled, fed}
-use Rattle.doc_model.specs.Lawful.{is_stroke, is_open_stroke, has_room, is_export, is_open as is_open_fate}
+use Rattle.doc_model.specs.Strokes.{Entry, Strokes, Changes, Undoes, Redoes, Purges, Exports, Fate, Open, Ended, Cancelled, fed, is_stroke, is_open_stroke, has_room, is_export, is_open as is_open_fate}
 use Rattle.script_lines.specs.declared.cause.Cause.{Cause}
 use Rattle.script_lines.specs.declared.cause.Cause.TheVariants.{UsedAgain, TooManyJobs, TooManyExports}
 use Rattle.script_text.specs.declared.table.Fed.{Fed}
-use Rattle.script_text.specs.Following.{misfit, not_open, or_else}
+use Rattle.script_text.specs.Reading.{misfit, not_open, or_else}
 use Rattle.script_text.specs.Table.{Tells, has_fewer, fewer, next_fed, one_more, closed, start_cause, close_cause, job_cause, stroke_cause, export_cause, exports_after}
 use Rattle.script_text.proofs.Tables.{same_any, none_any, same_filter, job_started, job_open, job_export, job_room, job_other, none_fewer, close_started, close_room, close_export, close_itself, close_other, same_number, lt_more}
 

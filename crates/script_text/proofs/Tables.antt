@@ -7,8 +7,7 @@ use Rattle.std.proofs.lemmas.Bool.Decides.{nat_tests}
 use Rattle.doc_model.specs.declared.job.Job.{Job}
 use Rattle.doc_model.specs.declared.job.Kind.{Kind}
 use Rattle.doc_model.specs.declared.command.Command.{Command}
-use Rattle.doc_model.specs.Strokes.{Entry, Strokes, Changes, Undoes, Redoes, Purges, Exports, Fate, with_job, with_fate, fed, all_fed, entries}
-use Rattle.doc_model.specs.Lawful.{is_stroke, is_open_stroke, is_export, is_open as is_open_fate}
+use Rattle.doc_model.specs.Strokes.{Entry, Strokes, Changes, Undoes, Redoes, Purges, Exports, Fate, with_job, with_fate, fed, all_fed, entries, is_stroke, is_open_stroke, is_export, is_open as is_open_fate}
 use Rattle.script_text.specs.Table.{fewer}
 
 pub all_fed-append : (es : List Entry) (cs : List Command) (c : Command) → all_fed es (cs ++ c ∷ []) ≡ fed (all_fed es cs) c

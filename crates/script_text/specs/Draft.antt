@@ -1,8 +1,8 @@
 -- The table of strokes that a draft keeps beside its commands.
 use Rattle.std.specs.Prelude.{◌≡◌, ℕ, ◌≤◌, true, length}
 use Rattle.std.specs.List.{filter, list_all}
-use Rattle.doc_model.specs.Strokes.{entries}
-use Rattle.doc_model.specs.Lawful.{is_export, lawful}
+use Rattle.doc_model.specs.Strokes.{entries, is_export}
+use Rattle.doc_model.specs.Lawful.{lawful}
 use Rattle.script_forms.specs.Ranges.{in_range}
 use Rattle.script_text.specs.Table.{Tells, kept}
 use Rattle.script_text.specs.declared.draft.Draft.TheInside.{Inside}

@@ -1,6 +1,7 @@
 -- Laws of scripts as text.
 use Rattle.std.specs.Prelude.{◌≡◌, true, None, Some}
-use Rattle.script_text.specs.Script.{Contents, is_script}
+use Rattle.script_text.specs.Script.{Contents}
+use Rattle.script_text.specs.Closed.{is_script}
 use Rattle.script_text.specs.Reading.{fault, script}
 use Rattle.script_text.specs.Text.{text}
 

@@ -1,4 +1,3 @@
-pub mod Following
 pub mod Script
 pub mod Reading
 pub mod Read
@@ -7,3 +6,4 @@ pub mod Table
 pub mod Draft
 pub mod Text
 pub mod Laws
+pub mod Closed

@@ -4,6 +4,10 @@ use Rattle.script_forms.specs.Jobs.{Fields}
 use Rattle.script_text.specs.declared.pieces.Reader.{Reader}
 use Rattle.script_text.specs.declared.reading.Reading.{Reading}
 use Rattle.script_text.specs.Reading.{NumberedLine, commands_from, commands_among, canvas_of, commands_of, starts_of, fault_after, fault_in}
+use Rattle.script_lines.specs.Lines.{lines}
+
+abbrev pub command_lines : List ℕ → List NumberedLine
+command_lines bytes = commands_among (lines bytes)
 
 -- what was read is what those lines say
 pub record IsReading (r : Reading) (before : List NumberedLine) : Type 0 where

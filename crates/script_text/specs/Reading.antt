@@ -1,14 +1,13 @@
 -- What the bytes of a script say, or its first fault.
-use Rattle.std.specs.Prelude.{ℕ, suc, if◌then◌else◌, Option, Some, None, Result, Ok, Err, List, [], ◌∷◌, ◌++◌, filter}
+use Rattle.std.specs.Prelude.{ℕ, nat_lt, suc, if◌then◌else◌, not, Option, Some, None, Result, Ok, Err, length, List, [], ◌∷◌, ◌++◌, filter}
 use Rattle.std.specs.List.{list_any, filter_map}
 use Rattle.std.specs.Str.{bytes_eq}
 use Rattle.doc_model.specs.declared.canvas.Canvas.{Canvas}
 use Rattle.doc_model.specs.declared.command.Command.{Command}
 use Rattle.doc_model.specs.declared.command.Command.TheVariants as command
-use Rattle.doc_model.specs.Strokes.{Entry, entries}
-use Rattle.doc_model.specs.Lawful.{is_open_stroke}
+use Rattle.doc_model.specs.Strokes.{Entry, is_open_stroke, is_stroke, entries, has_room, is_export}
 use Rattle.script_lines.specs.declared.cause.Cause.{Cause}
-use Rattle.script_lines.specs.declared.cause.Cause.TheVariants.{UnknownWord, CanvasMissing, CanvasAgain, StrokeLeft}
+use Rattle.script_lines.specs.declared.cause.Cause.TheVariants.{UnknownWord, UsedAgain, CanvasMissing, UnknownStroke, CanvasAgain, ClosedStroke, StrokeLeft, TooManyJobs, TooManyExports}
 use Rattle.script_lines.specs.Lines.{lines, is_command}
 use Rattle.script_forms.specs.declared.words.Word.{Word}
 use Rattle.script_text.specs.declared.script.ScriptFault.{ScriptFault}
@@ -17,7 +16,6 @@ use Rattle.script_text.specs.Script.{Contents, contents}
 use Rattle.script_forms.specs.Words.{word_of, canvas_text}
 use Rattle.script_forms.specs.Jobs.{Fields}
 use Rattle.script_forms.specs.Forms.{canvas, command_of}
-use Rattle.script_text.specs.Following.{misfit}
 
 -- a line and its number
 pub record NumberedLine : Type 0 where
@@ -35,9 +33,6 @@ commands_from n ls = filter (λ l. is_command l.fields) (numbered n ls)
 
 abbrev pub commands_among : List Fields → List NumberedLine
 commands_among ls = commands_from 1 ls
-
-abbrev pub command_lines : List ℕ → List NumberedLine
-command_lines bytes = commands_among (lines bytes)
 
 -- what a step gave, or why it failed
 abbrev pub given : {A : Type 0} → Result A Cause → Option A
@@ -75,6 +70,30 @@ canvas_of (line ∷ others) = first_canvas (canvas_in line.fields) (canvas_of ot
 -- the commands of some lines
 abbrev pub commands_of : List NumberedLine → List Command
 commands_of before = filter_map (λ l. command_in l.fields) before
+
+-- a first cause, or else a second
+abbrev pub or_else : Option Cause → Option Cause → Option Cause
+or_else (Some c) other = Some c
+or_else None other = other
+
+-- why no stroke with that number takes jobs or is closed
+abbrev pub not_open : ℕ → List Entry → Option Cause
+not_open n es =
+    if not (list_any (is_stroke n) es) then Some UnknownStroke
+    else if not (list_any (is_open_stroke n) es) then Some ClosedStroke
+    else None
+
+-- why the command can't follow those that made these entries
+unfoldable pub misfit : List Entry → Command → Option Cause
+misfit es (command.Stroke n layer exclusive) = if list_any (is_stroke n) es then Some UsedAgain else None
+misfit es (command.Add n kind job) = or_else (not_open n es) (if list_any (has_room n) es then None else Some TooManyJobs)
+misfit es (command.End n) = not_open n es
+misfit es (command.Cancel n) = not_open n es
+misfit es command.Export = if nat_lt (length (filter is_export es)) 64 then None else Some TooManyExports
+misfit es (command.Change change) = None
+misfit es command.Undo = None
+misfit es command.Redo = None
+misfit es (command.Purge keep) = None
 
 -- what is wrong with a canvas line, where there was that canvas or none
 abbrev pub canvas_cause : Option Canvas → Fields → Option Cause

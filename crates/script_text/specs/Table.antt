@@ -5,8 +5,7 @@ use Rattle.std.specs.Ordering.{nat_cmp}
 use Rattle.std.specs.BTreeMap.{get}
 use Rattle.doc_model.specs.declared.command.Command.{Command}
 use Rattle.doc_model.specs.declared.command.Command.TheVariants as command
-use Rattle.doc_model.specs.Strokes.{Entry, Strokes}
-use Rattle.doc_model.specs.Lawful.{is_stroke, is_open_stroke}
+use Rattle.doc_model.specs.Strokes.{Entry, Strokes, is_stroke, is_open_stroke}
 use Rattle.script_lines.specs.declared.cause.Cause.{Cause}
 use Rattle.script_lines.specs.declared.cause.Cause.TheVariants.{UsedAgain, UnknownStroke, ClosedStroke, TooManyJobs, TooManyExports}
 use Rattle.script_text.specs.declared.table.Fed.{Fed}

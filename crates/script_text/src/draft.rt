@@ -3,11 +3,11 @@
 ghost use Rattle.std.specs.Prelude.{◌≡◌, [], ◌∷◌, ◌++◌, IfOk, OnOk, OnErr, ◌<◌, ◌≤◌, ℕ, true};
 ghost use Rattle.std.specs.List.{list_any, list_all};
 ghost use Rattle.std.specs.Vec.{vec_len, vec_capacity};
-ghost use Rattle.doc_model.specs.Strokes.{entries};
-ghost use Rattle.doc_model.specs.Lawful.{is_open_stroke, lawful};
+ghost use Rattle.doc_model.specs.Strokes.{entries, is_open_stroke};
+ghost use Rattle.doc_model.specs.Lawful.{lawful};
 ghost use Rattle.script_forms.specs.Ranges.{in_range, is_sound};
 ghost use Rattle.script_text.specs.Read.{IsRefused};
-ghost use Rattle.script_text.specs.Following.{misfit as said_misfit};
+ghost use Rattle.script_text.specs.Reading.{misfit as said_misfit};
 ghost use Rattle.script_text.specs.Table.{Tells, kept, stroke_cause, export_cause as said_export, next_fed, exports_after as count_after};
 
 use crate::script::{ReadRefusal, at};

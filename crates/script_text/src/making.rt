@@ -5,7 +5,8 @@ ghost use Rattle.std.specs.List.{list_all};
 ghost use Rattle.doc_model.specs.Lawful.{lawful};
 ghost use Rattle.script_lines.specs.Colours.{is_pixel as said_pixel};
 ghost use Rattle.script_text.specs.declared.script.MakeRefusal.TheVariants.{NotScript, NoMemory};
-ghost use Rattle.script_text.specs.Script.{contents, is_script};
+ghost use Rattle.script_text.specs.Script.{contents};
+ghost use Rattle.script_text.specs.Closed.{is_script};
 ghost use Rattle.script_forms.specs.Ranges.{is_id as said_id, change_in_range, job_in_range, in_range, is_sound as said_sound, in_limits};
 ghost use Rattle.script_text.specs.Read.{IsGathered};
 

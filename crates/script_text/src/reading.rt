@@ -2,13 +2,12 @@
 
 ghost use Rattle.std.specs.Prelude.{◌≡◌, ◌<◌, length, None, Some, ◌++◌, ◌∷◌, [], IfOk, OnOk, IfSome, IsSome, true};
 ghost use Rattle.std.specs.Option.{option_to_list};
-ghost use Rattle.script_lines.specs.Lines.{pointed};
+ghost use Rattle.script_lines.specs.Fronts.{pointed};
 ghost use Rattle.doc_model.specs.Strokes.{entries};
 ghost use Rattle.script_forms.specs.Ranges.{in_range, is_sound};
 ghost use Rattle.script_forms.specs.Forms.{canvas as said_canvas};
 ghost use Rattle.script_forms.specs.Plain.{IsJobLine};
-ghost use Rattle.script_text.specs.Following.{misfit};
-ghost use Rattle.script_text.specs.Reading.{canvas_cause, word_cause, command_cause, cause_by, canvas_in, command_in, command_by, given, first_canvas, start_by, left_open, end_by, contents_by};
+ghost use Rattle.script_text.specs.Reading.{canvas_cause, word_cause, command_cause, cause_by, canvas_in, command_in, command_by, given, first_canvas, start_by, left_open, end_by, contents_by, misfit};
 ghost use Rattle.script_text.specs.Read.{IsRefused, Fits, StartsAre, Answers, Takes, TakesCommand};
 
 use crate::draft::{Draft, add_last};

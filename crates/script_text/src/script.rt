@@ -1,7 +1,8 @@
 //! Scripts, and why bytes or commands aren't one.
 
 ghost use Rattle.std.specs.Prelude.{◌≡◌, ◌<◌, ◌==◌, Some, true, length, slice_get};
-ghost use Rattle.script_text.specs.Script.{contents, is_script};
+ghost use Rattle.script_text.specs.Script.{contents};
+ghost use Rattle.script_text.specs.Closed.{is_script};
 ghost use Rattle.script_text.specs.Read.{refusal};
 ghost use Rattle.script_text.specs.declared.script.ReadRefusal.TheVariants.{NoMemory};
 
@@ -48,7 +49,8 @@ pub struct Script {
 
 impl Model for Script {
     ghost use Rattle.std.specs.Prelude.{◌≡◌, true};
-    ghost use Rattle.script_text.specs.Script.{Contents, contents, contents_code, is_script};
+    ghost use Rattle.script_text.specs.Script.{Contents, contents};
+    ghost use Rattle.script_text.specs.Closed.{contents_code, is_script};
 
     ghost Value = { Contents };
 

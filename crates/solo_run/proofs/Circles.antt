@@ -7,15 +7,14 @@ use Rattle.std.proofs.Math.Nat.{mul-le-mul_left, mul-le-mul_right}
 use Rattle.std.proofs.lemmas.Bool.Decides.{nat_tests}
 use borrow.Author.Differences.{ints}
 use Rattle.pixel_core.specs.Rgba.{Rgba, IsCanonical}
-use Rattle.pixel_core.specs.Bytes.{mul}
-use Rattle.pixel_core.specs.Compose.{compose}
+use Rattle.pixel_core.specs.Compose.{compose, mul}
 use Rattle.pixel_core.specs.declared.blending.Op.{Op}
 use Rattle.pixel_core.proofs.Rounding.{laws_of_mul}
 use Rattle.pixel_core.proofs.ComposeLaws.{unseen_leaves}
 use Rattle.brush_mask.specs.Mask.{mask, distance2}
 use Rattle.brush_mask.proofs.MaskLaws.{laws_of_the_circle}
-use Rattle.geom_core.specs.Points.{Point}
-use Rattle.geom_core.specs.Areas.{Area, holds, any_holds, lies_in}
+use Rattle.geom_core.specs.Areas.{Area, holds, lies_in, Point}
+use Rattle.geom_core.specs.Overlaps.{any_holds}
 use Rattle.geom_core.specs.Grid.{Key, key_of, tile}
 use Rattle.geom_core.specs.Place.{IsOffset}
 use Rattle.geom_core.proofs.Tests.{taken, and_left, and_right, or_left}
@@ -24,8 +23,10 @@ use Rattle.tile_core.specs.Pixels.{Pixels, pixel_at, pixel_or}
 use Rattle.tile_core.specs.Shots.{Sight}
 use Rattle.doc_model.specs.declared.job.Job.{Job}
 use Rattle.doc_model.specs.declared.job.Job.TheVariants.{Dab}
-use Rattle.doc_model.specs.Layers.{Layer, at, layer_ext}
-use Rattle.doc_model.specs.Jobs.{writes, value, apply, in_tile, shot_of}
+use Rattle.doc_model.specs.Layers.{Layer, at}
+use Rattle.doc_model.proofs.LayerLaws.{layer_ext}
+use Rattle.doc_model.specs.Jobs.{writes, value, apply}
+use Rattle.doc_model.specs.Shots.{in_tile, shot_of}
 use Rattle.doc_model.proofs.JobLaws.{at-apply}
 use Rattle.doc_model.proofs.Shots.{at-published, default-published, at-shot_of}
 use Rattle.job_core.specs.Paints.{layer_of}

@@ -7,8 +7,8 @@ use Rattle.std.specs.FinSet.{FinSet}
 use Rattle.std.proofs.lemmas.List.{append-nil, append_assoc}
 use Rattle.std.proofs.lemmas.List.Folds.{list_any-append}
 use Rattle.std.proofs.lemmas.List.Sums.{fold-append}
-use Rattle.geom_core.specs.Points.{Point}
-use Rattle.geom_core.specs.Areas.{Area, holds, any_holds, clipped}
+use Rattle.geom_core.specs.Areas.{Area, holds, Point}
+use Rattle.geom_core.specs.Overlaps.{any_holds, clipped}
 use Rattle.geom_core.specs.Grid.{Key, key_cmp, key_of, tile}
 use Rattle.geom_core.specs.declared.Touched.{Touched}
 use Rattle.geom_core.proofs.Tests.{none_left, none_right, or_cases, taken}

@@ -9,7 +9,8 @@ use Rattle.geom_core.specs.Areas.{Area}
 use Rattle.geom_core.specs.Grid.{Key, keys_of}
 use Rattle.tile_core.specs.Shots.{Sight}
 use Rattle.doc_model.specs.declared.job.Job.{Job}
-use Rattle.doc_model.specs.Jobs.{apply, writes, published}
+use Rattle.doc_model.specs.Jobs.{apply, writes}
+use Rattle.doc_model.specs.Shots.{published}
 use Rattle.doc_model.specs.Lawful.{within_limits}
 use Rattle.job_core.specs.Paints.{Paint, Stuff, Makes, IsMade, layer_of}
 use Rattle.desk_steps.specs.Archives.{Archive, layer_under_way, with_put}

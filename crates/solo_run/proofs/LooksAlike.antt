@@ -1,7 +1,7 @@
 -- Changes of the tree that leave how a document looks.
 use Rattle.std.proofs.Common.{◌≡◌, ℕ, suc, zero, Bool, true, false, ◌&&◌, ◌||◌, not, cond, eqb, Option, Some, None, is_some, refl, sym, ap, ◌∙◌}
 use Rattle.std.specs.Prelude.{Ok}
-use Rattle.geom_core.specs.Points.{Point}
+use Rattle.geom_core.specs.Areas.{Point}
 use Rattle.geom_core.proofs.Tests.{and_left, and_right, both_true, none_left, none_right, not_true, kept}
 use Rattle.pixel_core.specs.Rgba.{Rgba, clear}
 use Rattle.pixel_core.specs.Compose.{compose}
@@ -10,7 +10,8 @@ use Rattle.doc_model.specs.declared.tree.Change.{Change}
 use Rattle.doc_model.specs.declared.tree.Change.TheVariants as change
 use Rattle.doc_model.specs.declared.tree.TreeFault.{TreeFault}
 use Rattle.doc_model.specs.Ids.{IsTree}
-use Rattle.doc_model.specs.Layers.{at, plain, at-plain}
+use Rattle.doc_model.specs.Layers.{at, plain}
+use Rattle.doc_model.proofs.LayerLaws.{at-plain}
 use Rattle.doc_model.specs.Forest.{Forest, none, paint, group, has, join, lower, upper, inserted, within, without, only, or_else}
 use Rattle.doc_model.specs.Forest as forest
 use Rattle.doc_model.specs.Readers.{look_in}

@@ -6,8 +6,8 @@ use Rattle.std.proofs.lemmas.List.{append-nil, append_assoc}
 use Rattle.std.proofs.lemmas.List.Elements.{filter-append}
 use Rattle.std.proofs.lemmas.List.Folds.{list_any-append}
 use Rattle.std.proofs.lemmas.Map.Views.{any-filter_same}
-use Rattle.geom_core.specs.Points.{Point}
-use Rattle.geom_core.specs.Areas.{Area, any_holds, meets, moved}
+use Rattle.geom_core.specs.Areas.{Area, meets, moved, Point}
+use Rattle.geom_core.specs.Overlaps.{any_holds}
 use Rattle.geom_core.specs.Grid.{Key, key_of, same_key, tile, keys_of}
 use Rattle.geom_core.proofs.Tests.{true_or_false, and_left, or_cases, or_left, or_right, neither}
 use Rattle.geom_core.proofs.Common.{meets_held}

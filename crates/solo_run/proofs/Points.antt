@@ -4,12 +4,11 @@ use Rattle.std.specs.List.{list_any, IsDistinct, AllByRecursion}
 use Rattle.std.proofs.lemmas.List.{append-nil}
 use Rattle.std.proofs.lemmas.Map.Keys.{IsDistinct-head, IsDistinct-tail}
 use Rattle.pixel_core.specs.Rgba.{Rgba}
-use Rattle.pixel_core.specs.Bytes.{mul}
-use Rattle.pixel_core.specs.Compose.{compose}
+use Rattle.pixel_core.specs.Compose.{compose, mul}
 use Rattle.brush_mask.specs.Mask.{mask}
 use Rattle.std.specs.Prelude.{◌-ℤ◌}
-use Rattle.geom_core.specs.Points.{Point}
-use Rattle.geom_core.specs.Areas.{Area, any_holds}
+use Rattle.geom_core.specs.Areas.{Area, Point}
+use Rattle.geom_core.specs.Overlaps.{any_holds}
 use Rattle.geom_core.specs.Grid.{Key, key_of, same_key, keys_of, all_keys_of}
 use Rattle.geom_core.proofs.Tests.{taken}
 use Rattle.geom_core.proofs.Keys.{key_of_any_held}
@@ -17,8 +16,10 @@ use Rattle.geom_core.proofs.Tiles.{key_same}
 use Rattle.geom_core.proofs.Axes.{tiles_met}
 use Rattle.doc_model.specs.declared.job.Job.{Job}
 use Rattle.doc_model.specs.declared.job.Job.TheVariants.{Fill, Dab, Move, Blur}
-use Rattle.doc_model.specs.Layers.{Layer, at, layer_ext}
-use Rattle.doc_model.specs.Jobs.{writes, value, apply, in_tile}
+use Rattle.doc_model.specs.Layers.{Layer, at}
+use Rattle.doc_model.proofs.LayerLaws.{layer_ext}
+use Rattle.doc_model.specs.Jobs.{writes, value, apply}
+use Rattle.doc_model.specs.Shots.{in_tile}
 use Rattle.doc_model.specs.Lawful.{within_limits}
 use Rattle.doc_model.proofs.JobLaws.{at-apply, laws_of_jobs}
 use Rattle.doc_model.proofs.Shots.{at-published, default-published}

@@ -8,15 +8,18 @@ use Rattle.std.proofs.lemmas.List.Folds.{list_any-append}
 use Rattle.std.proofs.Math.Seq.{take-add}
 use borrow.Author.Differences.{ints}
 use Rattle.pixel_core.specs.Rgba.{Rgba}
-use Rattle.geom_core.specs.Points.{Point}
-use Rattle.geom_core.specs.Areas.{Area, any_holds, lies_in}
+use Rattle.geom_core.specs.Areas.{Area, lies_in, Point}
+use Rattle.geom_core.specs.Overlaps.{any_holds}
 use Rattle.geom_core.specs.Grid.{Key, key_of, same_key, keys_of, all_keys_of}
 use Rattle.geom_core.proofs.Tests.{and_left, and_right, both_true, or_left, or_right}
 use Rattle.geom_core.proofs.Tiles.{key_is}
 use Rattle.doc_model.specs.declared.job.Job.{Job}
-use Rattle.doc_model.specs.Layers.{Layer, at, layer_ext}
-use Rattle.doc_model.specs.Jobs.{reads, writes, apply, apply_all, shot_of, published, in_tile}
-use Rattle.doc_model.specs.Forest.{content, with_content, adjusted}
+use Rattle.doc_model.specs.Layers.{Layer, at}
+use Rattle.doc_model.proofs.LayerLaws.{layer_ext}
+use Rattle.doc_model.specs.Jobs.{reads, writes, apply, apply_all}
+use Rattle.doc_model.specs.Shots.{shot_of, published, in_tile}
+use Rattle.doc_model.specs.Forest.{content, with_content}
+use Rattle.doc_model.specs.Adjusting.{adjusted}
 use Rattle.doc_model.specs.Strokes.{Jobs}
 use Rattle.doc_model.specs.Lawful.{within_limits}
 use Rattle.doc_model.proofs.Contents.{adjusted-with_content, content-with_content}

@@ -3,15 +3,17 @@ use Rattle.std.proofs.Common.{◌≡◌, ◌≤◌, ℕ, Bool, true, false, ◌&
 use Rattle.std.specs.Prelude.{All}
 use Rattle.std.specs.List.{list_all, AllByRecursion}
 use Rattle.std.proofs.lemmas.List.Elements.{recursion_from_All}
-use Rattle.geom_core.specs.Points.{Point}
-use Rattle.geom_core.specs.Areas.{Area, any_holds, holds, lies_in}
+use Rattle.geom_core.specs.Areas.{Area, holds, lies_in, Point}
+use Rattle.geom_core.specs.Overlaps.{any_holds}
 use Rattle.geom_core.specs.Grid.{Key, tile}
 use Rattle.geom_core.proofs.Bounds.{lies_held}
 use Rattle.geom_core.proofs.Tests.{and_left, and_right, or_cases, taken}
 use Rattle.doc_model.specs.declared.job.Job.{Job}
 use Rattle.doc_model.specs.declared.job.Kind.{Kind}
-use Rattle.doc_model.specs.Layers.{Layer, at, layer_ext}
-use Rattle.doc_model.specs.Jobs.{writes, apply, apply_all, in_tile}
+use Rattle.doc_model.specs.Layers.{Layer, at}
+use Rattle.doc_model.proofs.LayerLaws.{layer_ext}
+use Rattle.doc_model.specs.Jobs.{writes, apply, apply_all}
+use Rattle.doc_model.specs.Shots.{in_tile}
 use Rattle.doc_model.specs.Strokes.{Jobs}
 use Rattle.doc_model.proofs.JobLaws.{laws_of_jobs}
 use Rattle.doc_model.proofs.Shots.{at-published, default-published}

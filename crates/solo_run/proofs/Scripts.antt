@@ -9,7 +9,8 @@ use Rattle.doc_model.specs.Lawful.{lawful, is_closed_entry}
 use Rattle.doc_model.specs.Strokes.{entries}
 use Rattle.script_lines.specs.Colours.{is_pixel}
 use Rattle.script_forms.specs.Ranges.{in_limits, in_range}
-use Rattle.script_text.specs.Script.{Contents, all_closed, is_script}
+use Rattle.script_text.specs.Script.{Contents}
+use Rattle.script_text.specs.Closed.{all_closed, is_script}
 
 pub record HoldsOfScript (s : Contents) : Type 0 where
   pub canvas : IsOfLimits s.canvas

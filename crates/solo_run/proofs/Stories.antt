@@ -9,7 +9,7 @@ use Rattle.std.specs.Prelude.{pos, slice_get, All, Result, IfOk}
 use Rattle.std.specs.List.{list_all, AllByRecursion}
 use Rattle.std.specs.FinSet as set
 use Rattle.std.specs.FinSet.{FinSet}
-use Rattle.geom_core.specs.Points.{point}
+use Rattle.geom_core.specs.Areas.{point}
 use Rattle.geom_core.specs.Grid.{key_cmp}
 use Rattle.geom_core.proofs.Tests.{and_left, and_right, or_right}
 use Rattle.doc_model.specs.declared.canvas.Canvas.{Canvas}
@@ -23,10 +23,11 @@ use Rattle.doc_model.specs.Forest.{content, with_content}
 use Rattle.doc_model.specs.Changes.{there}
 use Rattle.doc_model.specs.Picture.{Doc, frame, picture}
 use Rattle.doc_model.specs.Laws.{IsDocument, EachDoc}
-use Rattle.doc_model.specs.Lawful.{is_closed_entry, is_open, lawful, may_follow}
+use Rattle.doc_model.specs.Lawful.{is_closed_entry, lawful, may_follow}
 use Rattle.doc_model.specs.Meaning.{Story, start, told, told_all, told_stroke, closed_stroke, laid_stroke, told_change, undone, redone, meaning, ends_with}
 use Rattle.doc_model.specs.Strokes as doc
-use Rattle.doc_model.specs.Strokes.{Fate, Open, Ended, Cancelled, Stroke, Jobs, conflict, entries, fed}
+use Rattle.doc_model.specs.Kept as doc_kept
+use Rattle.doc_model.specs.Strokes.{Fate, Open, Ended, Cancelled, Stroke, Jobs, conflict, entries, fed, is_open}
 use Rattle.doc_model.proofs.Feeding.{entries_last, lawful_differ, take_fed}
 use Rattle.doc_model.proofs.Limits.{meaning_keeps_limits}
 use Rattle.doc_model.proofs.SameContent.{content_has, with_same}
@@ -36,7 +37,7 @@ use Rattle.machine_model.specs.Effects.{writes_of}
 use Rattle.tile_core.specs.Frames.{Scene}
 use Rattle.tile_core.specs.Films.{newest}
 use Rattle.tile_core.specs.Damage.{Parts, intact}
-use Rattle.ppm_out.specs.Pictures.{colours_of}
+use Rattle.ppm_out.specs.Scenes.{colours_of}
 use Rattle.export_core.specs.Exports.{ShowsDoc, ShowsElsewhere}
 use Rattle.export_core.specs.Pieces.{seen}
 use Rattle.export_core.proofs.CanvasKeys.{canvas_key}
@@ -77,9 +78,9 @@ same_closed story s js Open e o h = cc
 same_closed story s js Ended e o h = ap (closed_stroke story s) e ∙ same_laid story s (content s.layer story.document) js Ended h
 same_closed story s js Cancelled e o h = ap (closed_stroke story s) e
 
-same_told : (story : Story) (s : Stroke) (f : Fate) (o : Option (ℕ × ℕ)) → conflict s.jobs ≡ o → s.fate ≡ f → is_open f ≡ false → told_stroke story s o ≡ told_stroke story (record s { jobs = doc.kept s.jobs; fate = f }) o
+same_told : (story : Story) (s : Stroke) (f : Fate) (o : Option (ℕ × ℕ)) → conflict s.jobs ≡ o → s.fate ≡ f → is_open f ≡ false → told_stroke story s o ≡ told_stroke story (record s { jobs = doc_kept.kept s.jobs; fate = f }) o
 same_told story s f (Some pair) c e n = refl
-same_told story s f None c e n = same_closed story s (doc.kept s.jobs) f e n (sym (ap (doc.up_to s.jobs) c))
+same_told story s f None c e n = same_closed story s (doc_kept.kept s.jobs) f e n (sym (ap (doc_kept.up_to s.jobs) c))
 
 -- what a closed stroke means
 told_whole : (canvas : Canvas) (story : Story) (e : doc.Entry) (c : Closed) → queued e ≡ Whole c → told canvas story e ≡ told_stroke story (as_stroke c) c.stroke.overlap

@@ -4,7 +4,8 @@ use Rattle.geom_core.specs.Grid.{Key}
 use Rattle.tile_core.specs.Shots.{Sight}
 use Rattle.doc_model.specs.declared.job.Job.{Job}
 use Rattle.doc_model.specs.Layers.{Layer}
-use Rattle.doc_model.specs.Jobs.{reads, writes, shot_of, published}
+use Rattle.doc_model.specs.Jobs.{reads, writes}
+use Rattle.doc_model.specs.Shots.{shot_of, published}
 use Rattle.job_core.specs.Paints.{Paint, Stuff, Makes, layer_of}
 use Rattle.desk_steps.specs.Archives.{Archive}
 use Rattle.solo_run.specs.Painting.{PaintsOn, in_tiles}

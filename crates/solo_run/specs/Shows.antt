@@ -2,15 +2,9 @@
 use Rattle.std.specs.Prelude.{◌≡◌, List, map, All}
 use Rattle.doc_model.specs.declared.command.Outcome.{Outcome}
 use Rattle.doc_model.specs.declared.canvas.Canvas.{Canvas}
-use Rattle.doc_model.specs.Strokes.{entries}
-use Rattle.doc_model.specs.Meaning.{Story, meaning}
 use Rattle.tile_core.specs.Frames.{Scene}
-use Rattle.ppm_out.specs.Pictures.{colours_of}
-use Rattle.script_text.specs.Script.{Contents}
-
--- what a script means: its entries one after another, from the empty document on
-abbrev pub meaning_of : Contents → Story
-meaning_of script = meaning script.canvas (entries script.commands)
+use Rattle.script_text.specs.Script.{Contents, meaning_of}
+use Rattle.ppm_out.specs.Scenes.{colours_of}
 
 -- the frame has the canvas's sides
 pub record HasSides (canvas : Canvas) (f : Scene) : Type 0 where

@@ -1,8 +1,8 @@
 -- Which parts of tiles may look different from the newest frame.
 use Rattle.std.specs.Prelude.{◌≡◌, true, false, if◌then◌else◌, Option, Some, None, List, [], ◌∷◌}
 use Rattle.std.specs.List.{fold}
-use Rattle.geom_core.specs.Points.{Point}
-use Rattle.geom_core.specs.Areas.{Area, clipped}
+use Rattle.geom_core.specs.Areas.{Area, Point}
+use Rattle.geom_core.specs.Overlaps.{clipped}
 use Rattle.geom_core.specs.Grid.{Key, key_of, tile}
 use Rattle.doc_model.specs.Picture.{Doc, picture}
 use Rattle.tile_core.specs.Marks.{on_canvas}

@@ -15,7 +15,7 @@ use Rattle.doc_model.specs.Meaning.{Story, told, meaning}
 use Rattle.machine_model.specs.State.{Reach}
 use Rattle.tile_core.specs.Frames.{Scene}
 use Rattle.tile_core.specs.Films.{newest}
-use Rattle.ppm_out.specs.Pictures.{colours_of}
+use Rattle.ppm_out.specs.Scenes.{colours_of}
 use Rattle.export_core.specs.Exports.{ShowsElsewhere}
 use Rattle.entry_queue.specs.declared.entry.Entry.{Entry}
 use Rattle.entry_queue.specs.declared.entry.Entry.TheVariants.{Waiting, Whole, Other}

@@ -3,7 +3,7 @@
 ghost use Rattle.std.specs.Prelude.{◌≡◌, ◌≤◌, ◌*◌, ◌≤ℤ◌, pos, negsuc, true, false};
 ghost use Rattle.geom_core.specs.Grid.{IsWorldKey};
 ghost use Rattle.geom_core.specs.Place.{IsOffset};
-ghost use Rattle.doc_model.specs.Lawful.{checks};
+ghost use Rattle.doc_model.specs.Jobs.{checks};
 ghost use Rattle.solo_run.specs.Circles.{LeavesTile, LieApart, LiesOutside};
 
 use doc_model::Job;

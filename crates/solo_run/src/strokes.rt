@@ -3,8 +3,9 @@
 ghost use Rattle.std.specs.Prelude.{◌≡◌, ◌≤◌, ◌↔◌, ℕ, true, is_some, Some, take, [], ◌∷◌, length, slice_get, IsTrue, IfOk, OnOk, All};
 ghost use Rattle.std.specs.List.{list_any};
 ghost use Rattle.geom_core.specs.Grid.{IsWorldKey, same_key, keys_of, all_keys_of};
-ghost use Rattle.doc_model.specs.Lawful.{checks, within_limits};
-ghost use Rattle.doc_model.specs.Jobs.{reads, writes, apply, apply_all, published};
+ghost use Rattle.doc_model.specs.Lawful.{within_limits};
+ghost use Rattle.doc_model.specs.Jobs.{reads, writes, apply, apply_all, checks};
+ghost use Rattle.doc_model.specs.Shots.{published};
 ghost use Rattle.machine_model.specs.Effects.{writes_of};
 ghost use Rattle.job_core.specs.Paints.{layer_of};
 ghost use Rattle.job_core.specs.Points.{is_point_op};

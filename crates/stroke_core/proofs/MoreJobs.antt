@@ -2,8 +2,9 @@
 use Rattle.std.proofs.Common.{◌≡◌, ℕ, suc, ◌+◌, ◌-◌, ◌<◌, ◌≤◌, true, cond, [], ◌∷◌, ◌++◌, Option, Some, None, is_some, length, take, refl, sym, ap, ◌∙◌, arith}
 use Rattle.doc_model.specs.declared.job.Job.{Job}
 use Rattle.doc_model.specs.declared.job.Kind.{Kind}
-use Rattle.doc_model.specs.Strokes as strokes
-use Rattle.doc_model.specs.Strokes.{Jobs, conflict, conflicting, first_conflicting, second_of, pair_at, pair_of, up_to}
+use Rattle.doc_model.specs.Kept as strokes_kept
+use Rattle.doc_model.specs.Strokes.{Jobs, conflict, conflicting, first_conflicting, second_of, pair_at, pair_of}
+use Rattle.doc_model.specs.Kept.{up_to}
 use Rattle.doc_model.proofs.Conflicts.{IsLeastFrom, least_from_is}
 use Rattle.doc_model.proofs.Growing.{take_front, take_less, or_then, first_front, second_more, one_less}
 use Rattle.stroke_core.specs.Fed.{Fed, StandsFor, found, pair_or, plus}
@@ -55,7 +56,7 @@ more_some : (fed : Jobs) (x : Kind × Job) (old : ℕ × ℕ) → conflict fed �
 more_some fed x old e = conflict_more fed x ∙ ap (λ o. pair_or o (pair_of (first_conflicting (fed ++ x ∷ []) (length fed)) (length fed))) e
 
 -- what is kept of one more job, by the pair
-pub kept_by : (fed : Jobs) (x : Kind × Job) (o : Option (ℕ × ℕ)) → conflict fed ≡ o → (p : Option (ℕ × ℕ)) → conflict (fed ++ x ∷ []) ≡ p → strokes.kept (fed ++ x ∷ []) ≡ cond (is_some p) (strokes.kept fed) (strokes.kept fed ++ x ∷ [])
+pub kept_by : (fed : Jobs) (x : Kind × Job) (o : Option (ℕ × ℕ)) → conflict fed ≡ o → (p : Option (ℕ × ℕ)) → conflict (fed ++ x ∷ []) ≡ p → strokes_kept.kept (fed ++ x ∷ []) ≡ cond (is_some p) (strokes_kept.kept fed) (strokes_kept.kept fed ++ x ∷ [])
 kept_by fed x None e None f = ap (up_to (fed ++ x ∷ [])) f ∙ sym (ap (λ o. up_to fed o ++ x ∷ []) e)
 kept_by fed x None e (Some pair) f = ap (up_to (fed ++ x ∷ [])) f ∙ up_to_last fed x _ pair (sym (more_none fed x e) ∙ f) ∙ sym (ap (up_to fed) e)
 kept_by fed x (Some old) e None f = let t : None ≡ Some old = sym f ∙ more_some fed x old e in cc

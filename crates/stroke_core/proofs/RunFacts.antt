@@ -6,9 +6,8 @@ use Rattle.std.proofs.lemmas.List.Elements.{All-append, All-cons}
 use Rattle.geom_core.proofs.Tests.{true_or_false, and_left}
 use Rattle.doc_model.specs.declared.job.Job.{Job}
 use Rattle.doc_model.specs.declared.job.Kind.{Kind}
-use Rattle.doc_model.specs.Least.{least, least_from}
-use Rattle.doc_model.specs.Lawful.{checks}
-use Rattle.doc_model.specs.Strokes.{Jobs, conflicting, first_conflicting, one_run, pair_of, passes, runs, runs_at, disturb, is_uni}
+use Rattle.doc_model.specs.Jobs.{checks}
+use Rattle.doc_model.specs.Strokes.{Jobs, conflicting, first_conflicting, one_run, pair_of, passes, runs, runs_at, disturb, is_uni, least, least_from}
 use Rattle.doc_model.proofs.Conflicts.{all_from_all, all_from_at}
 use Rattle.stroke_core.specs.Fed.{IsKept, pair_or, plus}
 use Rattle.stroke_core.specs.Marks.{Marks, marks_of, marks_in_run, marks_clash}

@@ -1,9 +1,10 @@
 -- Strokes as callers see them.
 use Rattle.std.specs.Prelude.{◌≡◌, ℕ, ◌+◌, ◌-◌, ◌<◌, ◌≤◌, Bool, true, false, Option, Some, None, List, [], ◌∷◌, ◌++◌, length, map, drop, All}
-use Rattle.doc_model.specs.Lawful.{checks}
+use Rattle.doc_model.specs.Jobs.{checks}
 use Rattle.doc_model.specs.declared.job.Job.{Job}
 use Rattle.doc_model.specs.declared.job.Kind.{Kind}
-use Rattle.doc_model.specs.Strokes.{Jobs, conflict, kept, runs_at}
+use Rattle.doc_model.specs.Strokes.{Jobs, conflict, runs_at}
+use Rattle.doc_model.specs.Kept.{kept}
 use Rattle.stroke_core.specs.Marks.{Marks, marks_of}
 
 -- a stroke with the jobs that it keeps, and the pair of jobs that conflict, as numbers from 1

@@ -3,8 +3,7 @@
 ghost use Rattle.std.specs.Prelude.{◌≡◌, ◌≤◌, ◌<◌, ◌+◌, ◌-◌, ◌*◌, ◌&&◌, ◌||◌, ◌++◌, ◌∷◌, [], List, Bool, true, false, not, position, if◌then◌else◌, OnOk, OnErr, length, take, drop, vec_len, vec_capacity};
 ghost use Rattle.std.specs.List.{list_any};
 ghost use Rattle.geom_core.specs.Areas.{meets};
-ghost use Rattle.doc_model.specs.Jobs.{reads, writes};
-ghost use Rattle.doc_model.specs.Lawful.{checks};
+ghost use Rattle.doc_model.specs.Jobs.{reads, writes, checks};
 ghost use Rattle.doc_model.specs.Strokes.{any_meet, is_uni};
 ghost use Rattle.stroke_core.specs.Bounds.{Encloses, AreBlocks};
 ghost use Rattle.stroke_core.specs.Fed.{plus};

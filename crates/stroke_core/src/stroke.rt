@@ -1,7 +1,7 @@
 //! Strokes that are fed, and those that are closed.
 
 ghost use Rattle.std.specs.Prelude.{◌≡◌, ◌≢◌, ℕ, ◌-◌, ◌<◌, ◌≤◌, true, false, Some, None, Ok, Err, OnOk, OnErr, if◌then◌else◌, All, [], ◌∷◌, ◌++◌, length, slice_get};
-ghost use Rattle.doc_model.specs.Lawful.{checks};
+ghost use Rattle.doc_model.specs.Jobs.{checks};
 ghost use Rattle.doc_model.specs.Strokes.{Jobs, first_conflicting, runs};
 ghost use Rattle.stroke_core.specs.Fed.{found, plus, StandsFor};
 ghost use Rattle.stroke_core.specs.Marks.{marks_in_run};

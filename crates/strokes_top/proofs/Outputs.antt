@@ -1,35 +1,26 @@
 -- What a painted script shows is what is written of it.
-use Rattle.std.proofs.Common.{◌≡◌, ◌≤◌, ◌∙◌, ◌+◌, ◌*◌, ℕ, suc, List, [], ◌∷◌, ◌++◌, length, map, Option, Result, OnOk, refl, ap, ap₂, subst, arith}
+use Rattle.std.proofs.Common.{◌≡◌, ◌≤◌, ◌∙◌, ◌*◌, ℕ, List, [], ◌∷◌, ◌++◌, length, map, Option, Result, OnOk, refl, ap, ap₂, subst, arith}
 use Rattle.std.specs.List.{All, flat_map}
 use Rattle.std.proofs.lemmas.List.Elements.{All-nil, All-cons, All-head, All-tail}
 use Rattle.std.specs.Io.KnownBytes.{Appends}
 use Rattle.io_edge.specs.declared.outside.Failed.{Failed}
 use Rattle.doc_model.specs.declared.canvas.Canvas.{Canvas}
 use Rattle.doc_model.specs.declared.command.Outcome.{Outcome}
-use Rattle.doc_model.specs.Strokes.{Entry, entries}
-use Rattle.doc_model.specs.Meaning.{Story, start, told, told_all}
-use Rattle.machine_model.proofs.Stories.{one_outcome}
+use Rattle.doc_model.specs.Strokes.{entries}
+use Rattle.doc_model.proofs.DoneLaws.{one_outcome_an_entry}
 use Rattle.tile_core.specs.Frames.{Scene}
-use Rattle.ppm_out.specs.Pictures.{colours_of, frame_bytes, scene_bytes}
-use Rattle.log_out.specs.Summary.{Sheet, sheet_of, sum_text}
-use Rattle.log_out.specs.Log.{log_text}
-use Rattle.script_text.specs.Script.{Contents}
-use Rattle.solo_run.specs.Shows.{HasSides, Shows, meaning_of}
-use Rattle.strokes_top.specs.Output.{pictures, log, summary, sheet}
-
--- one outcome an entry
-outcomes_all : (canvas : Canvas) (es : List Entry) (s : Story) → length (told_all canvas s es).outcomes ≡ length s.outcomes + length es
-outcomes_all canvas [] s = omega arith
-outcomes_all canvas (e ∷ es) s =
-    let one : length (told canvas s e).outcomes ≡ suc (length s.outcomes) = one_outcome canvas s e in
-    let rest : length (told_all canvas (told canvas s e) es).outcomes ≡ length (told canvas s e).outcomes + length es = outcomes_all canvas es (told canvas s e) in
-    omega arith
+use Rattle.ppm_out.specs.Pictures.{frame_bytes}
+use Rattle.ppm_out.specs.Scenes.{colours_of, scene_bytes}
+use Rattle.log_out.specs.Summary.{sheet_of}
+use Rattle.log_out.specs.Log.{log_text, Sheet, sum_text}
+use Rattle.script_text.specs.Script.{Contents, meaning_of}
+use Rattle.solo_run.specs.Shows.{HasSides, Shows}
+use Rattle.strokes_top.specs.Run.{pictures, log, summary, sheet}
 
 pub one_each : (script : Contents) (scenes : List Scene) (outcomes : List Outcome) → Shows script scenes outcomes → length outcomes ≡ length (entries script.commands)
 one_each script scenes outcomes h =
-    let all : length (meaning_of script).outcomes ≡ length start.outcomes + length (entries script.commands) = outcomes_all script.canvas (entries script.commands) start in
+    let all : length (meaning_of script).outcomes ≡ length (entries script.commands) = one_outcome_an_entry script.canvas (entries script.commands) in
     let same : length outcomes ≡ length (meaning_of script).outcomes = ap length h.outcomes_are in
-    let none : length start.outcomes ≡ 0 = refl in
     omega arith
 
 pixmaps_are : (canvas : Canvas) (scenes : List Scene) → All (HasSides canvas) scenes → flat_map scene_bytes scenes ≡ flat_map (frame_bytes canvas.w canvas.h) (map colours_of scenes)

@@ -8,9 +8,9 @@ use Rattle.strokes_top.specs.declared.intake.Intake.{Intake}
 use Rattle.strokes_top.specs.declared.status.Status.TheVariants as status
 use Rattle.strokes_top.specs.declared.transfer.ReadError.{ReadError}
 use Rattle.strokes_top.specs.declared.transfer.ReadError.TheVariants as read
-use Rattle.strokes_top.specs.Bytes.{ConsumesAtMost}
+use Rattle.strokes_top.specs.Run.{ConsumesAtMost}
 use Rattle.strokes_top.specs.Intakes.{HasTaken}
-use Rattle.strokes_top.specs.Status.{of_read}
+use Rattle.strokes_top.specs.Ends.{of_read}
 use Rattle.strokes_top.proofs.Transfers.{IsCounted, more_counted}
 
 -- so many bytes of a source were read, and the intake has taken them

@@ -4,11 +4,10 @@ use Rattle.std.specs.Io.KnownBytes.{Appends, Consumes, IsAtEnd}
 use Rattle.std.proofs.KnownBytes.{Consumes-trans}
 use Rattle.std.proofs.lemmas.List.{append-nil}
 use Rattle.io_edge.specs.declared.outside.Failed.{Failed}
-use Rattle.io_edge.specs.Bytes.{AppendsPrefix}
+use Rattle.io_edge.specs.Told.{AppendsPrefix}
 use Rattle.script_text.specs.declared.script.ScriptFault.{ScriptFault}
 use Rattle.script_text.specs.Reading.{fault}
-use Rattle.strokes_top.specs.Bytes.{ConsumesMore, ConsumesAtMost}
-use Rattle.strokes_top.specs.Run.{WasRead, HasFault}
+use Rattle.strokes_top.specs.Run.{WasRead, HasFault, ConsumesMore, ConsumesAtMost}
 
 -- all of a line is a prefix of it
 pub prefix_of_either : (r : Result (Unit {0}) Failed) (old new : Option (List ℕ)) (line : List ℕ) → OnOk r (Appends old new line) → OnErr r (AppendsPrefix old new line) → AppendsPrefix old new line

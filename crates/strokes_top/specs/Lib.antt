@@ -1,7 +1,7 @@
-pub mod Bytes
 pub mod Choice
 pub mod Intakes
 pub mod Named
 pub mod Output
 pub mod Status
 pub mod Run
+pub mod Ends

@@ -1,12 +1,53 @@
--- What a run means.
-use Rattle.std.specs.Prelude.{◌≡◌, ℕ, Bool, false, List, [], Option, Some, None, IfSome, IsSomeAnd, is_some}
-use Rattle.script_text.specs.Script.{Contents}
+-- What a run reads, what it means, and what it writes.
+use Rattle.std.specs.Prelude.{◌≡◌, ℕ, ◌<◌, ◌≤◌, Bool, false, List, [], Option, length, Some, map, None, IfSome, IsSomeAnd, is_some}
+use Rattle.script_text.specs.Script.{Contents, meaning_of}
 use Rattle.script_text.specs.Reading.{fault, script}
 use Rattle.script_text.specs.declared.script.ScriptFault.{ScriptFault}
 use Rattle.demo_gen.specs.Demo.{demo}
 use Rattle.strokes_top.specs.declared.choice.Emit.{Emit}
 use Rattle.strokes_top.specs.declared.choice.Choice.{Choice}
 use Rattle.strokes_top.specs.Choice.{choice}
+use Rattle.std.specs.List.{flat_map}
+use Rattle.std.specs.Io.KnownBytes.{Appends, Consumes}
+use Rattle.doc_model.specs.declared.canvas.Canvas.{Canvas}
+use Rattle.doc_model.specs.Picture.{Frame}
+use Rattle.doc_model.specs.Strokes.{entries}
+use Rattle.ppm_out.specs.Pictures.{frame_bytes}
+use Rattle.log_out.specs.Log.{Sheet, log_text, sum_text}
+use Rattle.strokes_top.specs.declared.choice.Emit.TheVariants.{Picture, Log, Sum}
+use Rattle.doc_model.specs.Meaning.{some_refused}
+use Rattle.io_edge.specs.Told.{AppendsPrefix}
+
+-- a frame with the canvas's columns and rows
+abbrev pub sheet : Canvas → Frame → Sheet
+sheet canvas frame = record { w = canvas.w; h = canvas.h; frame = frame }
+
+-- the frames that the script's exports mean, as pixmaps one after another
+abbrev pub pictures : Contents → List ℕ
+pictures s = flat_map (frame_bytes s.canvas.w s.canvas.h) (meaning_of s).frames
+
+-- a line for each of its entries
+abbrev pub log : Contents → List ℕ
+log s = log_text (entries s.commands) (meaning_of s).outcomes
+
+-- how its entries ended, and a line for each frame
+abbrev pub summary : Contents → List ℕ
+summary s = sum_text (map (sheet s.canvas) (meaning_of s).frames) (meaning_of s).outcomes
+
+-- what is written of a script
+abbrev pub output : Emit → Contents → List ℕ
+output Picture s = pictures s
+output Log s = log s
+output Sum s = summary s
+
+-- all of it was written, and whether some entry was refused
+pub record IsOutput (refusals : Bool) (before after : Option (List ℕ)) (emit : Emit) (s : Contents) : Type 0 where
+  pub written : Appends before after (output emit s)
+  pub refusals_are : some_refused (meaning_of s).outcomes ≡ refusals
+
+-- the first of it was written
+abbrev pub IsBegun : Option (List ℕ) → Option (List ℕ) → Emit → Contents → Type 0
+IsBegun before after emit s = AppendsPrefix before after (output emit s)
 
 -- where the source told what it had left, it gave all of it, and what it gave has P
 abbrev pub WasRead : Option (List ℕ) → Option (List ℕ) → (List ℕ → Type 0) → Type 0
@@ -44,3 +85,11 @@ has_number (Some c) = is_some c.demo
 -- the words ask for a generated script
 abbrev pub asks_for_demo : List (List ℕ) → Bool
 asks_for_demo words = has_number (choice words)
+
+-- more than limit of the known bytes were taken
+abbrev pub ConsumesMore : ℕ → Option (List ℕ) → Option (List ℕ) → Type 0
+ConsumesMore limit old new = (bs : List ℕ) × Consumes old new bs × (limit < length bs)
+
+-- at most limit of the known bytes were taken
+abbrev pub ConsumesAtMost : ℕ → Option (List ℕ) → Option (List ℕ) → Type 0
+ConsumesAtMost limit old new = (bs : List ℕ) × Consumes old new bs × (length bs ≤ limit)

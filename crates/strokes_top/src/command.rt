@@ -2,15 +2,13 @@
 
 ghost use Rattle.std.specs.Prelude.{◌≡◌, ◌≢◌, ℕ, None, true, false, is_some};
 ghost use Rattle.std.specs.Io.KnownBytes.{Keeps, Appends};
-ghost use Rattle.io_edge.specs.Faults.{Rose};
-ghost use Rattle.io_edge.specs.Bytes.{AppendsPrefix};
+ghost use Rattle.io_edge.specs.Told.{AppendsPrefix, Rose};
 ghost use Rattle.script_lines.specs.declared.cause.Cause.{Cause};
-ghost use Rattle.strokes_top.specs.Bytes.{ConsumesMore, ConsumesAtMost};
 ghost use Rattle.strokes_top.specs.Choice.{choice};
-ghost use Rattle.strokes_top.specs.Output.{IsOutput, IsBegun};
-ghost use Rattle.strokes_top.specs.Run.{IsAnswered, IsFaulty, asks_for_demo};
-ghost use Rattle.strokes_top.specs.Status.{is_done, is_painted, may_write, told_by};
-ghost use Rattle.doc_model.specs.Outcomes.{some_refused as said_refused};
+ghost use Rattle.strokes_top.specs.Run.{IsAnswered, IsFaulty, asks_for_demo, IsOutput, IsBegun, ConsumesMore, ConsumesAtMost};
+ghost use Rattle.strokes_top.specs.Status.{is_done, may_write, told_by};
+ghost use Rattle.strokes_top.specs.Ends.{is_painted};
+ghost use Rattle.doc_model.specs.Meaning.{some_refused as said_refused};
 
 use crate::choice::{ChoiceError, Emit, choice_of};
 use crate::report::report;

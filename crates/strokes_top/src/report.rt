@@ -2,9 +2,9 @@
 
 ghost use Rattle.std.specs.Prelude.{◌≡◌, ◌⊎◌, true, false, IfOk, string_bytes};
 ghost use Rattle.std.specs.Io.KnownBytes.{Keeps, Appends};
-ghost use Rattle.io_edge.specs.Faults.{Rose};
-ghost use Rattle.io_edge.specs.Bytes.{AppendsPrefix};
-ghost use Rattle.strokes_top.specs.Status.{is_done, is_script, told_by};
+ghost use Rattle.io_edge.specs.Told.{AppendsPrefix, Rose};
+ghost use Rattle.strokes_top.specs.Status.{is_done, told_by};
+ghost use Rattle.strokes_top.specs.Ends.{is_script};
 
 use crate::status::Status;
 use io_edge::{Sink, write_all};

@@ -1,11 +1,10 @@
 //! Taking the script: what the source spells, or a generated one.
 
 ghost use Rattle.std.specs.Prelude.{◌≡◌, ◌≢◌, ℕ, true, Err, IfOk, OnErr, IfErr, IsErrOf, is_some};
-ghost use Rattle.io_edge.specs.Faults.{Rose};
+ghost use Rattle.io_edge.specs.Told.{Rose};
 ghost use Rattle.script_lines.specs.declared.cause.Cause.{Cause};
-ghost use Rattle.strokes_top.specs.Bytes.{ConsumesMore, ConsumesAtMost};
-ghost use Rattle.strokes_top.specs.Run.{WasRead, IsGood, HasFault, IsOf, IsRefused};
-ghost use Rattle.strokes_top.specs.Status.{is_of_script};
+ghost use Rattle.strokes_top.specs.Run.{WasRead, IsGood, HasFault, IsOf, IsRefused, ConsumesMore, ConsumesAtMost};
+ghost use Rattle.strokes_top.specs.Ends.{is_of_script};
 
 use crate::intake::Intake;
 use crate::status::Status;

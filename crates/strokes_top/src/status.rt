@@ -57,7 +57,7 @@ impl Status {
 }
 
 impl From<ReadError> for Status {
-    ghost use Rattle.strokes_top.specs.Status.{of_read};
+    ghost use Rattle.strokes_top.specs.Ends.{of_read};
 
     ghost from_gives = { λ error status. status ≡ of_read error };
 
@@ -70,7 +70,7 @@ impl From<ReadError> for Status {
 }
 
 impl From<ReadRefusal> for Status {
-    ghost use Rattle.strokes_top.specs.Status.{of_refusal};
+    ghost use Rattle.strokes_top.specs.Ends.{of_refusal};
 
     ghost from_gives = { λ refusal status. status ≡ of_refusal refusal };
 

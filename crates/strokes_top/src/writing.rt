@@ -2,10 +2,11 @@
 
 ghost use Rattle.std.specs.Prelude.{IfOk, OnOk, OnErr};
 ghost use Rattle.std.specs.Io.KnownBytes.{Appends};
-ghost use Rattle.io_edge.specs.Bytes.{AppendsPrefix};
+ghost use Rattle.io_edge.specs.Told.{AppendsPrefix};
 ghost use Rattle.io_edge.specs.Faults.{HasCause};
 ghost use Rattle.solo_run.specs.Shows.{Shows};
-ghost use Rattle.strokes_top.specs.Output.{output, HasRoom};
+ghost use Rattle.strokes_top.specs.Output.{HasRoom};
+ghost use Rattle.strokes_top.specs.Run.{output};
 
 use crate::choice::Emit;
 use doc_model::Canvas;

@@ -4,7 +4,7 @@ use Rattle.std.specs.Prelude.{slice_get, pos, nat_lt, is_some}
 use Rattle.std.specs.FinMap as map
 use Rattle.std.proofs.lemmas.Bool.Decides.{nat_tests}
 use Rattle.std.proofs.lemmas.Option.{slice_get_within}
-use Rattle.geom_core.specs.Points.{point}
+use Rattle.geom_core.specs.Areas.{point}
 use Rattle.geom_core.specs.Grid.{Key, key, key_of, key_cmp_total, same_key}
 use Rattle.tile_core.specs.Pixels.{Pixels}
 use Rattle.tile_core.specs.Marks.{Grid, has_mark, on_canvas}

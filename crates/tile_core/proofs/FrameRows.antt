@@ -10,8 +10,7 @@ use Rattle.std.proofs.lemmas.Slice.{drop-append-drop}
 use Rattle.std.proofs.lemmas.Grind.{flat_map-append}
 use Rattle.pixel_core.specs.Rgba.{Rgba, clear}
 use Rattle.pixel_core.specs.Compose.{on_paper}
-use Rattle.geom_core.specs.Points.{Point, point}
-use Rattle.geom_core.specs.Areas.{row}
+use Rattle.geom_core.specs.Areas.{row, Point, point}
 use Rattle.geom_core.specs.Grid.{key, key_of}
 use Rattle.tile_core.specs.Pixels.{Pixels, pixel_or}
 use Rattle.tile_core.specs.Frames.{Scene, put_at, colours_at, row_colours, LaysPoints}

@@ -4,8 +4,7 @@ use Rattle.std.specs.Prelude.{ℤ, pos, ◌+ℤ◌, ◌-ℤ◌, ◌*ℤ◌, int_
 use borrow.Author.Differences.{ints}
 use Rattle.std.proofs.lemmas.Bool.Decides.{nat_tests}
 use Rattle.pixel_core.specs.Rgba.{Rgba, clear}
-use Rattle.geom_core.specs.Points.{point}
-use Rattle.geom_core.specs.Areas.{Area, area, holds}
+use Rattle.geom_core.specs.Areas.{Area, area, holds, point}
 use Rattle.geom_core.specs.Place.{IsOffset}
 use Rattle.geom_core.proofs.Spots.{TileSpot, tile_spot, le_shifted, lt_end_shifted, nat_abs-back}
 use Rattle.tile_core.specs.Pixels.{Pixels, pixel_of}

@@ -7,7 +7,8 @@ use Rattle.std.proofs.lemmas.List.{length-map, length-take-le, take_all, take_mo
 use Rattle.std.proofs.lemmas.List.Folds.{flat_map-map}
 use Rattle.std.proofs.lemmas.Grind.{flat_map-append}
 use Rattle.pixel_core.specs.declared.blending.Op.TheVariants.{Over}
-use Rattle.pixel_core.specs.Rgba.{Rgba, clear, bytes_of}
+use Rattle.pixel_core.specs.Rgba.{Rgba, clear}
+use Rattle.pixel_core.specs.Words.{bytes_of}
 use Rattle.pixel_core.specs.Compose.{compose, on_paper}
 use Rattle.pixel_rows.specs.Rows.{LaysRow}
 use Rattle.tile_core.specs.Frames.{colours}

@@ -4,8 +4,8 @@ use Rattle.std.specs.Prelude.{ℤ, pos, negsuc, ◌+ℤ◌, ◌-ℤ◌, ◌*ℤ�
 use borrow.Author.Differences.{ints}
 use Rattle.std.proofs.lemmas.Bool.Decides.{nat_tests}
 use Rattle.pixel_core.specs.Rgba.{Rgba, clear}
-use Rattle.geom_core.specs.Points.{Point}
-use Rattle.geom_core.specs.Areas.{Area, holds, place_in, IsShared}
+use Rattle.geom_core.specs.Areas.{Area, holds, Point}
+use Rattle.geom_core.specs.Overlaps.{place_in, IsShared}
 use Rattle.geom_core.specs.Grid.{Key, key_of, same_key, tile, IsWorldKey}
 use Rattle.geom_core.specs.Place.{across, IsOffset}
 use Rattle.geom_core.proofs.Tests.{and_left, and_right, true_or_false, taken, kept}

@@ -1,8 +1,7 @@
 -- Clear and opaque pixels on an opaque paper.
 use Rattle.std.proofs.Common.{◌≡◌, ℕ, ◌+◌, ◌-◌, ◌*◌, ◌/◌, [], ◌∷◌, ap, sym, ◌∙◌, arith}
-use Rattle.pixel_core.specs.Bytes.{mul}
 use Rattle.pixel_core.specs.Rgba.{Rgba, rgba, clear}
-use Rattle.pixel_core.specs.Compose.{compose, on_paper}
+use Rattle.pixel_core.specs.Compose.{compose, on_paper, mul}
 
 -- an opaque pixel, of which the alpha is left out
 abbrev opaque : Rgba → Rgba

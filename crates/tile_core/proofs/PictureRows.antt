@@ -11,8 +11,7 @@ use Rattle.std.proofs.lemmas.List.Folds.{flat_map-map}
 use Rattle.std.proofs.lemmas.Slice.{drop-append-drop}
 use Rattle.std.proofs.lemmas.Grind.{flat_map-append}
 use Rattle.pixel_core.specs.Compose.{on_paper}
-use Rattle.geom_core.specs.Points.{Point, point}
-use Rattle.geom_core.specs.Areas.{row, rows}
+use Rattle.geom_core.specs.Areas.{row, rows, Point, point}
 use Rattle.geom_core.specs.Grid.{key}
 use Rattle.tile_core.specs.Frames.{Scene, put_at, colours_at, row_colours, Shows, SameCanvas, LaysPoints}
 use Rattle.tile_core.specs.Marks.{Grid, mark_at, place_at}

@@ -5,15 +5,14 @@ use borrow.Author.Differences.{ints}
 use Rattle.std.proofs.lemmas.Bool.Decides.{nat_tests}
 use Rattle.std.proofs.lemmas.List.{get_or-replicate}
 use Rattle.pixel_core.specs.Rgba.{Rgba, clear}
-use Rattle.geom_core.specs.Points.{Point}
-use Rattle.geom_core.specs.Areas.{Area, holds, place_in}
+use Rattle.geom_core.specs.Areas.{Area, holds, Point}
 use Rattle.geom_core.specs.Grid.{Key, key_of, tile, IsWorldKey}
 use Rattle.geom_core.specs.Place.{IsOffset}
 use Rattle.geom_core.proofs.Tests.{and_left, and_right, both_true}
 use Rattle.geom_core.proofs.Spots.{TileSpot, tile_spot}
 use Rattle.tile_core.specs.Pixels.{Pixels, pixel_of, pixel_at}
 use Rattle.tile_core.specs.Parts.{TakesPart}
-use Rattle.geom_core.specs.Areas.{IsWithin}
+use Rattle.geom_core.specs.Overlaps.{IsWithin, place_in}
 use Rattle.std.specs.FinMap as map
 use Rattle.geom_core.proofs.Tiles.{key_of_holder}
 use Rattle.tile_core.specs.Shots.{Sight, sight_at}

@@ -1,8 +1,8 @@
 -- A block as contracts see it: pixels on a rectangle inside one tile.
 use Rattle.std.specs.Prelude.{◌≡◌, ◌*◌, List, slice_index_or, length, replicate, cond}
-use Rattle.geom_core.specs.Points.{Point, same_point}
 use Rattle.std.specs.Prelude.{true}
-use Rattle.geom_core.specs.Areas.{Area, holds, IsWithin, place_in}
+use Rattle.geom_core.specs.Areas.{Area, holds, Point, same_point}
+use Rattle.geom_core.specs.Overlaps.{IsWithin, place_in}
 use Rattle.tile_core.specs.Pixels.{Pixels, pixel_at}
 use Rattle.geom_core.specs.Grid.{Key, tile, IsWorldKey}
 use Rattle.pixel_core.specs.Rgba.{Rgba, clear}

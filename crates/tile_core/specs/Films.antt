@@ -1,7 +1,7 @@
 -- Frames of one canvas, one after another.
 use Rattle.std.specs.Prelude.{◌≡◌, ℕ, ◌+◌, ◌-◌, ◌<◌, pos, false, Option, Some, List, length, slice_get}
 use Rattle.std.specs.FinMap as map
-use Rattle.geom_core.specs.Points.{point}
+use Rattle.geom_core.specs.Areas.{point}
 use Rattle.geom_core.specs.Grid.{key_of}
 use Rattle.tile_core.specs.Marks.{Grid, has_mark}
 use Rattle.tile_core.specs.Frames.{Scene}

@@ -4,10 +4,10 @@ use Rattle.std.specs.List.{flat_map}
 use Rattle.std.specs.FinMap as map
 use Rattle.std.specs.FinMap.{FinMap}
 use Rattle.std.specs.Coded.{Coded, code_by, coded×, coded_ℕ, coded_list}
-use Rattle.pixel_core.specs.Rgba.{Rgba, clear, pixel_code}
+use Rattle.pixel_core.specs.Rgba.{Rgba, clear}
+use Rattle.pixel_core.specs.Words.{pixel_code}
 use Rattle.pixel_core.specs.Compose.{on_paper}
-use Rattle.geom_core.specs.Points.{Point}
-use Rattle.geom_core.specs.Areas.{row, area, points_of}
+use Rattle.geom_core.specs.Areas.{row, area, points_of, Point}
 use Rattle.geom_core.specs.Grid.{Key, key_cmp, key_of, key_code}
 use Rattle.tile_core.specs.Pixels.{Pixels, pixel_or}
 

@@ -2,7 +2,7 @@
 use Rattle.std.specs.Prelude.{◌≡◌, if◌then◌else◌, [], ◌∷◌, None, length}
 use Rattle.std.specs.FinMap as map
 use Rattle.pixel_core.specs.Compose.{on_paper}
-use Rattle.geom_core.specs.Points.{Point}
+use Rattle.geom_core.specs.Areas.{Point}
 use Rattle.geom_core.specs.Grid.{Key, key_of, same_key}
 use Rattle.tile_core.specs.Pixels.{Pixels, pixel_at, whole_tile, SameOn}
 use Rattle.tile_core.specs.Shots.{Sight, sight_at, with_seen}

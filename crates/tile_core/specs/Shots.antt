@@ -4,9 +4,10 @@ use Rattle.std.specs.List.{list_any}
 use Rattle.std.specs.FinMap as map
 use Rattle.std.specs.FinMap.{FinMap}
 use Rattle.std.specs.Coded.{Coded, code_by, coded×, coded_list}
-use Rattle.pixel_core.specs.Rgba.{Rgba, clear, pixel_code}
-use Rattle.geom_core.specs.Points.{Point}
-use Rattle.geom_core.specs.Areas.{Area, holds, place_in, area_code}
+use Rattle.pixel_core.specs.Rgba.{Rgba, clear}
+use Rattle.pixel_core.specs.Words.{pixel_code}
+use Rattle.geom_core.specs.Areas.{Area, holds, Point}
+use Rattle.geom_core.specs.Overlaps.{place_in, area_code}
 use Rattle.geom_core.specs.Grid.{Key, key_cmp, key_of, same_key, key_code}
 use Rattle.tile_core.specs.Pixels.{Pixels, pixel_at, pixel_or}
 

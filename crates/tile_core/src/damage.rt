@@ -1,7 +1,8 @@
 //! Damaged parts of the tiles of a canvas.
 
 ghost use Rattle.std.specs.Prelude.{◌≡◌, ◌&&◌, pos, if◌then◌else◌, Some, None, is_some, IfSome};
-ghost use Rattle.geom_core.specs.Areas.{area, clipped, IsWithin};
+ghost use Rattle.geom_core.specs.Areas.{area};
+ghost use Rattle.geom_core.specs.Overlaps.{clipped, IsWithin};
 ghost use Rattle.geom_core.specs.Grid.{Key, same_key, tile, IsWorldKey};
 ghost use Rattle.tile_core.specs.Marks.{has_mark, on_canvas};
 ghost use Rattle.tile_core.specs.Damage.{part_at, grown, has_all, intact};

@@ -3,9 +3,8 @@
 ghost use Rattle.std.specs.Prelude.{◌≡◌, OnOk, OnErr, true};
 ghost use Rattle.std.specs.BTreeMap as tree;
 ghost use Rattle.std.specs.Option.{option_copied};
-ghost use Rattle.geom_core.specs.Areas.{holds, world};
+ghost use Rattle.geom_core.specs.Areas.{holds, world, point};
 ghost use Rattle.geom_core.specs.Grid.{key_cmp, key_of};
-ghost use Rattle.geom_core.specs.Points.{point};
 ghost use Rattle.tile_core.specs.Maps.{PutsUnder};
 ghost use Rattle.tile_core.specs.Pixels.{pixel_or};
 

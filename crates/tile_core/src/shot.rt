@@ -4,9 +4,9 @@ ghost use Rattle.std.specs.Prelude.{List, [], ◌∷◌, ◌++◌, length, repli
 ghost use Rattle.std.specs.List.{list_any};
 ghost use Rattle.std.specs.Option.{option_copied};
 ghost use Rattle.std.specs.FinMap as map;
-ghost use Rattle.geom_core.specs.Areas.{holds, lies_in, world, IsWithin, IsShared};
+ghost use Rattle.geom_core.specs.Overlaps.{IsWithin, IsShared};
 ghost use Rattle.geom_core.specs.Grid.{Key, IsWorldKey, tile as tile_area};
-ghost use Rattle.geom_core.specs.Points.{point};
+ghost use Rattle.geom_core.specs.Areas.{point, holds, lies_in, world};
 ghost use Rattle.tile_core.specs.Pixels.{HasPixels};
 ghost use Rattle.tile_core.specs.Shots.{sight, sight_at, with_seen, LaysKey, ReadsKeys};
 

@@ -5,8 +5,8 @@ ghost use Rattle.tile_core.specs.Pixels.{Pixels, pixel_of, pixel_at, HasPixels};
 ghost use Rattle.tile_core.specs.Parts.{IsPartOf};
 ghost use Rattle.geom_core.specs.Grid.{IsWorldKey, tile};
 ghost use Rattle.tile_core.specs.Blocks.{LaysBlock};
-ghost use Rattle.geom_core.specs.Areas.{IsWithin, holds, world};
-ghost use Rattle.geom_core.specs.Points.{point};
+ghost use Rattle.geom_core.specs.Overlaps.{IsWithin};
+ghost use Rattle.geom_core.specs.Areas.{point, holds, world};
 ghost use Rattle.pixel_core.specs.Rgba.{clear};
 
 use crate::Block;

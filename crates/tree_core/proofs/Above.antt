@@ -3,7 +3,8 @@ use Rattle.std.proofs.Common.{◌≡◌, ℕ, suc, ◌+◌, ◌-◌, ◌<◌, �
 use Rattle.std.proofs.lemmas.List.{take_more}
 use Rattle.std.proofs.lemmas.Bool.Decides.{nat_tests}
 use Rattle.geom_core.proofs.Tests.{taken, kept}
-use Rattle.doc_model.specs.Forest.{depth, parent}
+use Rattle.doc_model.specs.Forest.{depth}
+use Rattle.doc_model.specs.Readers.{parent}
 use Rattle.tree_core.specs.declared.node.Node.{Node}
 use Rattle.tree_core.specs.Nodes.{tree_of, IsKept, last_low}
 use Rattle.tree_core.proofs.Passes.{first_with, last_above}

@@ -2,7 +2,8 @@
 use Rattle.std.proofs.Common.{◌≡◌, ℕ, suc, zero, ◌+◌, ◌≤◌, Bool, true, false, ◌||◌, cond, Option, IsNone, ◌↔◌, is_some, Some, None, List, [], ◌∷◌, ◌++◌, map, refl, sym, ap, ◌∙◌, arith, eqb, ltb, append_assoc, append-nil}
 use Rattle.std.proofs.lemmas.Bool.Decides.{nat_tests}
 use Rattle.geom_core.proofs.Tests.{kept, none_left, none_right}
-use Rattle.doc_model.specs.Forest.{none, paint, group, has, depth, parent}
+use Rattle.doc_model.specs.Forest.{none, paint, group, has, depth}
+use Rattle.doc_model.specs.Readers.{parent}
 use Rattle.doc_model.specs.Flat.{flat}
 use Rattle.tree_core.specs.declared.node.Node.{Node}
 use Rattle.tree_core.specs.Nodes.{Tree, row_of, tree_of, IsKept}

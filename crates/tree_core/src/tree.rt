@@ -3,11 +3,11 @@
 ghost use Rattle.std.specs.Prelude.{◌≡◌, ℕ, ◌≤◌, ◌+◌, true, false, ◌||◌, ◌==◌, not, None, Ok, Err, IfErr, OnOk, OnErr, IsNone, ◌↔◌};
 ghost use Rattle.doc_model.specs.Changes.{changed, there, takes, child_count, no_new, no_place, set_in, new_look, answer};
 ghost use Rattle.doc_model.specs.Flat.{node};
-ghost use Rattle.doc_model.specs.Forest.{none, has, is_group, count, depth, height, only, without, parent};
+ghost use Rattle.doc_model.specs.Forest.{none, has, is_group, count, depth, height, only, without};
 ghost use Rattle.doc_model.specs.declared.tree.Change.TheVariants as change;
 ghost use Rattle.tree_core.specs.Nodes.{content_of};
 ghost use Rattle.doc_model.specs.Laws.{IsDocument};
-ghost use Rattle.doc_model.specs.Readers.{look_in, child_in};
+ghost use Rattle.doc_model.specs.Readers.{look_in, child_in, parent};
 
 use crate::edits::{move_along, push_all, set_look, take_out};
 use crate::lookup::{above, child_at, children_at, find, group_at, group_in, holds, span};

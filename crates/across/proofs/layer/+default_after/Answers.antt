@@ -1,7 +1,8 @@
 use Rattle.std.proofs.Common.{◌≡◌, true, eqb, sym, ap, ◌∙◌, arith}
 use Rattle.std.proofs.lemmas.Bool.Decides.{nat_tests}
 use Rattle.pixel_core.specs.Rgba.{clear}
-use Rattle.doc_model.specs.Layers.{Layer, default-plain}
+use Rattle.doc_model.specs.Layers.{Layer}
+use Rattle.doc_model.proofs.LayerLaws.{default-plain}
 use Rattle.doc_model.proofs.JobLaws.{default-apply}
 use Rattle.across.specs.Steps.{layer_after}
 use Rattle.across.specs.declared.layer.Deed.TheVariants.{Fresh, Paint}

@@ -3,11 +3,12 @@ use Rattle.std.proofs.lemmas.Bool.Decides.{nat_tests}
 use Rattle.std.proofs.lemmas.List.{length-map}
 use borrow.Author.Differences.{ints}
 use Rattle.pixel_core.specs.Rgba.{clear}
-use Rattle.geom_core.specs.Areas.{holds, any_holds, moved, points_of}
+use Rattle.geom_core.specs.Overlaps.{any_holds}
 use Rattle.std.specs.Prelude.{◌-ℤ◌}
-use Rattle.geom_core.specs.Points.{point}
+use Rattle.geom_core.specs.Areas.{point, holds, moved, points_of}
 use Rattle.geom_core.proofs.Tests.{taken}
-use Rattle.doc_model.specs.Layers.{Layer, at, at-plain}
+use Rattle.doc_model.specs.Layers.{Layer, at}
+use Rattle.doc_model.proofs.LayerLaws.{at-plain}
 use Rattle.doc_model.specs.Jobs.{mean, square, writes}
 use Rattle.across.specs.Steps.{point_of, layer_after, job_sound}
 use Rattle.across.specs.declared.layer.Deed.TheVariants.{Fresh}

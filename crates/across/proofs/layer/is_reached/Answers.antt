@@ -2,7 +2,7 @@ use Rattle.std.proofs.Common.{◌≡◌, true, ◌&&◌, ◌∙◌, to_z, of_z, 
 use borrow.Author.Differences.{ints}
 use Rattle.geom_core.specs.Areas.{lies_in, moved, world}
 use Rattle.geom_core.proofs.Tests.{and_left}
-use Rattle.doc_model.specs.Lawful.{checks}
+use Rattle.doc_model.specs.Jobs.{checks}
 use Rattle.doc_model.specs.declared.job.Job.TheVariants.{Move}
 use Rattle.across.proofs.layer.is_reached.Goals as goal
 

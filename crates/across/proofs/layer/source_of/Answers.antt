@@ -1,7 +1,7 @@
 use Rattle.std.proofs.Common.{◌≡◌, to_z, of_z, w32, arith}
 use Rattle.std.specs.Prelude.{◌-ℤ◌}
 use borrow.Author.Differences.{ints}
-use Rattle.geom_core.specs.Points.{point}
+use Rattle.geom_core.specs.Areas.{point}
 use Rattle.across.proofs.Layered.{IsBack, back_in_world}
 use Rattle.across.proofs.layer.source_of.Goals as goal
 

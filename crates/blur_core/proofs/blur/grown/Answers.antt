@@ -1,7 +1,8 @@
 use Rattle.std.proofs.Common.{◌≡◌, ℕ, ℤ, pos, negsuc, ◌<◌, ◌-ℤ◌, ◌+◌, ◌*◌, to_z, of_z, w32, true, false, ◌∙◌, sym, subst, arith}
 use Rattle.std.specs.Prelude.{◌≤ℤ◌}
 use borrow.Author.Differences.{ints}
-use Rattle.geom_core.specs.Areas.{Area, area, IsInWorld, lies_in, world}
+use Rattle.geom_core.specs.Areas.{Area, area, lies_in, world}
+use Rattle.geom_core.specs.Overlaps.{IsInWorld}
 use Rattle.doc_model.specs.Jobs.{grown}
 use Rattle.doc_model.proofs.InWorld.{outside}
 use Rattle.blur_core.proofs.blur.grown.Goals as goal

@@ -1,6 +1,6 @@
 use Rattle.std.proofs.Common.{◌≡◌, length, arith, sym, subst, ap, ◌∙◌}
 use Rattle.std.proofs.lemmas.Bool.Decides.{nat_tests}
-use Rattle.doc_model.specs.Jobs.{published}
+use Rattle.doc_model.specs.Shots.{published}
 use Rattle.job_core.specs.Paints as paints
 use Rattle.tile_core.specs.Blocks.{LaysBlock}
 use Rattle.memento_core.specs.Planes.{tile_under}

@@ -1,5 +1,5 @@
 use Rattle.std.proofs.Common.{◌≡◌, Some, sym, subst, ap, ◌∙◌}
-use Rattle.doc_model.specs.Jobs.{published}
+use Rattle.doc_model.specs.Shots.{published}
 use Rattle.job_core.specs.Paints as paints
 use Rattle.paint_device.specs.Seen.{layer_of}
 use Rattle.desk_steps.specs.Founds.{GivesBack, StandIn, keys_in}

@@ -1,6 +1,6 @@
 use Rattle.std.proofs.Common.{ap, ◌∙◌, sym, ◌*◌, get_or, replicate}
 use Rattle.pixel_core.specs.Rgba.{clear}
-use Rattle.geom_core.specs.Areas.{place_in}
+use Rattle.geom_core.specs.Overlaps.{place_in}
 use Rattle.tile_core.proofs.Taken.{plain_pixels}
 use Rattle.export_core.specs.Pieces.{given_on}
 use Rattle.export_core.proofs.spot.pixels_on.Goals as goal

@@ -1,7 +1,7 @@
 use Rattle.std.proofs.Common.{◌≡◌, ◌∙◌, ap, sym, arith, pos, to_z, of_z, w16}
 use Rattle.std.specs.Prelude.{◌+ℤ◌}
 use borrow.Author.Differences.{ints}
-use Rattle.pixel_core.specs.Bytes.{mul}
+use Rattle.pixel_core.specs.Compose.{mul}
 use Rattle.pixel_core.proofs.Rounding.{whole}
 use Rattle.brush_mask.specs.Mask.{mask}
 use Rattle.job_core.proofs.dabs.write_strengths.Goals as goal

@@ -1,7 +1,8 @@
 use Rattle.std.proofs.Common.{◌+◌, [], drop, map, refl, arith}
 use Rattle.std.proofs.KnownBytes.{Appends-nil}
 use Rattle.io_edge.proofs.Written.{prefix_behind, on_err_any}
-use Rattle.log_out.specs.Summary.{counts, sheet_of, frame_line, frame_lines, sum_text}
+use Rattle.log_out.specs.Summary.{sheet_of}
+use Rattle.log_out.specs.Log.{counts, frame_line, frame_lines, sum_text}
 use Rattle.log_out.proofs.Begun.{begun_is, begun_next, begun_fails}
 use Rattle.log_out.proofs.Sheets.{sheets_at}
 use Rattle.log_out.proofs.summary.write_sum.Goals as goal

@@ -1,5 +1,6 @@
 use Rattle.std.proofs.Common.{◌+◌, ◌≤◌, drop, map}
-use Rattle.log_out.specs.Summary.{frame_lines, sheet_of, sum_text}
+use Rattle.log_out.specs.Summary.{sheet_of}
+use Rattle.log_out.specs.Log.{frame_lines, sum_text}
 use Rattle.log_out.proofs.Begun.{Begun}
 use Rattle.log_out.proofs.summary.write_sum.Given as goal
 

@@ -1,7 +1,6 @@
 use Rattle.std.proofs.Common.{◌≡◌, ◌∙◌, ◌-◌, sym, ap, get_or}
 use Rattle.pixel_core.specs.Rgba.{if_canonical}
-use Rattle.pixel_core.specs.Bytes.{mul}
-use Rattle.pixel_core.specs.Compose.{laid}
+use Rattle.pixel_core.specs.Compose.{laid, mul}
 use Rattle.pixel_core.proofs.Sums.{erase_is, composed_laid}
 use Rattle.pixel_core.proofs.ComposeLaws.{unseen_leaves}
 use Rattle.pixel_core.proofs.blending.compose.Goals as goal

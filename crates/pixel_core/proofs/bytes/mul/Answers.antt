@@ -1,4 +1,4 @@
-use Rattle.pixel_core.specs.Bytes.{mul as product}
+use Rattle.pixel_core.specs.Compose.{mul as product}
 use Rattle.pixel_core.proofs.Rounding.{no_ties}
 use Rattle.pixel_core.proofs.bytes.mul.Goals as goal
 

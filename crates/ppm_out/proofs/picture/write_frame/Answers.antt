@@ -3,7 +3,8 @@ use Rattle.std.specs.List.{concat}
 use Rattle.std.proofs.KnownBytes.{Appends-nil}
 use Rattle.tile_core.specs.Frames.{row_colours}
 use Rattle.io_edge.proofs.Written.{prefix_behind, appends_to, on_err_any}
-use Rattle.ppm_out.specs.Pictures.{header, frame_bytes, colours_of}
+use Rattle.ppm_out.specs.Pictures.{header, frame_bytes}
+use Rattle.ppm_out.specs.Scenes.{colours_of}
 use Rattle.ppm_out.proofs.Lines.{lines, lines_at, lines_more, row_at_front}
 use Rattle.ppm_out.proofs.picture.write_frame.Goals as goal
 

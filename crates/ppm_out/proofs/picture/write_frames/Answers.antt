@@ -4,7 +4,7 @@ use Rattle.std.specs.List.{flat_map}
 use Rattle.std.proofs.lemmas.Option.{slice_get_read}
 use Rattle.tile_core.specs.Frames.{Scene}
 use Rattle.io_edge.proofs.Written.{prefix_behind, on_err_any}
-use Rattle.ppm_out.specs.Pictures.{scene_bytes}
+use Rattle.ppm_out.specs.Scenes.{scene_bytes}
 use Rattle.ppm_out.proofs.Series.{pixmaps_at}
 use Rattle.ppm_out.proofs.picture.write_frames.Goals as goal
 

@@ -1,7 +1,7 @@
 use Rattle.std.proofs.Common.{◌≡◌, ◌≤◌, take, length}
 use Rattle.std.specs.List.{flat_map}
 use Rattle.std.specs.Io.KnownBytes.{Appends}
-use Rattle.ppm_out.specs.Pictures.{scene_bytes}
+use Rattle.ppm_out.specs.Scenes.{scene_bytes}
 use Rattle.ppm_out.proofs.Series.{ShowsLast}
 use Rattle.ppm_out.proofs.picture.write_frames.Given as goal
 

@@ -1,6 +1,6 @@
 use Rattle.std.proofs.Common.{◌≡◌, ◌∙◌, true, false, is_some, ap, sym, subst, arith}
 use Rattle.std.specs.Prelude.{pos}
-use Rattle.geom_core.specs.Points.{point}
+use Rattle.geom_core.specs.Areas.{point}
 use Rattle.geom_core.specs.Grid.{Key, key_of}
 use Rattle.tile_core.specs.Frames.{Scene}
 use Rattle.tile_core.specs.Marks.{has_mark}

@@ -3,7 +3,7 @@ use borrow.Author.Differences.{ints}
 use Rattle.std.proofs.lemmas.Int.{to_z-of_z}
 use Rattle.doc_model.specs.Jobs.{square}
 use Rattle.doc_model.specs.declared.job.Job.TheVariants.{Dab}
-use Rattle.script_forms.specs.Jobs.{in_world}
+use Rattle.script_forms.specs.Ranges.{in_world}
 use Rattle.script_forms.proofs.World.{checked_sound, small, held, not_held, one, left_not, answer, refused}
 use Rattle.script_forms.proofs.jobs.dab_of.Goals as goal
 

@@ -1,6 +1,6 @@
 use Rattle.std.proofs.Common.{◌≡◌, ◌≤ℤ◌, pos, to_z, w32, arith, subst, sym}
 use borrow.Author.Differences.{ints}
-use Rattle.script_lines.specs.Numbers.{number}
+use Rattle.script_lines.specs.Values.{number}
 use Rattle.script_lines.specs.Fronts.{Begins}
 use Rattle.script_lines.proofs.FieldLemmas.{number_first}
 use Rattle.script_lines.proofs.fronts.number_in_before.Goals as goal

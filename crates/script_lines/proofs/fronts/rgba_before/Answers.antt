@@ -1,6 +1,6 @@
 use Rattle.std.proofs.Common.{◌≡◌, ◌∷◌, ◌++◌, take, drop, length, Ok, sym, rules, arith}
 use Rattle.std.proofs.lemmas.List.{take-append-drop, length-take-le}
-use Rattle.script_lines.specs.Colours.{rgba}
+use Rattle.script_lines.specs.Values.{rgba}
 use Rattle.script_lines.proofs.FieldLemmas.{colour_first}
 use Rattle.script_lines.proofs.fronts.rgba_before.Goals as goal
 

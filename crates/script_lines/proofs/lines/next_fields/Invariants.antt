@@ -1,5 +1,6 @@
 use Rattle.std.proofs.Common.{◌==◌, ◌≤◌, length}
-use Rattle.script_lines.specs.Lines.{pointed, is_blank}
+use Rattle.script_lines.specs.Lines.{is_blank}
+use Rattle.script_lines.specs.Fronts.{pointed}
 use Rattle.script_lines.proofs.Pieces.{NonePasses, IsDone}
 use Rattle.script_lines.proofs.lines.next_fields.Given as goal
 

@@ -2,7 +2,7 @@ use Rattle.std.proofs.Common.{rules, arith, ◌≡◌, ◌<◌, ◌-◌, get_or,
 use Rattle.std.specs.Char.{is_ascii_digit}
 use Rattle.std.proofs.lemmas.List.Folds.{list_all_at}
 use Rattle.std.proofs.lemmas.Grind.{common_steps}
-use Rattle.script_lines.specs.Numbers.{magnitude}
+use Rattle.script_lines.specs.Values.{magnitude}
 use Rattle.script_lines.proofs.DigitLemmas.{all_more, value_more, digit}
 use Rattle.script_lines.proofs.numbers.magnitude.Goals as goal
 

@@ -1,7 +1,7 @@
 use Rattle.std.proofs.Common.{rules, ◌≡◌, sym, ap, ◌∙◌, false, Some, Err, take}
 use Rattle.doc_model.specs.Strokes.{entries}
 use Rattle.script_text.specs.declared.script.ReadRefusal.TheVariants.{Fault}
-use Rattle.script_text.specs.Following.{misfit}
+use Rattle.script_text.specs.Reading.{misfit}
 use Rattle.script_forms.specs.Ranges.{is_sound}
 use Rattle.script_text.specs.Read.{IsRefused, TakesCommand}
 use Rattle.script_text.proofs.Refusals.{bad_place, unsound, misfits, gathered_more}

@@ -1,6 +1,6 @@
 use Rattle.std.proofs.Common.{◌≡◌, [], ◌∷◌, ap, ◌∙◌}
 use Rattle.geom_core.specs.Grid.{tile}
-use Rattle.doc_model.specs.Jobs.{shot_of}
+use Rattle.doc_model.specs.Shots.{shot_of}
 use Rattle.desk_steps.specs.Archives.{layer_under_way}
 use Rattle.solo_run.proofs.Circles.{canonical_as_shown}
 use Rattle.solo_run.proofs.one_tile.tell_tile.Goals as goal

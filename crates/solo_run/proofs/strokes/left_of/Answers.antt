@@ -1,5 +1,5 @@
 use Rattle.std.proofs.Common.{◌∙◌, ap}
-use Rattle.doc_model.specs.Jobs.{shot_of}
+use Rattle.doc_model.specs.Shots.{shot_of}
 use Rattle.desk_steps.specs.Archives.{layer_under_way}
 use Rattle.std.proofs.lemmas.Result.{IfOk-weaker}
 use Rattle.solo_run.proofs.strokes.left_of.Goals as goal

@@ -1,7 +1,8 @@
 use Rattle.std.proofs.Common.{◌≡◌, true, sym, subst}
 use Rattle.std.specs.List.{list_any, list_all}
 use Rattle.geom_core.specs.Areas.{lies_in}
-use Rattle.doc_model.specs.Jobs.{reads, published}
+use Rattle.doc_model.specs.Jobs.{reads}
+use Rattle.doc_model.specs.Shots.{published}
 use Rattle.job_core.specs.Paints.{layer_of}
 use Rattle.desk_steps.specs.Archives.{with_put}
 use Rattle.solo_run.specs.Painting.{PaintsOn}

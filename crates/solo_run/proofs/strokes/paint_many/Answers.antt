@@ -1,5 +1,6 @@
 use Rattle.std.proofs.Common.{ap, ◌∙◌}
-use Rattle.doc_model.specs.Jobs.{apply, writes, shot_of, published}
+use Rattle.doc_model.specs.Jobs.{apply, writes}
+use Rattle.doc_model.specs.Shots.{shot_of, published}
 use Rattle.job_core.specs.Paints.{layer_of}
 use Rattle.desk_steps.specs.Archives.{layer_under_way}
 use Rattle.solo_run.specs.Painting.{PaintsOn, in_tiles}

@@ -1,6 +1,6 @@
 use Rattle.std.proofs.Common.{take}
 use Rattle.geom_core.specs.Grid.{keys_of}
-use Rattle.doc_model.specs.Jobs.{published}
+use Rattle.doc_model.specs.Shots.{published}
 use Rattle.job_core.specs.Paints.{layer_of}
 use Rattle.solo_run.specs.Painting.{PaintsOn, in_tiles}
 use Rattle.solo_run.specs.Once.{unmet}

@@ -1,5 +1,5 @@
 use Rattle.std.proofs.Common.{take}
-use Rattle.doc_model.specs.Jobs.{published}
+use Rattle.doc_model.specs.Shots.{published}
 use Rattle.job_core.specs.Paints.{layer_of}
 use Rattle.solo_run.specs.Painting.{PaintsOn, in_tiles}
 use Rattle.solo_run.specs.Once.{each_key_of}

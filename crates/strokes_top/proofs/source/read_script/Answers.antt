@@ -3,7 +3,7 @@ use Rattle.std.proofs.KnownBytes.{Consumes-trans}
 use Rattle.script_text.specs.declared.script.ReadRefusal.TheVariants.{Fault}
 use Rattle.strokes_top.specs.declared.transfer.ReadError.TheVariants as read
 use Rattle.strokes_top.specs.declared.status.Status.TheVariants as status
-use Rattle.strokes_top.specs.Status.{of_read}
+use Rattle.strokes_top.specs.Ends.{of_read}
 use Rattle.strokes_top.proofs.Transfers.{more_in_all, at_most_in_all, faulty_source}
 use Rattle.strokes_top.proofs.Takings.{none_taking, more_taking, counted, counted_with, at_most_counted, is_long, same_fault}
 use Rattle.strokes_top.proofs.source.read_script.Goals as goal

@@ -1,9 +1,11 @@
 use Rattle.std.proofs.Common.{◌≡◌, ◌∙◌, ap, ap₂, sym, subst, map}
 use Rattle.std.specs.List.{flat_map}
 use Rattle.io_edge.proofs.Written.{prefix_is}
-use Rattle.log_out.specs.Summary.{sheet_of, sum_text}
-use Rattle.ppm_out.specs.Pictures.{scene_bytes}
-use Rattle.strokes_top.specs.Output.{output, HasRoom}
+use Rattle.log_out.specs.Summary.{sheet_of}
+use Rattle.log_out.specs.Log.{sum_text}
+use Rattle.ppm_out.specs.Scenes.{scene_bytes}
+use Rattle.strokes_top.specs.Output.{HasRoom}
+use Rattle.strokes_top.specs.Run.{output}
 use Rattle.strokes_top.proofs.Outputs.{one_each, pictures_are, room_each, summary_is, whole_is}
 use Rattle.strokes_top.proofs.writing.write_output.Goals as goal
 

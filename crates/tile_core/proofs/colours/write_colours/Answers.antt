@@ -2,7 +2,7 @@ use Rattle.std.proofs.Common.{◌≡◌, ◌+◌, ◌-◌, ◌*◌, ◌∙◌, s
 use Rattle.std.specs.List.{flat_map}
 use borrow.Rule.Slice.PartMut.{put_mid}
 use Rattle.std.proofs.lemmas.List.{take_all}
-use Rattle.pixel_core.specs.Rgba.{bytes_of}
+use Rattle.pixel_core.specs.Words.{bytes_of}
 use Rattle.tile_core.specs.Frames.{colours}
 use Rattle.tile_core.proofs.LaidColours.{colours_next}
 use Rattle.tile_core.proofs.colours.write_colours.Goals as goal

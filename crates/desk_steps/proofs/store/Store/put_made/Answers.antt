@@ -1,6 +1,6 @@
 use Rattle.std.proofs.Common.{refl, sym, ap, ◌∙◌}
 use Rattle.std.specs.FinSet as set
-use Rattle.doc_model.specs.Jobs.{published}
+use Rattle.doc_model.specs.Shots.{published}
 use Rattle.job_core.specs.Paints.{layer_of}
 use Rattle.desk_steps.specs.Archives.{with_put}
 use Rattle.desk_steps.specs.Documents.{doc_in}

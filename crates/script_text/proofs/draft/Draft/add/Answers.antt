@@ -1,8 +1,8 @@
 use Rattle.std.proofs.Common.{ℕ, ◌≡◌, ◌∙◌, sym, ap, subst, ◌++◌, ◌∷◌, [], length, rules, Some, None, ◌≤◌}
 use Rattle.std.specs.List.{filter, list_all}
-use Rattle.doc_model.specs.Strokes.{entries, fed}
-use Rattle.doc_model.specs.Lawful.{is_export, lawful}
-use Rattle.script_text.specs.Following.{misfit}
+use Rattle.doc_model.specs.Strokes.{entries, fed, is_export}
+use Rattle.doc_model.specs.Lawful.{lawful}
+use Rattle.script_text.specs.Reading.{misfit}
 use Rattle.script_text.specs.Table.{Tells, kept, next_fed, stroke_cause, export_cause}
 use Rattle.script_forms.specs.Ranges.{in_range}
 use Rattle.script_text.proofs.Legal.{lawful_more, ranges_more}

@@ -1,11 +1,11 @@
 use Rattle.std.proofs.Common.{rules, ◌≡◌, ◌+◌, ◌∷◌, ◌++◌, ◌∙◌, List, sym, subst, Some, None, true, false, Result, Err}
 use Rattle.std.specs.Prelude.{IsSome}
 use Rattle.doc_model.specs.Strokes.{entries}
-use Rattle.script_lines.specs.Lines.{pointed, lines, lines_behind, is_command}
+use Rattle.script_lines.specs.Lines.{lines, is_command}
+use Rattle.script_lines.specs.Fronts.{pointed, lines_behind}
 use Rattle.script_forms.specs.Jobs.{Fields}
 use Rattle.script_forms.specs.Plain.{IsJobLine}
-use Rattle.script_text.specs.Following.{misfit}
-use Rattle.script_text.specs.Reading.{cause_by}
+use Rattle.script_text.specs.Reading.{cause_by, misfit}
 use Rattle.script_text.specs.Read.{IsRefused, Takes, TakesCommand, Fits}
 use Rattle.script_text.specs.declared.pieces.Reader.{Reader}
 use Rattle.script_text.specs.declared.script.ReadRefusal.{ReadRefusal}

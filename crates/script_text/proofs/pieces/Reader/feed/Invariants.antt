@@ -1,5 +1,6 @@
 use Rattle.std.proofs.Common.{List, ◌++◌, length}
-use Rattle.script_lines.specs.Lines.{lines, lines_behind}
+use Rattle.script_lines.specs.Lines.{lines}
+use Rattle.script_lines.specs.Fronts.{lines_behind}
 use Rattle.script_forms.specs.Jobs.{Fields}
 use Rattle.script_text.specs.Read.{Fits}
 use Rattle.script_text.specs.Pieces.{HasRead}

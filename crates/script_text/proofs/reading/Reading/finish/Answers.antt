@@ -1,7 +1,8 @@
 use Rattle.std.proofs.Common.{◌≡◌, rules, true, sym, subst, None, List}
 use Rattle.doc_model.specs.declared.command.Command.{Command}
 use Rattle.doc_model.specs.Strokes.{entries}
-use Rattle.script_text.specs.Script.{is_script, contents}
+use Rattle.script_text.specs.Script.{contents}
+use Rattle.script_text.specs.Closed.{is_script}
 use Rattle.script_forms.specs.Ranges.{in_limits}
 use Rattle.script_text.specs.Reading.{left_open}
 use Rattle.script_text.proofs.Closing.{all_shut}

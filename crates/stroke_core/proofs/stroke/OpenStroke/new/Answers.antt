@@ -1,5 +1,5 @@
 use Rattle.std.proofs.Common.{sym, ap, ◌∙◌, []}
-use Rattle.doc_model.specs.Strokes.{up_to}
+use Rattle.doc_model.specs.Kept.{up_to}
 use Rattle.stroke_core.proofs.MoreJobs.{conflict_nil}
 use Rattle.stroke_core.proofs.RunFacts.{kept_none}
 use Rattle.stroke_core.proofs.stroke.OpenStroke.new.Goals as goal

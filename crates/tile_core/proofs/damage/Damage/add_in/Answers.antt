@@ -1,6 +1,6 @@
 use Rattle.std.proofs.Common.{rules, ◌∙◌, ap, sym, ◌≡◌, None, slice_index_or, ◌<◌, length}
 use Rattle.std.proofs.lemmas.List.{get_or_default}
-use Rattle.geom_core.specs.Areas.{clipped}
+use Rattle.geom_core.specs.Overlaps.{clipped}
 use Rattle.geom_core.specs.Grid.{tile}
 use Rattle.tile_core.specs.Damage.{grown, has_all}
 use Rattle.tile_core.proofs.DamagedParts.{fit_set, part_added_to, nothing_added_to, grown_as}

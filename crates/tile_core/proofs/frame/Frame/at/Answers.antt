@@ -5,7 +5,7 @@ use Rattle.std.proofs.lemmas.Int.{to_z_pos}
 use Rattle.std.proofs.Common.{w32, to_z}
 use Rattle.pixel_core.specs.Rgba.{clear}
 use Rattle.pixel_core.specs.Compose.{on_paper}
-use Rattle.geom_core.specs.Points.{point}
+use Rattle.geom_core.specs.Areas.{point}
 use Rattle.geom_core.specs.Grid.{key_cmp, key_of}
 use Rattle.tile_core.specs.Pixels.{pixel_or}
 use Rattle.tile_core.specs.Frames.{Scene, colours_at}

@@ -2,7 +2,7 @@ use Rattle.std.proofs.Common.{◌≡◌, ◌∙◌, sym, ap, arith, ◌*◌, ◌
 use Rattle.std.specs.Prelude.{pos}
 use Rattle.std.specs.FinMap as finite
 use Rattle.std.proofs.lemmas.Int.{to_z_pos}
-use Rattle.geom_core.specs.Points.{point}
+use Rattle.geom_core.specs.Areas.{point}
 use Rattle.geom_core.specs.Grid.{Key, key, key_cmp, key_of}
 use Rattle.tile_core.specs.Frames.{Scene}
 use Rattle.tile_core.proofs.MapViews.{get-view}

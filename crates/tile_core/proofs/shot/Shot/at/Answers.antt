@@ -1,7 +1,7 @@
 use Rattle.std.proofs.Common.{◌≡◌, ◌∙◌, ap}
 use Rattle.std.specs.BTreeMap as tree
 use Rattle.std.proofs.lemmas.Int.{to_z-of_z}
-use Rattle.geom_core.specs.Points.{point}
+use Rattle.geom_core.specs.Areas.{point}
 use Rattle.geom_core.specs.Grid.{key_cmp, key_of}
 use Rattle.tile_core.specs.Pixels.{pixel_or}
 use Rattle.tile_core.specs.Shots.{Sight, sight_at}

@@ -1,5 +1,5 @@
 use Rattle.std.proofs.Common.{ap, ◌∙◌}
-use Rattle.doc_model.specs.Forest.{parent}
+use Rattle.doc_model.specs.Readers.{parent}
 use Rattle.tree_core.specs.Nodes.{tree_of}
 use Rattle.tree_core.proofs.Parents.{parent_absent_only}
 use Rattle.tree_core.proofs.tree.Tree.parent.Goals as goal
