@@ -1,6 +1,6 @@
 //! What is proved of the definitions, each law as the contract of a function that does nothing.
 
-ghost use Rattle.doc_model.specs.Laws.{LawsOfJobs, JobsCommute, TilesCommute, ConflictsBothWays, UndoThenRedo, RedoThenUndo, UndoGivesBack, RefusedLeavesNothing, ChangesKeepLimits, MeaningKeepsLimits};
+ghost use Rattle.doc_model.specs.Laws.{LawsOfJobs, JobsCommute, TilesCommute, ConflictsBothWays, UndoThenRedo, RedoThenUndo, UndoGivesBack, RefusedLeavesNothing, OneOutcomeAnEntry, ChangesKeepLimits, MeaningKeepsLimits};
 ghost use Rattle.doc_model.specs.UpdateLaws.{QueuedKeepsPlaces, QueuedCovers};
 
 /// What every job keeps to: outside its writes all stays, and inside them each pixel depends on
@@ -39,9 +39,14 @@ pub fn undo_gives_back()
     ensures { UndoGivesBack }
 {}
 
-/// A cancelled or refused stroke or change leaves nothing but its outcome.
+/// An entry that is cancelled or refused, an undo and a redo too, leaves nothing but its outcome.
 pub fn refused_leaves_nothing()
     ensures { RefusedLeavesNothing }
+{}
+
+/// The meaning of entries has one outcome for each of them.
+pub fn one_outcome_an_entry()
+    ensures { OneOutcomeAnEntry }
 {}
 
 /// A change that is not refused keeps a document within the limits: each id once and never 0, at

@@ -14,7 +14,7 @@ pub use command::{Command, Outcome};
 pub use job::{Job, Kind, square_round};
 pub use laws::{
     changes_keep_limits, conflicts_both_ways, job_laws, jobs_commute, meaning_keeps_limits,
-    queued_covers, queued_keeps_places, redo_then_undo, refused_leaves_nothing, tiles_commute,
-    undo_gives_back, undo_then_redo,
+    one_outcome_an_entry, queued_covers, queued_keeps_places, redo_then_undo,
+    refused_leaves_nothing, tiles_commute, undo_gives_back, undo_then_redo,
 };
 pub use tree::{Change, Look, TreeFault};

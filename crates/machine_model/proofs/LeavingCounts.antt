@@ -3,6 +3,7 @@ use Rattle.std.proofs.Common.{◌≡◌, ℕ, suc, zero, ◌+◌, ◌≤◌, Lis
 use Rattle.doc_model.specs.declared.command.Outcome.{Outcome}
 use Rattle.doc_model.specs.Strokes.{Jobs, Entry, Strokes, Changes, Undoes, Redoes, Purges, Exports, entries, conflict}
 use Rattle.doc_model.specs.Kept.{up_to}
+use Rattle.doc_model.specs.Strokes as strokes
 use Rattle.doc_model.specs.Kept as strokes_kept
 use Rattle.machine_model.specs.State.{State, head}
 use Rattle.machine_model.specs.Counted.{jobs_in}

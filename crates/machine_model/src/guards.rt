@@ -1,10 +1,16 @@
 //! Who is never at work beside whom.
 
-ghost use Rattle.machine_model.specs.GuardLaws.{OnlyRunsShare, BarrierStartsClean, BarrierStaysClean, ExclusiveHasNoWalk, WalksNeverMeet, ExportWaits};
+ghost use Rattle.machine_model.specs.GuardLaws.{OnlyRunsShare, SharersMayStart, BarrierStartsClean, BarrierStaysClean, ExclusiveHasNoWalk, WalksNeverMeet, ExportWaits};
 
 /// A sequential job and a barrier are at work alone, and so is a uniquely concurrent job among its like.
 pub fn only_runs_share()
     ensures { OnlyRunsShare }
+{}
+
+/// Where the jobs at work and the next one may share, that one may start: concurrent jobs may be at
+/// work beside each other, in as many slots as are free, and beside a uniquely concurrent one.
+pub fn sharers_may_start()
+    ensures { SharersMayStart }
 {}
 
 /// A barrier starts with no walk at work and none waiting, unless its stroke is exclusive.

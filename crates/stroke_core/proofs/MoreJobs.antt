@@ -2,6 +2,7 @@
 use Rattle.std.proofs.Common.{◌≡◌, ℕ, suc, ◌+◌, ◌-◌, ◌<◌, ◌≤◌, true, cond, [], ◌∷◌, ◌++◌, Option, Some, None, is_some, length, take, refl, sym, ap, ◌∙◌, arith}
 use Rattle.doc_model.specs.declared.job.Job.{Job}
 use Rattle.doc_model.specs.declared.job.Kind.{Kind}
+use Rattle.doc_model.specs.Strokes as strokes
 use Rattle.doc_model.specs.Kept as strokes_kept
 use Rattle.doc_model.specs.Strokes.{Jobs, conflict, conflicting, first_conflicting, second_of, pair_at, pair_of}
 use Rattle.doc_model.specs.Kept.{up_to}
