@@ -28,7 +28,7 @@ use Rattle.entry_queue.specs.declared.entry.Entry.{Entry}
 use Rattle.entry_queue.specs.declared.entry.Entry.TheVariants.{Whole}
 use Rattle.entry_queue.specs.Pushed.{Pending, StandsFor, queued}
 use Rattle.desk_steps.specs.Archives.{shape}
-use Rattle.export_core.proofs.SameTree.{has_each}
+use Rattle.doc_model.proofs.SameTree.{has_each}
 use Rattle.script_text.specs.Script.{Contents}
 use Rattle.solo_run.specs.Told.{IsReady}
 use Rattle.solo_run.proofs.Stories.{as_stroke, told_laid, IsNext, next_entry, ready_next, holds_at, told_next, told_none, told_all_left}

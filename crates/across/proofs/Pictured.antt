@@ -14,8 +14,9 @@ use Rattle.machine_model.specs.Groups.{nodes_in}
 use Rattle.machine_model.specs.Effects.{layer_in}
 use Rattle.desk_steps.specs.Archives.{shape}
 use Rattle.export_core.specs.Pieces.{node_pixel}
-use Rattle.export_core.proofs.SameTree.{child_each, child_count_each}
-use Rattle.export_core.proofs.NextNodes.{IsNext, none_next, upper_all}
+use Rattle.doc_model.proofs.SameTree.{child_each, child_count_each}
+use Rattle.doc_model.proofs.NextChildren.{none_next, upper_all}
+use Rattle.export_core.proofs.NextNodes.{IsNext}
 use Rattle.across.proofs.Filling.{Shape}
 
 -- where no child is read, none stands next

@@ -7,6 +7,7 @@ mod stopwatch;
 mod strokes;
 mod tiles;
 mod trees;
+mod walks;
 
 use std::rt::Runtime;
 use std::{env, io};
@@ -19,6 +20,7 @@ enum Subject {
     Strokes,
     Tiles,
     Trees,
+    Walks,
 }
 
 /// The subject of that name.
@@ -29,6 +31,7 @@ fn subject_of(name: &str) -> Option<Subject> {
         "strokes" => Some(Subject::Strokes),
         "tiles" => Some(Subject::Tiles),
         "trees" => Some(Subject::Trees),
+        "walks" => Some(Subject::Walks),
         _ => None,
     }
 }
@@ -50,8 +53,9 @@ fn main(rt: HostRuntime) -> io::Result<()> {
         Some(Subject::Strokes) => strokes::measure(&rt, rt.alloc()),
         Some(Subject::Tiles) => tiles::measure(&rt, rt.alloc()),
         Some(Subject::Trees) => trees::measure(&rt, rt.alloc()),
+        Some(Subject::Walks) => walks::measure(&rt, rt.alloc()),
         None => println!(rt;
-            "benches: pass a word to measure: frames, rows, strokes, tiles, trees"
+            "benches: pass a word to measure: frames, rows, strokes, tiles, trees, walks"
         ),
     }
 }

@@ -1,2 +1,4 @@
 pub mod LaidChildren
 pub mod Pictures
+pub mod SpotPoints
+pub mod LaidPiles

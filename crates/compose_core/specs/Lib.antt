@@ -1,2 +1,4 @@
 pub mod Children
 pub mod Laid
+pub mod Spots
+pub mod Piles

@@ -1,12 +1,14 @@
 //! The children of a group, laid one on another.
 
-ghost use Rattle.std.specs.Prelude.{◌≡◌, ◌+◌, ◌<◌, ◌≤◌, length, IfOk, true};
+ghost use Rattle.std.specs.Prelude.{◌≡◌, ◌+◌, ◌*◌, ◌<◌, ◌≤◌, length, vec_len, IfOk, true};
 ghost use Rattle.geom_core.specs.Overlaps.{IsWithin};
-ghost use Rattle.tile_core.specs.Pixels.{whole_tile};
+ghost use Rattle.tile_core.specs.Pixels.{whole_tile, HasPixels};
 ghost use Rattle.compose_core.specs.Children.{IsComposed};
 ghost use Rattle.compose_core.specs.Laid.{LaysChild};
+ghost use Rattle.compose_core.specs.Spots.{IsSpot, given_on};
 
 use crate::part::{Part, part_of};
+use crate::spot::Spot;
 use doc_model::Look;
 use geom_core::{NoMemory, Rect};
 use pixel_core::Pixel;
@@ -21,6 +23,33 @@ pub enum Given {
     Held(Tile),
     /// That pixel at every point.
     Plain(Pixel),
+}
+
+impl Given {
+    /// The same once more. A tile is shared, and no pixel is copied.
+    pub fn share(&self) -> Result<Given, NoMemory>
+        ensures { IfOk result (λ given. given ≡ self.now) }
+    {
+        match self {
+            Given::Held(tile) => Ok(Given::Held(tile.share()?)),
+            Given::Plain(pixel) => Ok(Given::Plain(*pixel)),
+        }
+    }
+
+    /// The pixels on a part of the tile, in row order.
+    pub fn pixels_on(&self, alloc: Global, spot: &Spot) -> Result<Vec<Pixel>, NoMemory>
+        requires { IsSpot spot.now }
+        ensures all { IfOk result (λ v. vec_len v ≡ spot.now.part.h * spot.now.part.w) }
+        ensures has { IfOk result (λ v. HasPixels spot.now.part (given_on self.now) v.items) }
+    {
+        match self {
+            Given::Held(tile) => tile.part(alloc, spot.key, &spot.part),
+            Given::Plain(pixel) => {
+                let count = spot.part.h() as usize * spot.part.w() as usize;
+                Ok(vec![in alloc; *pixel; count]?)
+            }
+        }
+    }
 }
 
 /// The picture of a group on a rectangle of one tile: the visible children laid from the bottom,

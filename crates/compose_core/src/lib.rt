@@ -4,9 +4,13 @@
 mod children;
 mod laws;
 mod part;
+mod pile;
+mod spot;
 
 pub use children::{Given, compose_tile};
 pub use laws::group_of_pictures;
+pub use pile::Pile;
+pub use spot::Spot;
 
 #[cfg(test)]
 mod tests;

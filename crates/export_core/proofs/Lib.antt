@@ -1,8 +1,5 @@
-pub mod SameTree
 pub mod SeenPixels
-pub mod LoneNodes
 pub mod NextNodes
-pub mod Piles
 pub mod PartPoints
 pub mod GroupSteps
 pub mod CanvasKeys

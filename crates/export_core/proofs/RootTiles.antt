@@ -127,7 +127,7 @@ module _ {doc : Doc} {canvas : Canvas} {before : Scene} {stale : Parts} {f : Sce
 
   looks_at : (x y : ℕ) → x < canvas.w → y < canvas.h → ShowsElsewhere stale doc canvas before → IsRenewedOn doc canvas before stale (keys_of (canvas_area canvas)) f → Alike (put_at f (point (pos x) (pos y))) (picture doc (point (pos x) (pos y)))
   looks_at x y h k shows s = elim (true_or_false (is_damaged stale (point (pos x) (pos y)))) [
-    | inl m ↦ (renewed_at x y h k s).damaged (point (pos x) (pos y)) (key_is (key_of (point (pos x) (pos y))) (key_of (point (pos x) (pos y))) refl) m
+    | inl m ↦ ap seen ((renewed_at x y h k s).damaged (point (pos x) (pos y)) (key_is (key_of (point (pos x) (pos y))) (key_of (point (pos x) (pos y))) refl) m)
     | inr m ↦ ap seen ((renewed_at x y h k s).intact (point (pos x) (pos y)) (key_is (key_of (point (pos x) (pos y))) (key_of (point (pos x) (pos y))) refl) m) ∙ shows.looks x y h k m
   ]
 

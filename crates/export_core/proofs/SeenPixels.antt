@@ -8,12 +8,11 @@ use Rattle.pixel_core.specs.Compose.{weight, channel, erased, laid as laid_by, c
 use Rattle.pixel_core.proofs.Rounding.{exact_at, whole, laws_of_mul}
 use Rattle.pixel_core.proofs.Sums.{test_true, same_rgba, laid_open}
 use Rattle.geom_core.specs.Areas.{Point}
-use Rattle.geom_core.proofs.Tests.{and_right}
 use Rattle.doc_model.specs.declared.tree.Look.{Look}
 use Rattle.doc_model.specs.Layers.{at}
 use Rattle.doc_model.specs.Forest.{none, paint, group}
 use Rattle.doc_model.specs.Picture.{Doc, with_look, laid}
-use Rattle.export_core.specs.Pieces.{seen, Alike, shows_itself}
+use Rattle.export_core.specs.Pieces.{seen, Alike}
 
 -- alpha 0 over any backdrop
 under : (da s d f : ℕ) → 0 < da → nearest ((255 - 0) * da * d + (255 - da) * 0 * s + 0 * da * f) (weight 0 da) ≡ d
@@ -132,23 +131,3 @@ clear_passed look s b e = go look.visible
     go : (v : Bool) → Alike b (cond v (compose look.op s b look.opacity) b)
     go true = sym (seen_seen b) ∙ ap seen (sym (unseen_shows look.op s b look.opacity (ap (λ (p : Rgba). p.a) e)))
     go false = refl
-
--- a source that shows itself on a clear backdrop
-itself : (op : Op) (s : Rgba) → laid_by op s clear (mul s.a 255) ≡ seen s
-itself op s = ap (laid_by op s clear) (whole s.a) ∙ go (eqb s.a 0) refl
-  where
-    go : (t : Bool) → eqb s.a 0 ≡ t → laid_by op s clear s.a ≡ cond t clear s
-    go true e = let z : s.a ≡ 0 = grind (arith, nat_tests) in ap (laid_by op s clear) z ∙ unseen_laid op s clear
-    go false e = laid_on_none op s clear s.a (grind (arith, nat_tests)) refl
-
-alone_by : (op : Op) (v : Bool) (m : ℕ) (s : Rgba) → shows_itself (record { opacity = m; op = op; visible = v }) ≡ true → Alike s (cond v (compose op s clear m) clear)
-unfolding compose
-alone_by op false m s h = cc
-alone_by Erase true m s h = let t : false ≡ true = and_right (eqb m 255) false h in cc
-alone_by Over true m s h = let full : m ≡ 255 = grind (arith, nat_tests) in sym (ap (λ n. seen (compose Over s clear n)) full ∙ ap seen (itself Over s) ∙ seen_seen s)
-alone_by Multiply true m s h = let full : m ≡ 255 = grind (arith, nat_tests) in sym (ap (λ n. seen (compose Multiply s clear n)) full ∙ ap seen (itself Multiply s) ∙ seen_seen s)
-alone_by Screen true m s h = let full : m ≡ 255 = grind (arith, nat_tests) in sym (ap (λ n. seen (compose Screen s clear n)) full ∙ ap seen (itself Screen s) ∙ seen_seen s)
-alone_by Addition true m s h = let full : m ≡ 255 = grind (arith, nat_tests) in sym (ap (λ n. seen (compose Addition s clear n)) full ∙ ap seen (itself Addition s) ∙ seen_seen s)
-
-pub shown_alone : (look : Look) (s : Rgba) → shows_itself look ≡ true → Alike s (with_look look s clear)
-shown_alone look s h = alone_by look.op look.visible look.opacity s h

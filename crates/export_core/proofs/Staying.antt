@@ -22,7 +22,7 @@ use Rattle.machine_model.specs.Reached.{ReachesOneLayer}
 use Rattle.export_core.specs.Exports.{ShowsElsewhere}
 use Rattle.export_core.specs.Pieces.{Alike}
 use Rattle.export_core.proofs.CanvasKeys.{canvas_key}
-use Rattle.export_core.proofs.SameTree.{same_cond, chosen}
+use Rattle.doc_model.proofs.SameTree.{same_cond, chosen}
 
 -- a layer's pixels elsewhere change nothing at a point
 laid_with : (q : ℕ) (x y : Layer) (f : Doc) (p : Point) (b : Rgba) → at x p ≡ at y p → laid (with_content q x f) p b ≡ laid (with_content q y f) p b

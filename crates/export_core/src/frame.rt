@@ -8,12 +8,12 @@ ghost use Rattle.doc_model.specs.Canvases.{IsOfLimits};
 ghost use Rattle.doc_model.specs.Picture.{picture};
 ghost use Rattle.tile_core.specs.Damage.{intact};
 ghost use Rattle.export_core.specs.Exports.{ShowsDoc, ShowsElsewhere, RenewsTiles};
-ghost use Rattle.export_core.specs.Pieces.{given_on, LooksOn, LooksOnPart, IsRenewed, PutsOn, ShowsNode};
-ghost use Rattle.export_core.specs.Spots.{IsSpot};
+ghost use Rattle.compose_core.specs.Spots.{IsSpot, given_on};
+ghost use Rattle.export_core.specs.Pieces.{LooksOn, LooksOnPart, IsRenewed, PutsOn, ShowsNode};
 
 use crate::group::node_on;
-use crate::spot::{Spot, repainted};
-use compose_core::Given;
+use crate::repainting::repainted;
+use compose_core::{Given, Spot};
 use desk_steps::Store;
 use doc_model::Canvas;
 use geom_core::{NoMemory, TileKey};

@@ -1,16 +1,15 @@
 //! The picture of a node on a part of one tile.
 
-ghost use Rattle.std.specs.Prelude.{◌≡◌, ◌≤◌, IfOk, OnOk, true, false, is_some, length};
+ghost use Rattle.std.specs.Prelude.{◌≡◌, ◌≤◌, IfOk, OnOk, true, false, is_some};
 ghost use Rattle.doc_model.specs.Changes.{takes};
 ghost use Rattle.doc_model.specs.Forest.{content, height};
 ghost use Rattle.doc_model.specs.Laws.{IsDocument};
 ghost use Rattle.machine_model.specs.Groups.{nodes_in};
-ghost use Rattle.export_core.specs.Spots.{IsSpot};
+ghost use Rattle.compose_core.specs.Spots.{IsSpot};
+ghost use Rattle.compose_core.specs.Piles.{IsPile};
 ghost use Rattle.export_core.specs.Pieces.{ShowsNode, ShowsLayer, AddsChild};
 
-use crate::pile::Pile;
-use crate::spot::Spot;
-use compose_core::Given;
+use compose_core::{Given, Pile, Spot};
 use desk_steps::Store;
 use geom_core::{NoMemory, TileKey};
 use std::alloc::Global;
@@ -74,8 +73,8 @@ fn add_child(
     requires spot { IsSpot spot.now }
     requires limits { IsDocument store.now.present }
     requires low { height (nodes_in group store.now.present) ≤ levels }
-    requires paired { length pile.old.looks.items ≡ length pile.old.tiles.items }
-    ensures paired { OnOk result (length pile.new.looks.items ≡ length pile.new.tiles.items) }
+    requires known { IsPile pile.old }
+    ensures known { OnOk result (IsPile pile.new) }
     ensures laid { OnOk result (AddsChild (nodes_in group store.now.present) place spot.now.part pile.old pile.new) }
 {
     let tree = store.tree();

@@ -3,8 +3,7 @@
 
 mod frame;
 mod group;
-mod pile;
-mod spot;
+mod repainting;
 #[cfg(test)]
 mod tests;
 

@@ -21,8 +21,8 @@ use Rattle.doc_model.proofs.Parents.{Distinct}
 use Rattle.doc_model.proofs.Weights.{tree_distinct}
 use Rattle.pixel_core.proofs.SamePixels.{same_pixel-Decides}
 use Rattle.export_core.specs.Pieces.{seen, Alike}
-use Rattle.export_core.proofs.LoneNodes.{same_absent}
-use Rattle.export_core.proofs.SameTree.{look_each}
+use Rattle.doc_model.proofs.LoneNodes.{same_absent}
+use Rattle.doc_model.proofs.SameTree.{look_each}
 use Rattle.export_core.proofs.SeenPixels.{laid_alike, look_alike, clear_passed}
 use Rattle.desk_steps.specs.Archives.{shape}
 use Rattle.solo_run.specs.Unseen.{is_hidden, is_unseen, LooksSame}

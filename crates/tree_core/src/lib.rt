@@ -2,6 +2,7 @@
 #![tactic(auto)]
 
 mod edits;
+mod groups;
 mod lookup;
 mod node;
 mod refusals;

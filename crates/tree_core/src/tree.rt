@@ -1,15 +1,16 @@
 //! The tree: its readers and its changes.
 
-ghost use Rattle.std.specs.Prelude.{◌≡◌, ℕ, ◌≤◌, ◌+◌, true, false, ◌||◌, ◌==◌, not, None, Ok, Err, IfErr, OnOk, OnErr, IsNone, ◌↔◌};
+ghost use Rattle.std.specs.Prelude.{◌≡◌, ℕ, ◌≤◌, ◌+◌, true, false, ◌||◌, ◌==◌, not, None, Ok, Err, IfErr, OnOk, OnErr, IsNone, ◌↔◌, length};
 ghost use Rattle.doc_model.specs.Changes.{changed, there, takes, child_count, no_new, no_place, set_in, new_look, answer};
 ghost use Rattle.doc_model.specs.Flat.{node};
 ghost use Rattle.doc_model.specs.Forest.{none, has, is_group, count, depth, height, only, without};
 ghost use Rattle.doc_model.specs.declared.tree.Change.TheVariants as change;
 ghost use Rattle.tree_core.specs.Nodes.{content_of};
 ghost use Rattle.doc_model.specs.Laws.{IsDocument};
-ghost use Rattle.doc_model.specs.Readers.{look_in, child_in, parent};
+ghost use Rattle.doc_model.specs.Readers.{look_in, child_in, order, parent};
 
 use crate::edits::{move_along, push_all, set_look, take_out};
+use crate::groups::groups_of;
 use crate::lookup::{above, child_at, children_at, find, group_at, group_in, holds, span};
 use crate::node::{Node, new_node};
 use crate::refusals::{new_spot, route_of};
@@ -66,6 +67,15 @@ impl Tree {
         ensures limits { IsDocument self.now }
     {
         self.nodes.len() as u16
+    }
+
+    /// The ids of all groups but the root, each after those in it, those side by side from the
+    /// bottom. One pass over the nodes.
+    pub fn groups(&self) -> ArrayVec<u16, 257>
+        ensures order { result.items ≡ order self.now }
+        ensures few { length result.items ≤ 256 }
+    {
+        groups_of(self.nodes.as_slice())
     }
 
     /// Whether the root or a node has that id.

@@ -1,7 +1,8 @@
 use Rattle.std.proofs.lemmas.Result.{on_ok_weaker}
 use Rattle.std.specs.Option.{option_copied}
 use Rattle.doc_model.specs.Picture.{picture}
-use Rattle.export_core.specs.Pieces.{given_on, LooksOnPart}
+use Rattle.compose_core.specs.Spots.{given_on}
+use Rattle.export_core.specs.Pieces.{LooksOnPart}
 use Rattle.export_core.proofs.RootTiles.{fits_too, tile_put}
 use Rattle.export_core.proofs.PartPoints.{whole_looks, part_looks}
 use Rattle.export_core.proofs.frame.put_part.Goals as goal

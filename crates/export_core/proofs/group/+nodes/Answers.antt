@@ -1,11 +1,15 @@
-use Rattle.std.proofs.Common.{◌≡◌, true, false, refl, ◌∙◌, arith}
+use Rattle.std.proofs.Common.{◌≡◌, true, false, refl, ap, ◌∙◌, arith}
 use Rattle.std.proofs.lemmas.Result.{IfOk-weaker, on_ok_weaker}
 use Rattle.geom_core.proofs.Tests.{not_true}
 use Rattle.doc_model.specs.Changes.{takes}
 use Rattle.machine_model.specs.Groups.{nodes_in}
-use Rattle.export_core.specs.Pieces.{pile_at, ShowsPile, ShowsLayer, LaysOn}
+use Rattle.geom_core.specs.Areas.{Point}
+use Rattle.doc_model.specs.Picture.{with_look, laid}
+use Rattle.compose_core.specs.Spots.{given_on}
+use Rattle.compose_core.specs.Piles.{pile_at, ShowsPile}
+use Rattle.export_core.specs.Pieces.{ShowsLayer}
 use Rattle.export_core.proofs.GroupSteps.{takes_read, next_read, none_read, has_look, passed, laid_given, group_done, layer_shows}
-use Rattle.export_core.proofs.PartPoints.{spot_held, part_key}
+use Rattle.compose_core.proofs.SpotPoints.{spot_held, part_key}
 use Rattle.export_core.proofs.NextNodes.{IsNext}
 use Rattle.export_core.proofs.group.+nodes.Goals as goal
 
@@ -34,12 +38,15 @@ pub add_child-returns-clause-laid : goal.add_child-returns-clause-laid
 add_child-returns-clause-laid t c =
     let next : IsNext c.args.store.now.present (nodes_in c.args.group c.args.store.now.present) c.args.place c.in-Some.id c.in-Some-look.look = next_read c.args.store.now.present c.tree-tree.result.now c.args.group c.args.place c.in-Some.id c.in-Some-look.look c.requires.limits c.tree-tree.ensures.value c.in-Some.ensures c.in-Some-look.ensures.value in
     on_ok_weaker c.add.result
-    (λ (lays : LaysOn c.in-Some-look.look c.in_ok-given.given c.args.pile.now c.add.new.self) p k. laid_given c.args.store.now.present (nodes_in c.args.group c.args.store.now.present) c.args.place c.in-Some.id c.in-Some-look.look c.in_ok-given.given p (pile_at c.args.pile.now p) (pile_at c.add.new.self p) next (c.in_ok-given.ensures p k) (lays p))
+    (λ (lays : (p : Point) → pile_at c.add.new.self p ≡ with_look c.in-Some-look.look (given_on c.in_ok-given.given p) (pile_at c.args.pile.now p)) p k. laid_given c.args.store.now.present (nodes_in c.args.group c.args.store.now.present) c.args.place c.in-Some.id c.in-Some-look.look c.in_ok-given.given p (pile_at c.args.pile.now p) (pile_at c.add.new.self p) next (c.in_ok-given.ensures p k) (lays p))
     c.add.ensures.laid
+
+pub group_on-loop-place-init : goal.group_on-loop-place-init
+group_on-loop-place-init t c = (c.new-pile.ensures.known, (λ p _. ap (laid (nodes_in c.args.group c.args.store.now.present) p) (c.new-pile.ensures.clear p)))
 
 pub group_on-returns : goal.group_on-returns
 group_on-returns t c = IfOk-weaker c.composed.result (ShowsPile c.loop-place.pile c.in_tile.result) _
-    (λ g s p k. s p (spot_held c.args.spot.now c.in_tile.result p c.requires.spot c.in_tile.ensures.value k) ∙ group_done c.args.store.now.present c.tree.result.now c.args.group c.child_count-place-end.result c.loop-place.place c.args.spot.now.part c.loop-place.pile.looks.items c.loop-place.pile.tiles.items p c.tree.ensures.value c.child_count-place-end.ensures.value (omega arith) c.requires.takes c.loop-place.invariant.1 k)
+    (λ g s p k. s p (spot_held c.args.spot.now c.in_tile.result p c.requires.spot c.in_tile.ensures.value k) ∙ group_done c.args.store.now.present c.tree.result.now c.args.group c.child_count-place-end.result c.loop-place.place c.args.spot.now.part c.loop-place.pile p c.tree.ensures.value c.child_count-place-end.ensures.value (omega arith) c.requires.takes c.loop-place.invariant.1 k)
     c.composed.ensures
 
 pub node_on-group_on-requires : goal.node_on-group_on-requires

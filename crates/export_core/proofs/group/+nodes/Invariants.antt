@@ -1,6 +1,7 @@
-use Rattle.std.proofs.Common.{◌≡◌, ◌+◌, ◌*◌, length}
+use Rattle.std.proofs.Common.{◌+◌, ◌*◌}
 use Rattle.machine_model.specs.Groups.{nodes_in}
-use Rattle.export_core.proofs.Piles.{LaidSoFar}
+use Rattle.compose_core.specs.Piles.{IsPile}
+use Rattle.export_core.proofs.GroupSteps.{LaidSoFar}
 use Rattle.export_core.proofs.group.+nodes.Given as goal
 
 abbrev pub decreases-add_child : goal.decreases-add_child
@@ -14,4 +15,4 @@ decreases-node_on l = 3 * l.levels + 2
 
 -- the children so far are laid
 abbrev pub invariant-group_on-loop-place : goal.invariant-group_on-loop-place
-invariant-group_on-loop-place l = (length l.pile.looks.items ≡ length l.pile.tiles.items) × LaidSoFar (nodes_in l.group l.store.present) l.place l.spot.part l.pile.looks.items l.pile.tiles.items
+invariant-group_on-loop-place l = (IsPile l.pile) × LaidSoFar (nodes_in l.group l.store.present) l.place l.spot.part l.pile

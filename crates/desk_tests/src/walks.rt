@@ -1,0 +1,226 @@
+//! Worked values of walks, and that the calls can succeed.
+
+use compose_core::Given;
+use doc_model::{Change, Look, Patch, Walk};
+use geom_core::{NoMemory, Rect, TileKey};
+use paint_device::Device;
+use pixel_core::{Op, Pixel};
+use smallvec::SmallVec;
+use std::alloc::Global;
+use std::test::Fail;
+use tile_core::Tile;
+use tree_core::Tree;
+use walker_core::{
+    Composed, Inputs, Path, all_groups, compose_key, compose_keys, compose_walk, plan,
+};
+
+const CORNER: TileKey = TileKey { row: 0, col: 0 };
+
+const NEXT: TileKey = TileKey { row: 0, col: 1 };
+
+fn red() -> Pixel {
+    Pixel::new(255, 0, 0, 255)
+}
+
+fn green() -> Pixel {
+    Pixel::new(0, 255, 0, 255)
+}
+
+fn blue() -> Pixel {
+    Pixel::new(0, 0, 255, 255)
+}
+
+/// A tree with the group 1 in the root and the group 2 in it.
+fn two_groups() -> Tree {
+    let mut tree = Tree::new();
+    for (id, parent) in [(1, 0), (2, 1)] {
+        let place = 0;
+        let _done = tree.change(&Change::Group { id, parent, place });
+    }
+    tree
+}
+
+/// The path up from a group, or none where there is no such group.
+fn up(alloc: Global, tree: &Tree, group: u16) -> Result<Path, NoMemory> {
+    if tree.is_group(group) {
+        plan(alloc, tree, Walk::Up(group))
+    } else {
+        Ok(SmallVec::new(alloc))
+    }
+}
+
+fn look(op: Op, opacity: u8, visible: bool) -> Look {
+    Look {
+        opacity,
+        op,
+        visible,
+    }
+}
+
+fn over(opacity: u8) -> Look {
+    look(Op::Over, opacity, true)
+}
+
+/// What a walk of the root reads where these are its children from the bottom, each of one pixel.
+fn root_of(alloc: Global, rect: Rect, children: &[(Look, Pixel)]) -> Result<Inputs, NoMemory> {
+    let path = up(alloc, &Tree::new(), 0)?;
+    let mut inputs = Inputs::new(
+        alloc,
+        Patch {
+            walk: Walk::Up(0),
+            rect,
+        },
+        path,
+    );
+    for &(look, pixel) in children {
+        inputs.add_child(alloc, 0, 7, look, &Device::new(alloc, pixel))?;
+    }
+    Ok(inputs)
+}
+
+/// The pixel of a group at the corner of a tile, or None where it isn't there.
+fn pixel_of(composed: &Composed<'_>, group: u16, key: TileKey) -> Option<Pixel> {
+    match composed.given(group, key) {
+        Some(Given::Held(tile)) => Some(tile.pixel(0, 0)),
+        Some(Given::Plain(pixel)) => Some(*pixel),
+        None => None,
+    }
+}
+
+/// The root's pixel at the corner, of a walk over a part of the corner's tile.
+fn root_pixel(
+    alloc: Global,
+    rect: Rect,
+    children: &[(Look, Pixel)],
+) -> Result<Option<Pixel>, NoMemory> {
+    let inputs = root_of(alloc, rect, children)?;
+    let composed = compose_walk(alloc, &inputs)?;
+    Ok(pixel_of(&composed, 0, CORNER))
+}
+
+#[test]
+fn paths(rt: HostRuntime) -> Result<(), Fail> {
+    let tree = two_groups();
+    let alloc = rt.alloc();
+    assert_eq!(rt; up(alloc, &tree, 2)?.as_slice(), [2, 1, 0].as_slice());
+    assert_eq!(rt; up(alloc, &tree, 0)?.as_slice(), [0].as_slice());
+    assert_eq!(rt;
+        plan(alloc, &tree, Walk::All)?.as_slice(),
+        [2, 1, 0].as_slice()
+    );
+    assert_eq!(rt; all_groups(&tree).as_slice(), [2, 1, 0].as_slice());
+    assert_eq!(rt; all_groups(&Tree::new()).as_slice(), [0].as_slice());
+    Ok(())
+}
+
+#[test]
+fn children_laid_from_the_bottom(rt: HostRuntime) -> Result<(), Fail> {
+    let alloc = rt.alloc();
+    let part = Rect::new(0, 0, 2, 1).expect(&rt, "a rectangle of the world");
+    let hidden = look(Op::Over, 255, false);
+    let erase = look(Op::Erase, 255, true);
+    let clear = Some(Pixel::CLEAR);
+    let rows = [
+        (root_pixel(alloc, part, &[])?, clear),
+        (
+            root_pixel(alloc, part, &[(over(128), red())])?,
+            Some(Pixel::new(255, 0, 0, 128)),
+        ),
+        (
+            root_pixel(alloc, part, &[(over(254), red())])?,
+            Some(Pixel::new(255, 0, 0, 254)),
+        ),
+        (root_pixel(alloc, part, &[(over(255), red())])?, Some(red())),
+        (
+            root_pixel(alloc, part, &[(over(255), red()), (hidden, blue())])?,
+            Some(red()),
+        ),
+        (
+            root_pixel(alloc, part, &[(over(255), red()), (over(255), blue())])?,
+            Some(blue()),
+        ),
+        (
+            root_pixel(alloc, part, &[(over(255), blue()), (over(51), red())])?,
+            Some(Pixel::new(51, 0, 204, 255)),
+        ),
+        (
+            root_pixel(alloc, part, &[(over(255), red()), (erase, blue())])?,
+            clear,
+        ),
+    ];
+    for (pixel, expected) in rows {
+        assert_eq!(rt; pixel, expected);
+    }
+    Ok(())
+}
+
+#[test]
+fn only_what_was_asked(rt: HostRuntime) -> Result<(), Fail> {
+    let alloc = rt.alloc();
+    let rect = Rect::new(0, 0, 128, 64).expect(&rt, "a rectangle of the world");
+    let inputs = root_of(alloc, rect, &[(over(128), red())])?;
+    let pixel = Some(Pixel::new(255, 0, 0, 128));
+    let whole = compose_walk(alloc, &inputs)?;
+    let one = compose_key(alloc, &inputs, NEXT)?;
+    let two = compose_keys(alloc, &inputs, &[NEXT, CORNER])?;
+    let rows = [
+        (pixel_of(&whole, 0, CORNER), pixel),
+        (pixel_of(&whole, 0, NEXT), pixel),
+        (pixel_of(&whole, 9, CORNER), None),
+        (pixel_of(&one, 0, CORNER), None),
+        (pixel_of(&one, 0, NEXT), pixel),
+        (pixel_of(&two, 0, CORNER), pixel),
+        (pixel_of(&two, 0, NEXT), pixel),
+    ];
+    for (found, expected) in rows {
+        assert_eq!(rt; found, expected);
+    }
+    Ok(())
+}
+
+#[test]
+fn a_group_in_a_group(rt: HostRuntime) -> Result<(), Fail> {
+    let alloc = rt.alloc();
+    let rect = Rect::new(0, 0, 64, 64).expect(&rt, "a rectangle of the world");
+    let path = up(alloc, &two_groups(), 1)?;
+    let mut inputs = Inputs::new(
+        alloc,
+        Patch {
+            walk: Walk::Up(1),
+            rect,
+        },
+        path,
+    );
+    let mut layer = Device::new(alloc, Pixel::CLEAR);
+    layer.ready(CORNER)?;
+    let tile = Tile::plain(alloc, blue())?;
+    if layer.has(CORNER) {
+        layer.set_tile(CORNER, tile);
+    }
+    let old = Device::new(alloc, green());
+    inputs.add_child(alloc, 1, 7, over(255), &layer)?;
+    inputs.add_child(alloc, 0, 1, over(51), &old)?;
+    let composed = compose_key(alloc, &inputs, CORNER)?;
+    assert_eq!(rt; pixel_of(&composed, 1, CORNER), Some(blue()));
+    assert_eq!(rt;
+        pixel_of(&composed, 0, CORNER),
+        Some(Pixel::new(0, 0, 255, 51))
+    );
+    Ok(())
+}
+
+#[test]
+fn what_two_walks_read(rt: HostRuntime) -> Result<(), Fail> {
+    let alloc = rt.alloc();
+    let rect = Rect::new(0, 0, 64, 64).expect(&rt, "a rectangle of the world");
+    let first = root_of(alloc, rect, &[(over(255), red())])?;
+    let again = root_of(alloc, rect, &[(over(255), red())])?;
+    let other = root_of(alloc, rect, &[(over(255), blue())])?;
+    let faint = root_of(alloc, rect, &[(over(254), red())])?;
+    let more = root_of(alloc, rect, &[(over(255), red()), (over(255), red())])?;
+    assert!(rt; first.same_in(&again, CORNER));
+    assert!(rt; !first.same_in(&other, CORNER));
+    assert!(rt; !first.same_in(&faint, CORNER));
+    assert!(rt; !first.same_in(&more, CORNER));
+    Ok(())
+}

@@ -1,0 +1,13 @@
+//! What a walk over the groups of a tree reads, and the groups' pictures that it computes from it.
+#![tactic(auto)]
+
+mod composed;
+mod inputs;
+mod paths;
+mod row;
+mod same;
+
+pub use composed::{Composed, compose_key, compose_keys, compose_walk};
+pub use inputs::Inputs;
+pub use paths::{Path, all_groups, plan};
+pub use same::{same_on, same_values};
