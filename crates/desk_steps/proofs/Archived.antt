@@ -9,7 +9,7 @@ use Rattle.std.specs.FinSet.{FinSet}
 use Rattle.pixel_core.specs.Rgba.{clear}
 use Rattle.geom_core.specs.Areas.{Area, Point}
 use Rattle.geom_core.specs.Overlaps.{any_holds}
-use Rattle.geom_core.specs.Grid.{Key, key_cmp, key_of, same_key, key_cmp_total}
+use Rattle.geom_core.specs.Grid.{Key, key_cmp, key_of, same_key, all_keys_of, key_cmp_total}
 use Rattle.geom_core.specs.declared.NoMemory.{NoMemory}
 use Rattle.geom_core.proofs.Tests.{none_left, none_right, kept}
 use Rattle.geom_core.proofs.Tiles.{key_same}
@@ -41,11 +41,15 @@ use Rattle.paint_device.specs.Sheets.{Sheet, sheet_at}
 use Rattle.paint_device.specs.Seen.{layer_of}
 use Rattle.paint_device.proofs.Shown.{at-layer_of, default-layer_of}
 use Rattle.history_core.specs.Stacks.{Stack, IsUndone, IsRedone}
+use Rattle.history_core.proofs.Lent.{first_is}
+use Rattle.paint_device.specs.Grabs.{SharesTiles}
+use Rattle.desk_steps.specs.Tiles.{ShowsTiles}
 use Rattle.desk_steps.specs.declared.entry.Entry.{Entry}
 use Rattle.desk_steps.specs.declared.entry.Entry.TheVariants as entry
 use Rattle.desk_steps.specs.declared.entry.Way.{Way}
 use Rattle.desk_steps.specs.Archives.{Archive, IsArchive, IsUnderWay, layer_under_way, reverted, undone, redone}
-use Rattle.desk_steps.specs.Founds.{keys_in, patched}
+use Rattle.memento_core.specs.Revisions.{keys_in}
+use Rattle.desk_steps.specs.Founds.{patched}
 use Rattle.desk_steps.specs.Entries.{doc_of, reach_in, FitsOn, laid, base_of, way_of, archive_of, IsKept, standing_after, FitsKeys, AllFit, Trades, WayFits, KeysStand, IsStored}
 use Rattle.desk_steps.specs.Slots.{Standing, standing, Grows}
 use Rattle.desk_steps.specs.Documents.{doc_in}
@@ -285,17 +289,7 @@ no_tile_held id doc present d k None e is under = λ p h there.
     let l = layer_is id doc present (layer_of d) e is in
     ap (λ l. at l p) l ∙ at-layer_of d p ∙ ap (λ o. pixel_or o d.default_pixel p) (ap (tile_under d.tiles) (key_same (key_of p) k h) ∙ sym under) ∙ sym (default-layer_of d) ∙ ap (λ (l : Layer). l.default_pixel) (sym l)
 
--- a list by its first item
-pub first_is : {A : Type 0} (xs : List A) (x : A) → take 1 xs ≡ x ∷ [] → xs ≡ x ∷ drop 1 xs
-first_is [] x e = absurd (no e)
-  where
-    no : {A : Type 0} {x : A} → [] ≡ x ∷ [] → ⊥
-    no e = cc
-first_is (y ∷ xs) x e = ap (λ z. z ∷ xs) (same x y e)
-  where
-    same : {A : Type 0} (x y : A) → y ∷ [] ≡ x ∷ [] → y ≡ x
-    same x y e = cc
-
+-- the entry to be undone or redone can be laid
 pub undo_fits : (doc : Doc) (history : Stack Entry) (way : Option Way) (room : Bool) (was : Entry) → way_of way ≡ None → take 1 history.past ≡ was ∷ [] → IsKept doc history way room → FitsOn doc was
 undo_fits doc history way room was free first k = no_way way free (λ e.
     let s : IsKept doc history None room = subst (λ v. IsKept doc history v room) e k in
@@ -307,18 +301,6 @@ redo_fits doc history way room was free first k = no_way way free (λ e.
     let s : IsKept doc history None room = subst (λ v. IsKept doc history v room) e k in
     let r : FutureReaches doc (laid doc (was ∷ drop 1 history.future)) = subst (λ es. FutureReaches doc (laid doc es)) (first_is history.future was first) s.archive.future_reaches in
     fits_old doc was r.0)
-
--- nothing is left where there is nothing to lend
-pub nothing_is : {A : Type 0} (xs : List A) → (xs ≢ [] → false ≡ true) → xs ≡ []
-nothing_is [] h = refl
-nothing_is (x ∷ xs) h = false-true (h (λ e. cc))
-
-pub lent_holds : {A : Type 0} (r : Option A) (x : A) {P : Type 0} → r ≡ Some x → OnSome r P → P
-lent_holds None x e h = absurd (no e)
-  where
-    no : {A : Type 0} {x : A} → None ≡ Some x → ⊥
-    no e = cc
-lent_holds (Some y) x e h = h
 
 module _ (doc new : Doc) (history after : Stack Entry) (way : Option Way) (room : Bool) (was is : Entry) where
   -- the newest of the past has become the document
@@ -373,6 +355,11 @@ pub shot_told : (r : Result Sight NoMemory) (d : Sheet) (rects : List Area) (l :
     → IfOk r (λ s. (p : Point) → any_holds rects p ≡ true → sight_at s p ≡ sheet_at d p) → IfOk r (λ s. paints.layer_of s ≡ shot_of rects l)
 shot_told (Ok s) d rects l e default rects_are pixels = shot_is s d rects default rects_are pixels ∙ ap (shot_of rects) (sym e)
 shot_told (Err x) d rects l e default rects_are pixels = tt
+
+-- it shows the whole of the tiles that it shares
+pub tiles_shown : (r : Result Sight NoMemory) (d : Sheet) (rects : List Area) (l : Layer) → l ≡ layer_of d → IfOk r (λ s. s.default_pixel ≡ d.default_pixel) → IfOk r (SharesTiles d (all_keys_of rects)) → IfOk r (ShowsTiles rects l)
+tiles_shown (Ok s) d rects l e default shares = λ p h. ap (λ o. pixel_or o s.default_pixel p) (shares (key_of p) h) ∙ ap (λ c. pixel_or (tile_under d.tiles (key_of p)) c p) default ∙ sym (at-layer_of d p) ∙ ap (λ l. at l p) (sym e)
+tiles_shown (Err x) d rects l e default shares = tt
 
 -- the keys that were noted stand: of a stroke that begins
 pub begin_stands : (ks : Standing) (history : Stack Entry) (way : Option Way) (id : ℕ) (found : Keyed Pixels) → found ≡ map.empty → KeysStand ks history way → KeysStand ks history (Some (record { id = id; found = found }))

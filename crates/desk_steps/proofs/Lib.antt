@@ -1,9 +1,7 @@
 pub mod Filled
 pub mod Devices
 pub mod Lain
-pub mod Sets
 pub mod Patched
-pub mod Traded
 pub mod Rearranged
 pub mod Arranged
 pub mod Exchanged

@@ -20,8 +20,11 @@ use Rattle.paint_device.specs.InPlace.{LaysUnder}
 use Rattle.paint_device.specs.Seen.{layer_of}
 use Rattle.paint_device.proofs.Shown.{at-layer_of, default-layer_of}
 use Rattle.paint_device.proofs.Writes.{seen_after_exchange}
-use Rattle.desk_steps.specs.Founds.{Exchanges, GivesBack, StandIn, keys_in, noted_under, patched}
-use Rattle.desk_steps.proofs.Sets.{same_bools}
+use Rattle.memento_core.specs.Revisions.{keys_in, noted_under}
+use Rattle.memento_core.proofs.Exchanging.{contains-keys_in, has-insert}
+use Rattle.memento_core.proofs.Booked.{exchange_keys}
+use Rattle.desk_steps.specs.Founds.{ExchangesTiles, GivesBack, StandIn, patched}
+use Rattle.memento_core.proofs.Sets.{same_bools}
 use Rattle.desk_steps.proofs.Lain.{ready_layer}
 
 holds_tile : (k : Key) (p : Point) → holds (tile k) p ≡ same_key (key_of p) k
@@ -61,54 +64,21 @@ default-patched-layer_of : (found : Keyed Pixels) (s : Sheet) → (patched found
 default-patched-layer_of found s = default-patched found (layer_of s) ∙ default-layer_of s
 
 -- after an exchange the layer is that with what was noted
-pub exchange_laid : (found after : Keyed Pixels) (old new : Sheet) → Exchanges found after old new → layer_of new ≡ patched found (layer_of old)
+pub exchange_laid : (found after : Keyed Pixels) (old new : Sheet) → ExchangesTiles found after old new → layer_of new ≡ patched found (layer_of old)
 exchange_laid found after old new e = layer_ext _ _
     (default-layer_of new ∙ e.default_pixel ∙ sym (default-patched-layer_of found old))
     (λ p. at-layer_of new p ∙ go p (fin.contains_key found (key_of p)) refl ∙ sym (at-patched-layer_of found old p))
   where
     go : (p : Point) (b : Bool) → fin.contains_key found (key_of p) ≡ b → sheet_at new p ≡ seen found old.default_pixel p (sheet_at old p)
-    go p true h = (λ i. pixel_or (unwrap_or (e.laid (key_of p) h i) None) (e.default_pixel i) p) ∙ sym (taken (fin.contains_key found (key_of p)) _ _ h)
-    go p false h = (λ i. pixel_or (unwrap_or (e.others (key_of p) h i) None) (e.default_pixel i) p) ∙ sym (kept (fin.contains_key found (key_of p)) _ _ h)
+    go p true h = (λ i. pixel_or (unwrap_or (e.tiles.puts.laid (key_of p) h i) None) (e.default_pixel i) p) ∙ sym (taken (fin.contains_key found (key_of p)) _ _ h)
+    go p false h = (λ i. pixel_or (unwrap_or (e.tiles.puts.others (key_of p) h i) None) (e.default_pixel i) p) ∙ sym (kept (fin.contains_key found (key_of p)) _ _ h)
 
--- and to exchange again goes back
-pub exchange_back : (found after : Keyed Pixels) (old new : Sheet) → Exchanges found after old new → Exchanges after found new old
-exchange_back found after old new e = record {
-  default_pixel = sym e.default_pixel;
-  keys = λ k. sym (e.keys k);
-  laid = λ k h. sym (e.lifted k (sym (e.keys k) ∙ h));
-  lifted = λ k h. sym (e.laid k (sym (e.keys k) ∙ h));
-  others = λ k h. sym (e.others k (sym (e.keys k) ∙ h));
-}
-
--- an exchange keeps the keys that stand
-pub exchange_keys : (found after : Keyed Pixels) (old new : Sheet) → Exchanges found after old new → StandIn found (Some old) → (k : Key) → fin.contains_key new.tiles k ≡ fin.contains_key old.tiles k
-exchange_keys found after old new e stand k = go (fin.contains_key found k) refl
-  where
-    go : (b : Bool) → fin.contains_key found k ≡ b → fin.contains_key new.tiles k ≡ fin.contains_key old.tiles k
-    go true h = ap is_some (e.laid k h) ∙ h ∙ sym (stand k h)
-    go false h = ap is_some (e.others k h)
-
-pub exchange_stands : (found after : Keyed Pixels) (old new : Sheet) → Exchanges found after old new → StandIn found (Some old) → StandIn after (Some new)
-exchange_stands found after old new e stand k h = exchange_keys found after old new e stand k ∙ stand k (sym (e.keys k) ∙ h)
-
-pub contains-keys_in : (found : Keyed Pixels) (k : Key) → set.contains (keys_in found) k ≡ fin.contains_key found k
-contains-keys_in found k = set.contains-from_list key_cmp_total (fin.keys found) k ∙ sym (fin.contains_key-keys found k)
-
--- of the same keys something was noted
-pub exchange_notes : (found after : Keyed Pixels) (old new : Sheet) → Exchanges found after old new → keys_in after ≡ keys_in found
-exchange_notes found after old new e = set.same_set key_cmp_total key_cmp-IsAntisymmetric _ _ (λ k. contains-keys_in after k ∙ e.keys k ∙ sym (contains-keys_in found k))
+pub exchange_stands : (found after : Keyed Pixels) (old new : Sheet) → ExchangesTiles found after old new → StandIn found (Some old) → StandIn after (Some new)
+exchange_stands found after old new e stand k h = exchange_keys found after old.tiles new.tiles stand e.tiles k ∙ stand k (sym (e.tiles.keys k) ∙ h)
 
 -- what was noted of nothing
-pub keys_in-empty : keys_in fin.empty ≡ set.empty
-keys_in-empty = set.same_set key_cmp_total key_cmp-IsAntisymmetric _ _ (λ k. contains-keys_in fin.empty k ∙ ap is_some (fin.get-empty key_cmp k) ∙ sym (set.contains-empty key_cmp k))
-
-some_or : {A : Type 0} (b : Bool) (x : A) (o : Option A) → is_some (cond b (Some x) o) ≡ (b || is_some o)
-some_or true x o = refl
-some_or false x o = refl
-
--- a key that comes in is there, and so are the others
-pub has-insert : (found : Keyed Pixels) (k : Key) (t : Option Pixels) (q : Key) → fin.contains_key (fin.insert found k t) q ≡ (same_key q k || fin.contains_key found q)
-has-insert found k t q = ap is_some (fin.get-insert key_cmp_total found k t q) ∙ some_or (same_key q k) t (fin.get found q)
+pub keys_in-empty : keys_in {T = Pixels} fin.empty ≡ set.empty
+keys_in-empty = set.same_set key_cmp_total key_cmp-IsAntisymmetric _ _ (λ k. contains-keys_in {T = Pixels} fin.empty k ∙ ap is_some (fin.get-empty key_cmp k) ∙ sym (set.contains-empty key_cmp k))
 
 -- something is noted of a key
 module _ (found : Keyed Pixels) (k : Key) (t : Option Pixels) where

@@ -5,6 +5,7 @@ use Rattle.std.specs.FinSet.{FinSet}
 use Rattle.std.specs.Coded.{Coded, code_by, coded×, coded_ℕ, coded_bool, coded_list, coded_option}
 use Rattle.pixel_core.specs.Rgba.{clear}
 use Rattle.geom_core.specs.Grid.{key_cmp, key_code}
+use Rattle.geom_core.specs.Touches.{HasTouched}
 use Rattle.geom_core.specs.declared.Touched.{Touched}
 use Rattle.doc_model.specs.Layers.{Layer, plain}
 use Rattle.doc_model.specs.Shots.{published}
@@ -19,7 +20,7 @@ use Rattle.doc_model.specs.declared.tree.Change.{Change}
 use Rattle.std.specs.Prelude.{Ok}
 use Rattle.machine_model.specs.State.{Reach, Whole, Part}
 use Rattle.machine_model.specs.Codes.{reach_code}
-use Rattle.machine_model.specs.Effects.{layer_in, bound_of}
+use Rattle.machine_model.specs.Effects.{layer_in}
 use Rattle.machine_model.specs.Reached.{PastReaches, FutureReaches, ReachesOneLayer}
 use Rattle.job_core.specs.Paints.{Paint, layer_of}
 use Rattle.job_core.specs.Points.{Spot, all_painted_in}
@@ -97,11 +98,6 @@ undone (e ∷ past) a = record a { past = past; base = e.0; present = e.0; futur
 abbrev pub redone : List (Doc × Reach) → Archive → Archive
 redone [] a = a
 redone (e ∷ future) a = record a { past = (a.base, e.1) ∷ a.past; base = e.0; present = e.0; future = future }
-
--- how many tiles were exchanged, and the rectangle round them
-pub record HasTouched (keys : FinSet key_cmp) (touched : Touched) : Type 0 where
-  pub count : touched.count ≡ set.len keys
-  pub bound : touched.bound ≡ bound_of (set.items keys)
 
 -- what is told of a reach: for tiles of a layer the group round it and these tiles, for a tree change that it is the whole
 abbrev pub TellsReach : Reach → Doc → told.Reach → Type 0

@@ -16,7 +16,8 @@ use Rattle.desk_steps.specs.Archives as archives
 use Rattle.desk_steps.specs.declared.document.Document.{Document}
 use Rattle.desk_steps.specs.Slots.{Standing, standing}
 use Rattle.desk_steps.specs.Documents.{doc_in, arranged, arranged_standing, Fits}
-use Rattle.desk_steps.specs.Founds.{keys_in, patched}
+use Rattle.memento_core.specs.Revisions.{keys_in}
+use Rattle.desk_steps.specs.Founds.{patched}
 
 -- the document that an entry gives back, from the one that it is laid on
 abbrev pub doc_of : Doc → Entry → Doc

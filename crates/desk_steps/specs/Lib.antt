@@ -1,5 +1,4 @@
 pub mod Archives
-pub mod KeySets
 pub mod Founds
 pub mod Slots
 pub mod Documents

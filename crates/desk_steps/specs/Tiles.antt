@@ -1,10 +1,12 @@
 -- The tile that a device gets where something was painted.
-use Rattle.std.specs.Prelude.{◌≡◌, true, cond, pos, ◌-ℤ◌, Option}
+use Rattle.std.specs.Prelude.{◌≡◌, true, cond, pos, ◌-ℤ◌, Option, List}
 use Rattle.std.specs.Option.{option_or}
-use Rattle.geom_core.specs.Areas.{Point}
+use Rattle.std.specs.List.{list_any}
+use Rattle.geom_core.specs.Areas.{Area, Point}
 use Rattle.geom_core.specs.Overlaps.{any_holds}
-use Rattle.geom_core.specs.Grid.{Key, key}
+use Rattle.geom_core.specs.Grid.{Key, key, key_of, same_key, all_keys_of}
 use Rattle.tile_core.specs.Pixels.{Pixels, pixel_at}
+use Rattle.tile_core.specs.Shots.{Sight, sight_at}
 use Rattle.memento_core.specs.Planes.{tile_under}
 use Rattle.doc_model.specs.declared.job.Job.{Job}
 use Rattle.doc_model.specs.Layers.{Layer, at}
@@ -27,6 +29,10 @@ IsLaidFrom made s t = (w : Paint) → Makes w made → IsLaid w.job (paints.laye
 -- the tile has what point operations that are painted there make of the sheet's own layer
 abbrev pub IsPaintedOn : Spot → Sheet → Pixels → Type 0
 IsPaintedOn w s t = (p : Point) → in_tile w.key p ≡ true → pixel_at t p ≡ at (all_painted_in w.jobs w.key (layer_of s)) p
+
+-- the shot has the layer's pixels in the whole of each tile that the rectangles meet
+abbrev pub ShowsTiles : List Area → Layer → Sight → Type 0
+ShowsTiles rects l shot = (p : Point) → list_any (same_key (key_of p)) (all_keys_of rects) ≡ true → sight_at shot p ≡ at l p
 
 -- the tile to the left of the key, or else the one above
 abbrev pub beside : Sheet → Key → Option Pixels

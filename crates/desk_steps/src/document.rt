@@ -15,23 +15,24 @@ ghost use Rattle.job_core.specs.Points.{all_painted_in};
 ghost use Rattle.paint_device.specs.Seen.{layer_of};
 ghost use Rattle.desk_steps.specs.declared.reach.TreeRefusal.TheVariants as refusal;
 ghost use Rattle.desk_steps.specs.Archives.{shape};
-ghost use Rattle.desk_steps.specs.Founds.{Exchanges, GivesBack, StandIn, keys_in, patched};
+ghost use Rattle.memento_core.specs.Revisions.{keys_in};
+ghost use Rattle.desk_steps.specs.Founds.{ExchangesTiles, GivesBack, StandIn, patched};
 ghost use Rattle.desk_steps.specs.Slots.{ChangesDevice, HasDevices, device_in, standing};
 
 use crate::arrangement::{Arrangement, exchange_devices, slots_of};
-use crate::found::Found;
 use crate::laying::lay;
 use crate::painting::paint;
 use crate::reach::TreeRefusal;
 use doc_model::Change;
 use geom_core::NoMemory;
 use job_core::{Made, PointWork};
-use memento_core::Steps;
+use memento_core::{Revision, Steps};
 use paint_device::Device;
 use std::alloc::Global;
 use std::collections::BTreeMap;
 use std::mem;
 use std::sync::ledger::Ledger;
+use tile_core::Tile;
 use tree_core::Tree;
 
 /// A tree, and a slot for each id that was a paint layer: with the device of a paint layer of the tree,
@@ -76,7 +77,7 @@ impl Document {
 
     /// Exchanges what was noted with the tiles of a paint layer under the same keys, which are there.
     /// One step for each key, and no memory.
-    pub fn exchange<L: Ledger>(&mut self, id: u16, found: &mut Found, steps: &mut Steps<L>)
+    pub fn exchange<L: Ledger>(&mut self, id: u16, found: &mut Revision<Tile>, steps: &mut Steps<L>)
         requires layer { is_some (device_in self.old.slots id) ≡ true }
         requires there { StandIn found.old (device_in self.old.slots id) }
         ensures new { doc_in self.new ≡ adjusted id (patched found.old) (doc_in self.old) }
@@ -94,7 +95,7 @@ impl Document {
         &mut self,
         alloc: Global,
         id: u16,
-        found: &mut Found,
+        found: &mut Revision<Tile>,
         made: &Made,
     ) -> Result<(), NoMemory>
         requires layer { is_some (device_in self.old.slots id) ≡ true }
@@ -115,7 +116,7 @@ impl Document {
         &mut self,
         alloc: Global,
         id: u16,
-        found: &mut Found,
+        found: &mut Revision<Tile>,
         work: &PointWork<'_>,
     ) -> Result<(), NoMemory>
         requires layer { is_some (device_in self.old.slots id) ≡ true }
@@ -172,12 +173,12 @@ impl Document {
 fn exchange_under<L: Ledger>(
     devices: &mut BTreeMap<u16, Option<Device>>,
     id: u16,
-    found: &mut Found,
+    found: &mut Revision<Tile>,
     steps: &mut Steps<L>,
 )
     requires layer { is_some (device_in devices.old id) ≡ true }
     requires there { StandIn found.old (device_in devices.old id) }
-    ensures exchanges { ChangesDevice devices.old devices.new id (Exchanges found.old found.new) }
+    ensures exchanges { ChangesDevice devices.old devices.new id (ExchangesTiles found.old found.new) }
     ensures counts { steps.new ≡ steps.old + set.len (keys_in found.old) }
 {
     match devices.get_mut(&id) {
@@ -194,7 +195,7 @@ fn lay_under(
     alloc: Global,
     devices: &mut BTreeMap<u16, Option<Device>>,
     id: u16,
-    found: &mut Found,
+    found: &mut Revision<Tile>,
     made: &Made,
 ) -> Result<(), NoMemory>
     requires layer { is_some (device_in devices.old id) ≡ true }
@@ -219,7 +220,7 @@ fn paint_under(
     alloc: Global,
     devices: &mut BTreeMap<u16, Option<Device>>,
     id: u16,
-    found: &mut Found,
+    found: &mut Revision<Tile>,
     work: &PointWork<'_>,
 ) -> Result<(), NoMemory>
     requires layer { is_some (device_in devices.old id) ≡ true }

@@ -1,6 +1,6 @@
 //! What a history keeps of a change.
 
-ghost use Rattle.std.specs.Prelude.{◌≡◌, ◌≤◌, ◌+◌};
+ghost use Rattle.std.specs.Prelude.{◌≡◌, ◌+◌};
 ghost use Rattle.doc_model.specs.Laws.{IsDocument};
 ghost use Rattle.desk_steps.specs.Archives.{TellsReach, tiles_in};
 ghost use Rattle.desk_steps.specs.Documents.{doc_in};
@@ -9,10 +9,10 @@ ghost use Rattle.desk_steps.specs.Slots.{standing};
 
 use crate::arrangement::Arrangement;
 use crate::document::Document;
-use crate::found::Found;
 use crate::reach::Reach;
-use memento_core::Steps;
+use memento_core::{Revision, Steps};
 use std::sync::ledger::Ledger;
+use tile_core::Tile;
 
 /// What gives back the document from before a change, or after it.
 #[derive(Drop)]
@@ -20,14 +20,14 @@ pub enum Entry {
     /// The other tree, with the devices that it brings or takes.
     Tree(Arrangement),
     /// What stood in some tiles of a layer, which alone differ.
-    Layer { id: u16, found: Found },
+    Layer { id: u16, found: Revision<Tile> },
 }
 
 /// The stroke under way: its layer, and what it found in the tiles that were put.
 #[derive(Drop)]
 pub struct Way {
     pub id: u16,
-    pub found: Found,
+    pub found: Revision<Tile>,
 }
 
 impl Entry {
@@ -42,7 +42,7 @@ impl Entry {
         ensures keys { Trades (standing doc.old.slots) (standing doc.new.slots) self.old self.new }
         ensures reach { TellsReach (reach_in self.old) (doc_in doc.new) result }
         ensures known { IsDocument (doc_in doc.new) }
-        ensures counts { steps.new ≤ steps.old + tiles_in (reach_in self.old) }
+        ensures counts { steps.new ≡ steps.old + tiles_in (reach_in self.old) }
     {
         match self {
             Entry::Tree(other) => {

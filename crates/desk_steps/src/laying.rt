@@ -12,12 +12,14 @@ ghost use Rattle.job_core.specs.Paints.{Paint, Makes};
 ghost use Rattle.paint_device.specs.InPlace.{LaysUnder};
 ghost use Rattle.paint_device.specs.Seen.{layer_of};
 ghost use Rattle.paint_device.specs.Sheets.{sheet_at, with_under};
-ghost use Rattle.desk_steps.specs.Founds.{GivesBack, StandIn, keys_in};
+ghost use Rattle.memento_core.specs.Planes.{tile_under};
+ghost use Rattle.memento_core.specs.Revisions.{keys_in, noted_under};
+ghost use Rattle.desk_steps.specs.Founds.{GivesBack, StandIn};
 ghost use Rattle.desk_steps.specs.Tiles.{IsLaidFrom};
 
-use crate::found::Found;
 use geom_core::{NoMemory, TileKey};
 use job_core::Made;
+use memento_core::Revision;
 use paint_device::Device;
 use std::alloc::Global;
 use tile_core::{Lays, Tile};
@@ -27,7 +29,7 @@ use tile_core::{Lays, Tile};
 pub fn lay(
     alloc: Global,
     device: &mut Device,
-    found: &mut Found,
+    found: &mut Revision<Tile>,
     made: &Made,
 ) -> Result<(), NoMemory>
     requires { StandIn found.old (Some device.old) }
@@ -46,7 +48,7 @@ pub fn lay(
 
 /// Lays one block in place, where something was noted of its tile and nobody shares it. It tells
 /// whether it did; else nothing changes. No memory.
-fn laid_in_place(device: &mut Device, found: &Found, made: &Made) -> bool
+fn laid_in_place(device: &mut Device, found: &Revision<Tile>, made: &Made) -> bool
     requires { StandIn found.now (Some device.old) }
     ensures laid { (w : Paint) → Makes w made.now → result ≡ true → layer_of device.new ≡ published w.job (paints.layer_of w.shot) w.key (layer_of device.old) }
     ensures among { result ≡ true → map.contains_key found.now made.now.key ≡ true }
@@ -64,7 +66,7 @@ fn laid_in_place(device: &mut Device, found: &Found, made: &Made) -> bool
 /// shares the tile. It tells whether it did; else nothing changes. No memory.
 pub fn changed_in_place<L: Lays>(
     device: &mut Device,
-    found: &Found,
+    found: &Revision<Tile>,
     key: TileKey,
     change: &L,
 ) -> bool
@@ -85,7 +87,7 @@ pub fn changed_in_place<L: Lays>(
 /// there is no memory no pixel has changed, and nothing was noted.
 pub fn set_under(
     device: &mut Device,
-    found: &mut Found,
+    found: &mut Revision<Tile>,
     key: TileKey,
     tile: Tile,
 ) -> Result<(), NoMemory>
@@ -98,9 +100,31 @@ pub fn set_under(
     ensures no_note { OnErr result (found.new ≡ found.old) }
 {
     device.ready(key)?;
-    found.note(key, device)?;
+    note(found, device, key)?;
     device.set_tile(key, tile);
     Ok(())
+}
+
+/// Notes what stands under the key, if nothing was noted of it before. The tile is shared.
+fn note(found: &mut Revision<Tile>, device: &Device, key: TileKey) -> Result<(), NoMemory>
+    requires { IsWorldKey key }
+    ensures ok { OnOk result (found.new ≡ noted_under found.old key (tile_under device.now.tiles key)) }
+    ensures err { OnErr result (found.new ≡ found.old) }
+{
+    if !found.has(key) {
+        found.note(key, shared_under(device, key)?)?;
+    }
+    Ok(())
+}
+
+/// The tile under the key, shared, or None where none stands.
+fn shared_under(device: &Device, key: TileKey) -> Result<Option<Tile>, NoMemory>
+    ensures { IfOk result (λ t. t ≡ tile_under device.now.tiles key) }
+{
+    match device.tile(key) {
+        Some(tile) => Ok(Some(tile.share()?)),
+        None => Ok(None),
+    }
 }
 
 /// The tile under the painted key, with one painted block laid on it after another.

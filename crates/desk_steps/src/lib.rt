@@ -4,8 +4,6 @@
 mod arrangement;
 mod document;
 mod entry;
-mod found;
-mod keys;
 mod laying;
 mod painting;
 mod reach;

@@ -8,13 +8,14 @@ ghost use Rattle.memento_core.specs.Planes.{tile_under};
 ghost use Rattle.job_core.specs.Points.{LaysPoints, all_painted_in};
 ghost use Rattle.paint_device.specs.Seen.{layer_of};
 ghost use Rattle.paint_device.specs.Sheets.{tile_or};
-ghost use Rattle.desk_steps.specs.Founds.{GivesBack, StandIn, keys_in};
+ghost use Rattle.memento_core.specs.Revisions.{keys_in};
+ghost use Rattle.desk_steps.specs.Founds.{GivesBack, StandIn};
 ghost use Rattle.desk_steps.specs.Tiles.{IsPaintedOn, beside};
 
-use crate::found::Found;
 use crate::laying::{changed_in_place, set_under};
 use geom_core::{NoMemory, TileKey};
 use job_core::PointWork;
+use memento_core::Revision;
 use paint_device::Device;
 use pixel_core::Pixel;
 use std::alloc::Global;
@@ -25,7 +26,7 @@ use tile_core::{Lays, Tile};
 pub fn paint(
     alloc: Global,
     device: &mut Device,
-    found: &mut Found,
+    found: &mut Revision<Tile>,
     work: &PointWork<'_>,
 ) -> Result<(), NoMemory>
     requires { StandIn found.old (Some device.old) }

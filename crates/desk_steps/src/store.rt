@@ -1,6 +1,6 @@
 //! The store.
 
-ghost use Rattle.std.specs.Prelude.{◌≡◌, ◌≤◌, ◌+◌, ℕ, true, false, [], None, Some, Ok, Err, is_some, take, IfOk, OnOk, OnErr, IfErr, IfSome, IfNone, IsNone, ◌↔◌};
+ghost use Rattle.std.specs.Prelude.{◌≡◌, ◌+◌, ℕ, true, false, [], None, Some, Ok, Err, is_some, take, IfOk, OnOk, OnErr, IfErr, IfSome, IfNone, IsNone, ◌↔◌};
 ghost use Rattle.std.specs.FinSet as set;
 ghost use Rattle.geom_core.specs.Grid.{key_of, same_key};
 ghost use Rattle.geom_core.specs.Areas.{Point};
@@ -11,21 +11,24 @@ ghost use Rattle.doc_model.specs.Forest.{content};
 ghost use Rattle.doc_model.specs.Changes.{changed, there};
 ghost use Rattle.doc_model.specs.declared.tree.TreeFault.{TreeFault};
 ghost use Rattle.machine_model.specs.Effects.{layer_in};
+ghost use Rattle.paint_device.specs.Seen as seen;
 ghost use Rattle.job_core.specs.Paints.{Paint, Makes, IsMade, layer_of};
 ghost use Rattle.desk_steps.specs.declared.reach.Reach.TheVariants as tells;
 ghost use Rattle.desk_steps.specs.declared.reach.TreeRefusal.TheVariants as refusal;
 ghost use Rattle.desk_steps.specs.declared.reach.Begun.TheVariants.{Ready, NoLayer, NotPaint};
-ghost use Rattle.desk_steps.specs.Archives.{Archive, IsArchive, Changes, HasTouched, TellsFirst, empty_archive, layer_under_way, shape, with_put, with_painted, finished, reverted, undone, redone, tiles_in_first};
+ghost use Rattle.geom_core.specs.Touches.{HasTouched};
+ghost use Rattle.desk_steps.specs.Tiles.{ShowsTiles};
+ghost use Rattle.desk_steps.specs.Archives.{Archive, IsArchive, Changes, TellsFirst, empty_archive, layer_under_way, shape, with_put, with_painted, finished, reverted, undone, redone, tiles_in_first};
 
 use crate::document::Document;
 use crate::entry::{Entry, Way};
-use crate::found::Found;
 use crate::reach::{Begun, Reach, TreeRefusal};
 use doc_model::Change;
 use geom_core::{NoMemory, Rect, TileKey, Touched};
 use history_core::UndoStack;
 use job_core::{Made, Painted, PointWork};
-use memento_core::Steps;
+use memento_core::{Revision, Steps};
+use paint_device::Device;
 use pixel_core::Pixel;
 use std::alloc::Global;
 use std::marker::Model;
@@ -98,7 +101,7 @@ impl Store {
             Some(_) => {
                 self.way = Some(Way {
                     id: layer,
-                    found: Found::new(self.alloc),
+                    found: Revision::new(self.alloc),
                 });
                 Ok(Begun::Ready)
             }
@@ -107,11 +110,12 @@ impl Store {
         }
     }
 
-    /// The pixels of the stroke's layer on these rectangles.
+    /// The pixels of the stroke's layer on these rectangles, and in the whole of each tile that they meet.
     pub fn grab(&self, alloc: Global, rects: &[Rect]) -> Result<Shot, NoMemory>
         requires { is_some self.now.way ≡ true }
         ensures rects { IfOk result (λ s. s.rects ≡ rects.now) }
         ensures shot { IfOk result (λ s. layer_of s ≡ shot_of rects.now (layer_under_way self.now.way self.now.present)) }
+        ensures tiles { IfOk result (ShowsTiles rects.now (layer_under_way self.now.way self.now.present)) }
     {
         let Some(way) = &self.way else {
             unreachable!();
@@ -175,13 +179,13 @@ impl Store {
         self.room = false;
     }
 
-    /// Takes the stroke back, as if it had never begun. It tells the tiles that were put back. No memory,
-    /// and a step for each of them.
+    /// Takes the stroke back: the document is that from before it began, and what could be undone and
+    /// redone still can. It tells the tiles that were put back. No memory, and a step for each of them.
     pub fn revert<L: Ledger>(&mut self, steps: &mut Steps<L>) -> Touched
         requires { is_some self.old.way ≡ true }
         ensures new { self.new ≡ reverted self.old }
         ensures touched { (layer : ℕ) (keys : set.FinSet _) → self.old.way ≡ Some (layer, keys) → HasTouched keys result }
-        ensures counts { steps.new ≤ steps.old + result.count }
+        ensures counts { steps.new ≡ steps.old + result.count }
     {
         match self.way.take() {
             Some(mut way) => {
@@ -211,15 +215,16 @@ impl Store {
         Ok(Reach::Whole)
     }
 
-    /// Undoes the newest change. None exactly where there is none. No memory. The tiles of a stroke are
-    /// exchanged, a step each; after a change of the tree the tree is, with the devices that differ.
+    /// Undoes the newest change, and tells how far it reached. None exactly where there is none; then
+    /// all stays. No memory. The tiles of a stroke are exchanged, a step each; after a change of the
+    /// tree the tree is, with the devices that differ, without a step.
     pub fn undo<L: Ledger>(&mut self, steps: &mut Steps<L>) -> Option<Reach>
         requires { self.old.way ≡ None }
         ensures none { IsNone result ↔ (self.old.past ≡ []) }
         ensures new { self.new ≡ undone self.old.past self.old }
         ensures reach { IfSome result (TellsFirst self.old.past self.new.present) }
         ensures known { IsArchive self.old }
-        ensures counts { steps.new ≤ steps.old + tiles_in_first self.old.past }
+        ensures counts { steps.new ≡ steps.old + tiles_in_first self.old.past }
     {
         let entry = self.history.undo()?;
         Some(entry.exchange(&mut self.doc, steps))
@@ -233,7 +238,7 @@ impl Store {
         ensures new { self.new ≡ redone self.old.future self.old }
         ensures reach { IfSome result (TellsFirst self.old.future self.new.present) }
         ensures known { IsArchive self.old }
-        ensures counts { steps.new ≤ steps.old + tiles_in_first self.old.future }
+        ensures counts { steps.new ≡ steps.old + tiles_in_first self.old.future }
     {
         let entry = self.history.redo()?;
         Some(entry.exchange(&mut self.doc, steps))
@@ -255,8 +260,17 @@ impl Store {
         self.doc.tree()
     }
 
-    /// The tile of a layer under a key. None exactly where the id is no paint layer or no tile stands
-    /// there; a paint layer then has its default pixel in that tile.
+    /// The device of a paint layer, which tells its tiles. None exactly where the id is no paint layer.
+    pub fn layer(&self, id: u16) -> Option<&Device>
+        ensures some { IfSome result (λ d. content id self.now.present ≡ Some (seen.layer_of d.now)) }
+        ensures none { IfNone result (content id self.now.present ≡ None) }
+    {
+        self.doc.layer(id)
+    }
+
+    /// The tile of a layer under a key, with the layer's pixels there. None where the id is no paint
+    /// layer, and else only where the layer has its default pixel at each point of that tile; `layer`
+    /// tells whether a tile stands there.
     pub fn tile(&self, layer: u16, key: TileKey) -> Option<&Tile>
         ensures some { IfSome result (λ t. is_some (content layer self.now.present) ≡ true) }
         ensures held { IfSome result (λ t. (p : Point) → same_key (key_of p) key ≡ true → at (layer_in layer self.now.present) p ≡ pixel_at t.now p) }

@@ -108,6 +108,16 @@ impl<R: Drop> UndoStack<R> {
         }
     }
 
+    /// Forgets what can be redone. The past stays.
+    pub fn forget(&mut self)
+        ensures past { self.new.past ≡ self.old.past }
+        ensures future { self.new.future ≡ [] }
+        ensures spare { self.old.spare ≤ self.new.spare }
+    {
+        let done = self.done;
+        self.entries.truncate(done);
+    }
+
     // Steps back where there is a past. The place of the entry that was undone, or of none.
     fn step_back(&mut self) -> usize
         ensures past { self.new.past ≡ drop 1 self.old.past }

@@ -7,8 +7,8 @@ use Rattle.std.specs.FinMap.{FinMap}
 use Rattle.std.specs.FinSet as set
 use Rattle.pixel_core.specs.Rgba.{clear}
 use Rattle.geom_core.specs.Areas.{Area}
-use Rattle.geom_core.specs.Overlaps.{bound}
-use Rattle.geom_core.specs.Grid.{Key, key_set, tile}
+use Rattle.geom_core.specs.Grid.{key_set}
+pub use Rattle.geom_core.specs.Touches.{bound_of}
 use Rattle.doc_model.specs.declared.tree.TreeFault.{TreeFault}
 use Rattle.doc_model.specs.declared.command.Outcome.{Outcome}
 use Rattle.doc_model.specs.declared.command.Outcome.TheVariants as outcome
@@ -34,15 +34,6 @@ writes_of (j ∷ jobs) = writes j.1 ++ writes_of jobs
 -- the tiles of its layer that a stroke may change
 abbrev pub reach_of : Stroke → Reach
 reach_of stroke = Part stroke.layer (key_set (writes_of stroke.jobs))
-
--- the bounding rectangle of tiles
-abbrev pub bound_of : List Key → Option Area
-bound_of [] = None
-bound_of (k ∷ ks) = Some (wider (tile k) (bound_of ks))
-  where
-    wider : Area → Option Area → Area
-    wider a None = a
-    wider a (Some b) = bound a b
 
 -- the updates, with a rectangle or none for the group and those above it
 abbrev pub updates_with : State → ℕ → Option Area → List Patch

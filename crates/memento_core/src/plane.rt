@@ -1,4 +1,4 @@
-//! What a book of revisions asks of the tiles that it takes back.
+//! What a revision asks of the tiles that it takes back.
 
 ghost use Rattle.std.specs.Prelude.{◌≡◌, ℕ, ◌+◌, true, Option};
 ghost use Rattle.std.specs.FinMap as map;
@@ -12,12 +12,15 @@ use std::sync::ledger::Ledger;
 pub trait Plane<T> {
     ghost plane: { Self → Keyed T };
 
+    // what there is of it beside its keys and tiles
+    ghost bare: { Self → Self };
+
     /// Whether the key is there.
     fn has(&self, key: TileKey) -> bool
         ensures { result ≡ map.contains_key (plane self.now) key };
 
-    /// The tile goes under the key, which is there, and what stood there comes back. One step,
-    /// and no memory.
+    /// The tile goes under the key, which is there, and what stood there comes back. All else stays.
+    /// One step, and no memory.
     fn exchange<L: Ledger>(
         &mut self,
         key: TileKey,
@@ -27,5 +30,6 @@ pub trait Plane<T> {
         requires { map.contains_key (plane self.old) key ≡ true }
         ensures old { result ≡ tile_under (plane self.old) key }
         ensures new { plane self.new ≡ map.insert (plane self.old) key tile }
+        ensures rest { bare self.new ≡ bare self.old }
         ensures counts { steps.new ≡ steps.old + 1 };
 }

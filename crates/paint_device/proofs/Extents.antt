@@ -17,26 +17,8 @@ use Rattle.geom_core.proofs.Lying.{lies_trans, bound_lies}
 use Rattle.memento_core.specs.Planes.{tile_under}
 use Rattle.tile_core.specs.Pixels.{Pixels}
 use Rattle.tile_core.proofs.MapViews.{get-view}
-use Rattle.paint_device.specs.Extents.{IsExtent, lies_if, tile_lies}
-
-first_in : (a b : ℤ) (n m : ℕ) → (int_le (int_min a b) a && int_le (a +ℤ pos n) (int_min a b +ℤ pos (nat_abs (int_max (a +ℤ pos n) (b +ℤ pos m) -ℤ int_min a b)))) ≡ true
-first_in a b n m = grind (arith, ints)
-
-second_in : (a b : ℤ) (n m : ℕ) → (int_le (int_min a b) b && int_le (b +ℤ pos m) (int_min a b +ℤ pos (nat_abs (int_max (a +ℤ pos n) (b +ℤ pos m) -ℤ int_min a b)))) ≡ true
-second_in a b n m = grind (arith, ints)
-
-same_when : (b c d : Bool) → (b ≡ true → c ≡ true) → (b ≡ true → d ≡ true) → (c ≡ true → d ≡ true → b ≡ true) → b ≡ (c && d)
-same_when true c d f g h = sym (both_true c d (f refl) (g refl))
-same_when false true true f g h = h refl refl
-same_when false true false f g h = refl
-same_when false false d f g h = refl
-
--- a rectangle has the bounding rectangle of two where it has both
-pub bound_in : (a b d : Area) → lies_in (bound a b) d ≡ (lies_in a d && lies_in b d)
-bound_in a b d = same_when (lies_in (bound a b) d) (lies_in a d) (lies_in b d)
-    (λ h. lies_trans a (bound a b) d (both_true _ _ (first_in a.x b.x a.w b.w) (first_in a.y b.y a.h b.h)) h)
-    (λ h. lies_trans b (bound a b) d (both_true _ _ (second_in a.x b.x a.w b.w) (second_in a.y b.y a.h b.h)) h)
-    (λ f g. bound_lies a b d f g)
+use Rattle.paint_device.specs.Extents.{IsExtent, tile_lies}
+use Rattle.memento_core.specs.KeySets.{lies_if}
 
 -- whether each tile of these entries lies in the rectangle
 pub all_lie : List (Key × Option Pixels) → Area → Bool

@@ -16,7 +16,7 @@ use Rattle.tile_core.specs.Pixels.{Pixels, pixel_or}
 use Rattle.tile_core.specs.Shots.{Sight, sight, sight_at, with_seen}
 use Rattle.memento_core.specs.Planes.{tile_under}
 use Rattle.paint_device.specs.Sheets.{Sheet, sheet_at}
-use Rattle.paint_device.specs.Grabs.{or_else, Grabs}
+use Rattle.paint_device.specs.Grabs.{or_else, Grabs, SharesTiles}
 use Rattle.geom_core.proofs.Tiles.{key_same}
 
 twice : (a b : Bool) (t o : Option Pixels) → or_else (cond b t None) (or_else (cond a t None) o) ≡ or_else (cond (a || b) t None) o
@@ -95,9 +95,25 @@ grabs_rect s a b c rects i r l e g h =
 pub grabs_put_as : (s : Sheet) (a b : Sight) (k : Key) (t : Pixels) → b ≡ with_seen a k t → Some t ≡ tile_under s.tiles k → Grabs s a b (k ∷ [])
 grabs_put_as s a b k t e h = subst (λ v. Grabs s a v (k ∷ [])) (sym e) (grabs_put s a k t h)
 
-pub grabbed_all : (s : Sheet) (rects : List Area) (c : Rgba) (a new : Sight) (i : ℕ) → c ≡ s.default_pixel → a ≡ sight c rects map.empty → length rects ≤ i → i ≤ length rects → Grabs s a new (all_keys_of (take i rects))
-    → (p : Point) → any_holds rects p ≡ true → sight_at new p ≡ sheet_at s p
-grabbed_all s rects c a new i ec ea low high g =
-    let n : i ≡ length rects = omega arith in
-    let all : take i rects ≡ rects = ap (λ m. take m rects) n ∙ take-length rects in
-    grabbed_at s rects new (subst (λ v. Grabs s v new (all_keys_of rects)) (ea ∙ ap (λ (d : Rgba). sight d rects map.empty) ec) (subst (λ rs. Grabs s a new (all_keys_of rs)) all g))
+-- under each key that its rectangles meet it has the sheet's tile
+pub grabbed_under : (s : Sheet) (rects : List Area) (new : Sight) → Grabs s (sight s.default_pixel rects map.empty) new (all_keys_of rects) → SharesTiles s (all_keys_of rects) new
+grabbed_under s rects new g k h = g.tiles k ∙ ap (or_else (cond (list_any (same_key k) (all_keys_of rects)) (tile_under s.tiles k) None)) (map.get-empty key_cmp k)
+    ∙ ap (λ b. or_else (cond b (tile_under s.tiles k) None) None) h ∙ itself (tile_under s.tiles k)
+  where
+    itself : (o : Option Pixels) → or_else o None ≡ o
+    itself None = refl
+    itself (Some t) = refl
+
+-- once all rectangles are taken
+module _ (s : Sheet) (rects : List Area) (c : Rgba) (a new : Sight) (i : ℕ) (ec : c ≡ s.default_pixel) (ea : a ≡ sight c rects map.empty) (low : length rects ≤ i) (high : i ≤ length rects) (g : Grabs s a new (all_keys_of (take i rects))) where
+  grabbed : Grabs s (sight s.default_pixel rects map.empty) new (all_keys_of rects)
+  grabbed =
+      let n : i ≡ length rects = omega (arith, low, high) in
+      let all : take i rects ≡ rects = ap (λ m. take m rects) n ∙ take-length rects in
+      subst (λ v. Grabs s v new (all_keys_of rects)) (ea ∙ ap (λ (d : Rgba). sight d rects map.empty) ec) (subst (λ rs. Grabs s a new (all_keys_of rs)) all g)
+
+  pub grabbed_all : (p : Point) → any_holds rects p ≡ true → sight_at new p ≡ sheet_at s p
+  grabbed_all = grabbed_at s rects new grabbed
+
+  pub grabbed_tiles : SharesTiles s (all_keys_of rects) new
+  grabbed_tiles = grabbed_under s rects new grabbed

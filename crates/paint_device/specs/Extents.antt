@@ -14,11 +14,6 @@ pub record IsExtent (m : Keyed Pixels) (a : Area) : Type 0 where
   pub around : AllLieIn m a
   pub least : (d : Area) → AllLieIn m d → lies_in a d ≡ true
 
--- whether a rectangle that may be there lies in another
-abbrev pub lies_if : Option Area → Area → Bool
-lies_if None d = true
-lies_if (Some a) d = lies_in a d
-
 -- whether a tile that may stand under the key lies in a rectangle
 abbrev pub tile_lies : Option Pixels → Key → Area → Bool
 tile_lies None k d = true

@@ -1,5 +1,5 @@
 -- What a shot takes from a sheet.
-use Rattle.std.specs.Prelude.{◌≡◌, Option, Some, None, List, cond}
+use Rattle.std.specs.Prelude.{◌≡◌, true, Option, Some, None, List, cond}
 use Rattle.std.specs.List.{list_any}
 use Rattle.std.specs.FinMap as map
 use Rattle.geom_core.specs.Grid.{Key, same_key}
@@ -12,6 +12,10 @@ use Rattle.paint_device.specs.Sheets.{Sheet}
 abbrev pub or_else : Option Pixels → Option Pixels → Option Pixels
 or_else None o = o
 or_else (Some t) o = Some t
+
+-- under each of these keys the shot has the tile that stands there, or none where none does
+abbrev pub SharesTiles : Sheet → List Key → Sight → Type 0
+SharesTiles s keys shot = (k : Key) → list_any (same_key k) keys ≡ true → map.get shot.tiles k ≡ tile_under s.tiles k
 
 -- the shot has taken the tiles under these keys
 pub record Grabs (s : Sheet) (old new : Sight) (keys : List Key) : Type 0 where

@@ -3,14 +3,14 @@
 ghost use Rattle.std.specs.Prelude.{◌+◌, ◌∷◌, [], ◌≡◌, IfOk, OnOk, OnErr, IfSome, IfNone, IsTrue, true, false, Some, None};
 ghost use Rattle.std.specs.Option.{option_copied};
 ghost use Rattle.std.specs.FinMap as map;
-ghost use Rattle.geom_core.specs.Grid.{Key, IsWorldKey, keys_of};
+ghost use Rattle.geom_core.specs.Grid.{Key, IsWorldKey, keys_of, all_keys_of};
 ghost use Rattle.geom_core.specs.Overlaps.{any_holds};
 ghost use Rattle.geom_core.specs.Areas.{Point, point, holds, world};
 ghost use Rattle.memento_core.specs.Planes.{tile_under};
 ghost use Rattle.tile_core.specs.Blocks.{LaysBlock};
 ghost use Rattle.tile_core.specs.Shots.{sight_at};
 ghost use Rattle.paint_device.specs.Sheets.{IsSheet, sheet, sheet_at, with_under, readied, tile_or, WritesBlock};
-ghost use Rattle.paint_device.specs.Grabs.{Grabs};
+ghost use Rattle.paint_device.specs.Grabs.{Grabs, SharesTiles};
 ghost use Rattle.paint_device.specs.InPlace.{LaysUnder};
 ghost use Rattle.paint_device.specs.Extents.{IsExtent};
 
@@ -168,11 +168,13 @@ impl Device {
 }
 
 impl Device {
-    /// The pixels on these rectangles. The shot has the device's ground, and shares its tiles.
+    /// The pixels on these rectangles. The shot has the device's ground, and of each tile that the
+    /// rectangles meet it shares the whole, or has none where none stands.
     pub fn grab(&self, alloc: Global, rects: &[Rect]) -> Result<Shot, NoMemory>
         ensures default_pixel { IfOk result (λ s. s.default_pixel ≡ self.now.default_pixel) }
         ensures rects { IfOk result (λ s. s.rects ≡ rects.now) }
         ensures pixels { IfOk result (λ s. (p : Point) → any_holds rects.now p ≡ true → sight_at s p ≡ sheet_at self.now p) }
+        ensures tiles { IfOk result (SharesTiles self.now (all_keys_of rects.now)) }
     {
         let default_pixel = self.ground();
         let mut shot = Shot::new(alloc, rects, default_pixel)?;
@@ -204,6 +206,8 @@ impl Device {
 
 impl Plane<Tile> for Device {
     ghost plane = { λ s. s.tiles };
+
+    ghost bare = { λ s. sheet s.default_pixel map.empty };
 
     fn has(&self, key: TileKey) -> bool {
         Device::has(self, key)

@@ -9,7 +9,8 @@ ghost use Rattle.geom_core.specs.Grid.{Key, key_cmp, IsWorldKey};
 ghost use Rattle.memento_core.specs.Planes.{tile_under};
 ghost use Rattle.tile_core.specs.Maps.{PutsUnder};
 ghost use Rattle.paint_device.specs.InPlace.{LaidAlone, LaidUnder};
-ghost use Rattle.paint_device.specs.Extents.{IsExtent, lies_if, tile_lies};
+ghost use Rattle.memento_core.specs.KeySets.{lies_if};
+ghost use Rattle.paint_device.specs.Extents.{IsExtent, tile_lies};
 
 use geom_core::{NoMemory, Rect, TileKey};
 use std::collections::BTreeMap;

@@ -34,7 +34,8 @@ use Rattle.tile_core.proofs.DamagedPoints.{grown_first, grown_second, clipped_ha
 use Rattle.export_core.specs.Pieces.{seen}
 use Rattle.export_core.proofs.Staying.{picture_reached, picture_with}
 use Rattle.desk_steps.specs.declared.reach.Reach as told
-use Rattle.desk_steps.specs.Archives.{Archive, IsArchive, IsUnderWay, Way, HasTouched, TellsReach, TellsFirst, undone, redone}
+use Rattle.geom_core.specs.Touches.{HasTouched}
+use Rattle.desk_steps.specs.Archives.{Archive, IsArchive, IsUnderWay, Way, TellsReach, TellsFirst, undone, redone}
 use Rattle.solo_run.proofs.Fronts.{take_more}
 use Rattle.solo_run.specs.Painting.{jobs_only}
 use Rattle.solo_run.specs.Stale.{DamagesRects, DamagesReach, DamagesChanges, IsAll, if_any}

@@ -2,12 +2,13 @@ use Rattle.std.proofs.Common.{◌≡◌, Some, sym, subst, ap, ◌∙◌}
 use Rattle.doc_model.specs.Shots.{published}
 use Rattle.job_core.specs.Paints as paints
 use Rattle.paint_device.specs.Seen.{layer_of}
-use Rattle.desk_steps.specs.Founds.{GivesBack, StandIn, keys_in}
+use Rattle.memento_core.specs.Revisions.{keys_in}
+use Rattle.desk_steps.specs.Founds.{GivesBack, StandIn}
 use Rattle.desk_steps.specs.Tiles.{IsLaid}
 use Rattle.desk_steps.proofs.Devices.{more_ok}
-use Rattle.desk_steps.proofs.Sets.{inserted_again}
+use Rattle.memento_core.proofs.Sets.{inserted_again}
 use Rattle.desk_steps.proofs.Lain.{key_made, laid_layer}
-use Rattle.desk_steps.proofs.Patched.{contains-keys_in}
+use Rattle.memento_core.proofs.Exchanging.{contains-keys_in}
 use Rattle.desk_steps.proofs.laying.lay.Goals as goal
 
 pub returns-then-laid_in_place-clause-keys : goal.returns-then-laid_in_place-clause-keys

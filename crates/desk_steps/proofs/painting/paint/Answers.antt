@@ -5,10 +5,11 @@ use Rattle.job_core.specs.Points.{LaysPoints, all_painted_in}
 use Rattle.paint_device.specs.InPlace.{LaysUnder}
 use Rattle.paint_device.specs.Seen.{layer_of}
 use Rattle.paint_device.specs.Sheets.{with_under}
-use Rattle.desk_steps.specs.Founds.{GivesBack, StandIn, keys_in}
+use Rattle.memento_core.specs.Revisions.{keys_in}
+use Rattle.desk_steps.specs.Founds.{GivesBack, StandIn}
 use Rattle.desk_steps.proofs.Devices.{more_ok}
-use Rattle.desk_steps.proofs.Sets.{inserted_again}
-use Rattle.desk_steps.proofs.Patched.{contains-keys_in}
+use Rattle.memento_core.proofs.Sets.{inserted_again}
+use Rattle.memento_core.proofs.Exchanging.{contains-keys_in}
 use Rattle.desk_steps.proofs.Painted.{painted_layer, painted_in_place}
 use Rattle.desk_steps.proofs.painting.paint.Goals as goal
 

@@ -1,9 +1,11 @@
 use Rattle.std.proofs.Common.{◌≡◌, refl, true, is_some, sym, subst, ◌∙◌}
 use Rattle.doc_model.specs.Forest.{content}
-use Rattle.desk_steps.specs.Archives.{HasTouched, TellsReach}
+use Rattle.geom_core.specs.Touches.{HasTouched}
+use Rattle.desk_steps.specs.Archives.{TellsReach}
 use Rattle.desk_steps.specs.Slots.{standing}
 use Rattle.desk_steps.specs.Documents.{doc_in}
-use Rattle.desk_steps.specs.Founds.{keys_in, patched}
+use Rattle.memento_core.specs.Revisions.{keys_in}
+use Rattle.desk_steps.specs.Founds.{patched}
 use Rattle.desk_steps.specs.Entries.{reach_in, FitsOn, FitsKeys, Trades}
 use Rattle.desk_steps.specs.declared.entry.Entry.TheVariants as entry
 use Rattle.desk_steps.specs.declared.reach.Reach.TheVariants as tells

@@ -5,7 +5,7 @@ use Rattle.job_core.specs.Paints.{layer_of}
 use Rattle.desk_steps.specs.Archives.{with_put}
 use Rattle.desk_steps.specs.Documents.{doc_in}
 use Rattle.desk_steps.specs.Slots.{standing}
-use Rattle.desk_steps.specs.Founds.{keys_in}
+use Rattle.memento_core.specs.Revisions.{keys_in}
 use Rattle.desk_steps.proofs.Devices.{some_in, both_ok, more_ok}
 use Rattle.desk_steps.proofs.Lain.{key_made}
 use Rattle.desk_steps.proofs.Archived.{way_there, way_stands, published_changes, put_kept, put_is, put_stands}

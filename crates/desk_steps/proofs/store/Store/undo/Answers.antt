@@ -5,7 +5,8 @@ use Rattle.desk_steps.specs.Archives.{Archive}
 use Rattle.desk_steps.specs.Documents.{doc_in}
 use Rattle.desk_steps.specs.Slots.{standing}
 use Rattle.desk_steps.specs.Entries.{laid, base_of}
-use Rattle.desk_steps.proofs.Archived.{undo_kept, undo_stands, undone_is, undo_fits, first_stands, nothing_is, lent_holds}
+use Rattle.desk_steps.proofs.Archived.{undo_kept, undo_stands, undone_is, undo_fits, first_stands}
+use Rattle.history_core.proofs.Lent.{nothing_is, lent_holds}
 use Rattle.desk_steps.proofs.store.Store.undo.Goals as goal
 
 pub returns-in_err-entry-clause-none : goal.returns-in_err-entry-clause-none

@@ -1,6 +1,0 @@
-use Rattle.desk_steps.proofs.Sets.{RoundSoFar}
-use Rattle.desk_steps.proofs.keys.bound_of.Given as goal
-
--- the rectangle so far, and the tiles that are left
-abbrev pub invariant-loop-key : goal.invariant-loop-key
-invariant-loop-key l = RoundSoFar l.tiles.keys l.bound l.key-iterator
