@@ -11,6 +11,7 @@ ghost use Rattle.doc_model.specs.Forest.{content};
 ghost use Rattle.doc_model.specs.Changes.{changed, there};
 ghost use Rattle.doc_model.specs.declared.tree.TreeFault.{TreeFault};
 ghost use Rattle.machine_model.specs.Effects.{layer_in};
+ghost use Rattle.paint_device.specs.Seen as seen;
 ghost use Rattle.job_core.specs.Paints.{Paint, Makes, IsMade, layer_of};
 ghost use Rattle.desk_steps.specs.declared.reach.Reach.TheVariants as tells;
 ghost use Rattle.desk_steps.specs.declared.reach.TreeRefusal.TheVariants as refusal;
@@ -26,6 +27,7 @@ use geom_core::{NoMemory, Rect, TileKey, Touched};
 use history_core::UndoStack;
 use job_core::{Made, Painted, PointWork};
 use memento_core::Steps;
+use paint_device::Device;
 use pixel_core::Pixel;
 use std::alloc::Global;
 use std::marker::Model;
@@ -253,6 +255,14 @@ impl Store {
         ensures known { IsArchive self.now }
     {
         self.doc.tree()
+    }
+
+    /// The device of a paint layer. None exactly where the id is no paint layer.
+    pub fn layer(&self, id: u16) -> Option<&Device>
+        ensures some { IfSome result (λ d. content id self.now.present ≡ Some (seen.layer_of d.now)) }
+        ensures none { IfNone result (content id self.now.present ≡ None) }
+    {
+        self.doc.layer(id)
     }
 
     /// The tile of a layer under a key. None exactly where the id is no paint layer or no tile stands

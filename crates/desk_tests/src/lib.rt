@@ -1,0 +1,7 @@
+//! Tests of the parts under the desk, which show that each call can succeed and what it leaves.
+#![tactic(auto)]
+
+#[cfg(test)]
+mod caches;
+#[cfg(test)]
+mod walk_starts;

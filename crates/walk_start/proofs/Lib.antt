@@ -1,0 +1,4 @@
+pub mod SameTree
+pub mod SamePaths
+pub mod NextChildren
+pub mod Filling

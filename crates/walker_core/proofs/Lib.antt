@@ -1,0 +1,10 @@
+pub mod Given
+pub mod Laid
+pub mod Parts
+pub mod Shown
+pub mod RowLists
+pub mod LoneNodes
+pub mod Climbs
+pub mod NextGroups
+pub mod SameReadings
+pub mod Rooms

@@ -1,0 +1,45 @@
+use Rattle.std.proofs.Common.{◌≡◌, ◌∙◌, ap, sym, true, false, [], take, cond, subst, arith, length}
+use Rattle.std.proofs.lemmas.Result.{IfOk-weaker}
+use Rattle.std.proofs.lemmas.List.{take_all}
+use Rattle.pixel_core.specs.Rgba.{Rgba, clear}
+use Rattle.geom_core.specs.Areas.{Point}
+use Rattle.doc_model.specs.Picture.{with_look}
+use Rattle.machine_model.specs.Walks.{walk_folded, value_in}
+use Rattle.walker_core.specs.Piles.{IsPile, ShowsPile, pile_at}
+use Rattle.walker_core.specs.Rows.{given_values}
+use Rattle.walker_core.specs.Views.{children_in, child_of}
+use Rattle.walker_core.proofs.Laid.{source_laid, source_passed, unseen, test_of, test_off}
+use Rattle.walker_core.proofs.Parts.{spot_held}
+use Rattle.walker_core.proofs.row.compose_group.Goals as goal
+use Rattle.walker_core.proofs.row.compose_group.Goals.{then-source-group+then-source+in_ok-add_child, else-source-group, else-source-group-via-then-source-group+else-source, else-source-group-via-else-source-group}
+
+pub loop-source-init : goal.loop-source-init
+loop-source-init c = (c.new-pile.ensures.known, (λ p h k. c.new-pile.ensures.clear p))
+
+pub loop-source-preserved : goal.loop-source-preserved
+loop-source-preserved c = elim c.if-source-group.branch [
+  | then-source-group+then-source+in_ok-add_child w ↦ (
+    subst IsPile (sym w.pile-is) w.in_ok-add_child.ensures.known,
+    (λ p h k. ap (λ q. pile_at q p) w.pile-is ∙ w.in_ok-add_child.ensures.laid p h k
+        ∙ ap (λ b. with_look c.source-item.result.look (value_in (given_values c.args.below.now.path.now c.args.below.now.given.now [] p) (child_of c.args.rect.now c.source-item.result) p) b) (c.loop-source.invariant.1 p h k)
+        ∙ sym (source_laid c.args.rect.now c.args.group c.args.sources.now c.loop-source.source-index c.source-item.result _ p (omega arith) c.source-item.is (test_of _ _ w.if-source-group.true))),
+  )
+  | else-source-group w ↦ elim w.else-source-group.branch [
+    | else-source-group-via-then-source-group+else-source v ↦ (
+      subst IsPile (sym w.pile-is) c.loop-source.invariant.0,
+      (λ p h k. ap (λ q. pile_at q p) w.pile-is ∙ c.loop-source.invariant.1 p h k
+          ∙ sym (source_laid c.args.rect.now c.args.group c.args.sources.now c.loop-source.source-index c.source-item.result _ p (omega arith) c.source-item.is (test_of _ _ v.if-source-group.true) ∙ unseen c.source-item.result.look _ _ v.if-source.false)),
+    )
+    | else-source-group-via-else-source-group v ↦ (
+      subst IsPile (sym w.pile-is) c.loop-source.invariant.0,
+      (λ p h k. ap (λ q. pile_at q p) w.pile-is ∙ c.loop-source.invariant.1 p h k
+          ∙ ap (λ cs. walk_folded (given_values c.args.below.now.path.now c.args.below.now.given.now [] p) cs p clear) (sym (source_passed c.args.rect.now c.args.group c.args.sources.now c.loop-source.source-index c.source-item.result (omega arith) c.source-item.is (test_off _ _ v.if-source-group.false)))),
+    )
+  ]
+]
+
+pub returns : goal.returns
+returns c = IfOk-weaker c.composed.result (ShowsPile c.loop-source.pile c.in_tile.result) _
+    (λ g shows p h k. shows p (spot_held c.args.spot.now c.in_tile.result p c.requires.spot c.in_tile.ensures.value (c.requires.catches p h k)) ∙ c.loop-source.invariant.1 p h k
+    ∙ ap (λ ss. walk_folded (given_values c.args.below.now.path.now c.args.below.now.given.now [] p) (children_in c.args.rect.now c.args.group ss) p clear) (take_all c.loop-source.source-index c.args.sources.now (omega arith)))
+    c.composed.ensures
