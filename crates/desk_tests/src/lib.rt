@@ -1,5 +1,9 @@
-//! Tests of the parts under the desk.
+//! Tests of the parts under the desk, which show that each call can succeed and what it leaves.
 #![tactic(auto)]
 
+#[cfg(test)]
+mod caches;
+#[cfg(test)]
+mod walk_starts;
 #[cfg(test)]
 mod walks;

@@ -165,6 +165,15 @@ impl Device {
     {
         drop(self.swap(key, Some(tile)));
     }
+
+    /// No tile stands under the key afterwards, so that its points have the ground. All else stays.
+    /// No memory and no step.
+    pub fn remove_tile(&mut self, key: TileKey)
+        requires { map.contains_key self.old.tiles key ≡ true }
+        ensures { self.new ≡ with_under self.old key None }
+    {
+        drop(self.swap(key, None));
+    }
 }
 
 impl Device {

@@ -1,0 +1,109 @@
+//! What patches of walks leave in caches, and which caches a change of the tree keeps.
+
+use compose_core::Given;
+use geom_core::{NoMemory, Rect, TileKey};
+use group_caches::Caches;
+use pixel_core::Pixel;
+use std::alloc::Global;
+use std::process::Abort;
+use std::test::Fail;
+use tile_core::Tile;
+
+/// The tile whose corner is (0, 0).
+const CORNER: TileKey = TileKey { row: 0, col: 0 };
+
+fn red() -> Pixel {
+    Pixel::new(255, 0, 0, 255)
+}
+
+fn blue() -> Pixel {
+    Pixel::new(0, 0, 255, 128)
+}
+
+/// The caches of the root and the groups 2 and 7, with 7 red in its first tile and 2 blue in the
+/// rectangle of two columns and three rows from (1, 0) on.
+fn painted(rt: &impl Abort, alloc: Global) -> Result<Caches, NoMemory> {
+    let part = Rect::new(1, 0, 2, 3).expect(rt, "a rectangle of the world");
+    let mut caches = Caches::new(alloc)?;
+    caches.keep([7, 2, 0].as_slice());
+    put(rt, &mut caches, 7, &CORNER.rect(), &Given::Plain(red()))?;
+    put(rt, &mut caches, 2, &part, &Given::Plain(blue()))?;
+    Ok(caches)
+}
+
+/// Lays a picture on the first tile of a group's cache.
+fn put(
+    rt: &impl Abort,
+    caches: &mut Caches,
+    group: u16,
+    rect: &Rect,
+    given: &Given,
+) -> Result<(), NoMemory> {
+    assert!(rt; caches.device(group).is_some());
+    caches.put(group, rect, CORNER, given)
+}
+
+#[test]
+fn a_patch_changes_its_points_in_its_group_alone(rt: HostRuntime) -> Result<(), Fail> {
+    let caches = painted(&rt, rt.alloc())?;
+    let cases = [
+        (7, 0, 0, red()),
+        (7, 63, 63, red()),
+        (7, 64, 0, Pixel::CLEAR),
+        (2, 1, 0, blue()),
+        (2, 2, 2, blue()),
+        (2, 0, 0, Pixel::CLEAR),
+        (2, 3, 0, Pixel::CLEAR),
+        (2, 1, 3, Pixel::CLEAR),
+        (0, 1, 0, Pixel::CLEAR),
+        (9, 1, 0, Pixel::CLEAR),
+    ];
+    for (group, x, y, pixel) in cases {
+        assert_eq!(rt; caches.at(group, x, y), pixel);
+    }
+    Ok(())
+}
+
+#[test]
+fn a_part_of_a_tile_that_is_held_elsewhere(rt: HostRuntime) -> Result<(), Fail> {
+    let alloc = rt.alloc();
+    let mut caches = painted(&rt, alloc)?;
+    let walked = Given::Held(Tile::plain(alloc, red())?);
+    put(&rt, &mut caches, 2, &CORNER.rect(), &walked)?;
+    let part = Rect::new(0, 0, 1, 1).expect(&rt, "a rectangle of the world");
+    put(&rt, &mut caches, 2, &part, &Given::Plain(Pixel::CLEAR))?;
+    assert_eq!(rt; caches.at(2, 0, 0), Pixel::CLEAR);
+    assert_eq!(rt; caches.at(2, 1, 0), red());
+    let Given::Held(tile) = walked else {
+        return Ok(());
+    };
+    assert_eq!(rt; tile.pixel(0, 0), red());
+    Ok(())
+}
+
+#[test]
+fn a_clear_picture_leaves_no_tile(rt: HostRuntime) -> Result<(), Fail> {
+    let mut caches = painted(&rt, rt.alloc())?;
+    let clear = Given::Plain(Pixel::CLEAR);
+    let part = Rect::new(5, 5, 1, 1).expect(&rt, "a rectangle of the world");
+    put(&rt, &mut caches, 0, &part, &clear)?;
+    assert!(rt; caches.tile(0, CORNER).is_none());
+    assert!(rt; caches.tile(7, CORNER).is_some());
+    put(&rt, &mut caches, 7, &CORNER.rect(), &clear)?;
+    assert!(rt; caches.tile(7, CORNER).is_none());
+    assert_eq!(rt; caches.at(7, 0, 0), Pixel::CLEAR);
+    Ok(())
+}
+
+#[test]
+fn a_change_of_the_tree_keeps_the_caches_of_its_groups(rt: HostRuntime) -> Result<(), Fail> {
+    let mut caches = painted(&rt, rt.alloc())?;
+    caches.keep([7, 5, 0].as_slice());
+    assert_eq!(rt; caches.at(7, 63, 63), red());
+    assert!(rt; caches.device(2).is_none());
+    assert_eq!(rt; caches.at(5, 1, 0), Pixel::CLEAR);
+    caches.keep([2, 0].as_slice());
+    assert!(rt; caches.device(7).is_none());
+    assert_eq!(rt; caches.at(2, 1, 0), Pixel::CLEAR);
+    Ok(())
+}

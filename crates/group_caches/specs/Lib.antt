@@ -1,0 +1,5 @@
+pub mod Entries
+pub mod Kept
+pub mod Laying
+pub mod Laws
+pub mod Rooms

@@ -1,0 +1,3 @@
+pub mod SamePaths
+pub mod NextChildren
+pub mod Filling
