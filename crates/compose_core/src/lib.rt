@@ -7,6 +7,3 @@ mod part;
 
 pub use children::{Given, compose_tile};
 pub use laws::group_of_pictures;
-
-#[cfg(test)]
-mod tests;

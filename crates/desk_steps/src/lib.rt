@@ -13,6 +13,3 @@ mod store;
 
 pub use reach::{Begun, Reach, TreeRefusal};
 pub use store::Store;
-
-#[cfg(test)]
-mod tests;

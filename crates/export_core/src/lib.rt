@@ -5,7 +5,5 @@ mod frame;
 mod group;
 mod pile;
 mod spot;
-#[cfg(test)]
-mod tests;
 
 pub use frame::{frame_after, frame_of};

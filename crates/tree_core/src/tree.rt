@@ -208,6 +208,3 @@ impl Tree {
         Ok(())
     }
 }
-
-#[cfg(test)]
-mod tests;
