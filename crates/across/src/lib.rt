@@ -10,8 +10,6 @@ mod picture;
 mod plain;
 mod spots;
 mod telling;
-#[cfg(test)]
-mod tests;
 
 pub use drawn::drawn_script;
 pub use plain::{Told, plain_frames};

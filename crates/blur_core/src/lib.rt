@@ -6,6 +6,3 @@ mod columns;
 mod sums;
 
 pub use blur::blur_block;
-
-#[cfg(test)]
-mod tests;

@@ -68,19 +68,3 @@ fn place_of(x: i16, places: usize) -> usize
 {
     (x.max(0) as usize).min(places)
 }
-
-#[cfg(test)]
-mod tests {
-    use super::*;
-
-    #[test]
-    fn chords(rt: HostRuntime) {
-        assert_eq!(rt; half_chord(2, 1), Some(1));
-        assert_eq!(rt; half_chord(2, -2), Some(0));
-        assert!(rt; half_chord(2, 3).is_none());
-        assert_eq!(rt; chord_in_row(2, -2, 1, 5), Chord { first: 1, end: 4 });
-        assert_eq!(rt; chord_in_row(2, 0, 0, 9), Chord { first: 0, end: 3 });
-        assert_eq!(rt; chord_in_row(2, 3, 0, 9), Chord { first: 0, end: 0 });
-        assert_eq!(rt; chord_in_row(2, -8, 0, 3), Chord { first: 3, end: 3 });
-    }
-}

@@ -43,31 +43,3 @@ fn fallen(r2: u16, d2: u16) -> u8
     let whole = r2 as u32 + 1;
     (255 * (whole - d2 as u32) / whole) as u8
 }
-
-#[cfg(test)]
-mod tests {
-    use super::*;
-
-    #[test]
-    fn masks(rt: HostRuntime) {
-        for (r, soft, dx, dy, want) in [
-            (1u8, true, 0i16, 0i16, 255),
-            (1, true, 1, 0, 127),
-            (1, true, -1, 0, 127),
-            (1, true, 0, 1, 127),
-            (1, true, 0, -1, 127),
-            (1, true, 1, 1, 0),
-            (1, true, -1, 1, 0),
-            (1, false, 1, 0, 255),
-            (1, false, 1, -1, 0),
-            (0, true, 0, 0, 255),
-            (0, true, 1, 0, 0),
-            (2, true, 1, 1, 153),
-            (128, true, 0, -128, 0),
-            (128, false, 128, 0, 255),
-        ] {
-            assert!(rt; r <= 128 && dx.unsigned_abs() <= 128 && dy.unsigned_abs() <= 128);
-            assert_eq!(rt; mask(r, soft, dx, dy), want, "{r} {soft} {dx} {dy}");
-        }
-    }
-}

@@ -99,20 +99,3 @@ fn spare_at(room: u16, dx: i16) -> u16
 {
     room.saturating_sub(square(dx.unsigned_abs()))
 }
-
-#[cfg(test)]
-mod tests {
-    use super::*;
-
-    #[test]
-    fn rows(rt: HostRuntime) {
-        let mut row = [7; 5];
-        mask_row(2, true, -2, 1, &mut row);
-        assert_eq!(rt; row, [0, 153, 204, 153, 0]);
-        mask_row(2, false, -2, 0, &mut row);
-        assert_eq!(rt; row, [255; 5]);
-        let mut row = [7; 3];
-        mask_row(128, true, 126, 0, &mut row);
-        assert_eq!(rt; row, [7, 3, 0]);
-    }
-}

@@ -11,6 +11,3 @@ pub use children::{Given, compose_tile};
 pub use laws::group_of_pictures;
 pub use pile::Pile;
 pub use spot::Spot;
-
-#[cfg(test)]
-mod tests;

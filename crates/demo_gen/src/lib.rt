@@ -4,7 +4,5 @@
 mod draws;
 mod script;
 mod stroke;
-#[cfg(test)]
-mod tests;
 
 pub use script::script_of;

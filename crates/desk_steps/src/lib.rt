@@ -11,6 +11,3 @@ mod store;
 
 pub use reach::{Begun, Reach, TreeRefusal};
 pub use store::Store;
-
-#[cfg(test)]
-mod tests;

@@ -5,8 +5,6 @@ mod canvas;
 mod command;
 mod job;
 mod laws;
-#[cfg(test)]
-mod tests;
 mod tree;
 
 pub use canvas::{Canvas, Patch, Walk};

@@ -3,8 +3,6 @@
 
 mod entry;
 mod queue;
-#[cfg(test)]
-mod tests;
 mod waiting_keys;
 
 pub use entry::Entry;

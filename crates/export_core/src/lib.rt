@@ -4,7 +4,5 @@
 mod frame;
 mod group;
 mod repainting;
-#[cfg(test)]
-mod tests;
 
 pub use frame::{frame_after, frame_of};

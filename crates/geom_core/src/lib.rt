@@ -2,8 +2,6 @@
 //! pixels, and its cells of 256 by 256, by which updates are queued.
 #![tactic(auto, using(crate::proofs::Shifted::shifted))]
 
-#[cfg(test)]
-mod by_hand;
 mod key;
 pub mod laws;
 mod rect;

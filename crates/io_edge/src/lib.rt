@@ -10,6 +10,3 @@ pub use memory::{MemSink, MemSource};
 pub use outside::{Failed, Gate, NoGate, Sink, Source};
 pub use standard::{StdSink, StdSource};
 pub use whole::{write_all, write_pieces};
-
-#[cfg(test)]
-mod tests;

@@ -8,6 +8,5 @@ pub mod ChordRows
 pub mod DabValues
 pub mod MoveValues
 pub mod BlurValues
-pub mod FirstTiles
 pub mod InPlace
 pub mod Runs

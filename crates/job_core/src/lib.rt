@@ -17,6 +17,3 @@ mod task;
 pub use made::Made;
 pub use painted::{Painted, paint_tile};
 pub use points::{PointWork, point_rect};
-
-#[cfg(test)]
-mod tests;

@@ -4,8 +4,6 @@
 mod log;
 mod phrase;
 mod summary;
-#[cfg(test)]
-mod tests;
 
 pub use log::write_log;
 pub use summary::write_sum;

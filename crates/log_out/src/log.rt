@@ -38,7 +38,7 @@ pub fn write_log<K: Sink>(script: &Script, outcomes: &[Outcome], out: &mut K) ->
 }
 
 /// Writes the line of an entry.
-pub(crate) fn write_line<K: Sink>(
+fn write_line<K: Sink>(
     number: usize,
     name: &Phrase,
     ending: &Phrase,

@@ -6,6 +6,3 @@ mod keyed;
 pub mod laws;
 
 pub use device::Device;
-
-#[cfg(test)]
-mod tests;

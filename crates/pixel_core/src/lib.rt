@@ -12,6 +12,3 @@ pub use laws::{
     laws_of_mul, on_clear, opaque_erases, opaque_hides, stays_canonical, unseen_leaves,
 };
 pub use pixel::Pixel;
-
-#[cfg(test)]
-mod tests;

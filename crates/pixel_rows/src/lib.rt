@@ -9,8 +9,6 @@ mod quotient;
 mod rest;
 mod rows;
 mod shares;
-#[cfg(test)]
-mod tests;
 
 pub use block::tell_canonical;
 pub use plain::all_are;

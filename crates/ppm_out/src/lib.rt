@@ -2,7 +2,5 @@
 #![tactic(auto)]
 
 mod picture;
-#[cfg(test)]
-mod tests;
 
 pub use picture::{write_frame, write_frames};

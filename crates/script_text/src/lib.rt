@@ -9,8 +9,6 @@ mod printing;
 mod reading;
 mod script;
 mod table;
-#[cfg(test)]
-mod tests;
 
 pub use laws::printed_reads_back;
 pub use pieces::{Reader, read};

@@ -7,8 +7,6 @@ mod run;
 mod solo;
 mod steps;
 mod strokes;
-#[cfg(test)]
-mod tests;
 mod unseen;
 
 pub use run::{Shown, run_solo};

@@ -5,7 +5,5 @@
 mod bound;
 mod footprint;
 mod stroke;
-#[cfg(test)]
-mod tests;
 
 pub use stroke::{AddFault, ClosedStroke, OpenStroke};

@@ -15,6 +15,3 @@ pub use choice::{Choice, Emit, UnknownEmit};
 pub use command::run;
 pub use status::Status;
 pub use words::Words;
-
-#[cfg(test)]
-mod tests;

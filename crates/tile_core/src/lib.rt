@@ -22,6 +22,3 @@ pub use marks::Marks;
 pub use rows::Part;
 pub use shot::Shot;
 pub use tile::{Lays, Tile, part_in_tile};
-
-#[cfg(test)]
-mod tests;

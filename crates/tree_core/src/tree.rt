@@ -218,6 +218,3 @@ impl Tree {
         Ok(())
     }
 }
-
-#[cfg(test)]
-mod tests;

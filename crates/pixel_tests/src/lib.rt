@@ -1,0 +1,26 @@
+//! Tests of the lower crates, from pixels to the pictures of groups: worked values, and that each call
+//! can succeed. They stand above the crates that they test, so that each of those is proved once.
+#![tactic(auto)]
+
+#[cfg(test)]
+mod blurs;
+#[cfg(test)]
+mod documents;
+#[cfg(test)]
+mod fixtures;
+#[cfg(test)]
+mod groups;
+#[cfg(test)]
+mod jobs;
+#[cfg(test)]
+mod masks;
+#[cfg(test)]
+mod pixels;
+#[cfg(test)]
+mod rectangles;
+#[cfg(test)]
+mod rows;
+#[cfg(test)]
+mod sources;
+#[cfg(test)]
+mod tiles;

@@ -1,0 +1,163 @@
+//! Tiles, blocks, shots, frames, films and damage.
+
+ghost use Rattle.std.specs.Prelude.{◌≡◌, ◌≤◌, ◌∷◌, ◌++◌, [], Some, IfOk, OnOk};
+ghost use Rattle.std.specs.FinMap as map;
+ghost use Rattle.tile_core.specs.Films.{newest};
+ghost use Rattle.tile_core.specs.Frames.{scene, with_put};
+
+use crate::fixtures::{ORIGIN, crosses, opaque, rect};
+use geom_core::{NoMemory, TileKey};
+use pixel_core::Pixel;
+use std::alloc::Global;
+use std::test::Fail;
+use tile_core::{Block, Damage, Film, Frame, Marks, Shot, Tile};
+
+/// The tile to the right of that one.
+const SECOND: TileKey = TileKey { row: 0, col: 1 };
+
+#[test]
+fn a_block_on_a_shared_tile(rt: HostRuntime) -> Result<(), Fail> {
+    let alloc = rt.alloc();
+    let red = opaque(255, 0, 0);
+    let tile = Tile::clear(alloc)?;
+    assert!(rt; tile.is_plain(Pixel::CLEAR));
+    let shared = tile.share()?;
+    let one = rect(&rt, 0, 0, 1, 1);
+    let mut block = Block::new(alloc, ORIGIN, one)?;
+    assert_eq!(rt; block.at(0, 0), Pixel::CLEAR);
+    block.set(0, 0, red);
+    let written = tile.with_region(alloc, &block)?;
+    assert_eq!(rt; written.pixel(0, 0), red);
+    assert_eq!(rt; written.pixel(1, 0), Pixel::CLEAR);
+    assert_eq!(rt; tile.pixel(0, 0), Pixel::CLEAR);
+    assert_eq!(rt; shared.pixel(0, 0), Pixel::CLEAR);
+    crosses(&block);
+    crosses(&written);
+    Ok(())
+}
+
+#[test]
+fn whole_tiles(rt: HostRuntime) -> Result<(), Fail> {
+    let alloc = rt.alloc();
+    let red = opaque(255, 0, 0);
+    let plain = Tile::plain(alloc, red)?;
+    assert!(rt; plain.is_plain(red));
+    assert!(rt; !plain.is_plain(Pixel::CLEAR));
+    let below = TileKey { row: -1, col: 2 };
+    let mut block = Block::new(alloc, below, below.rect())?;
+    block.set(130, -2, opaque(0, 0, 255));
+    let written = plain.with_region(alloc, &block)?;
+    assert_eq!(rt; written.pixel(2, 62), opaque(0, 0, 255));
+    assert_eq!(rt; written.pixel(3, 62), Pixel::CLEAR);
+    Ok(())
+}
+
+#[test]
+fn a_shot(rt: HostRuntime) -> Result<(), Fail> {
+    let alloc = rt.alloc();
+    let ground = Pixel::new(1, 2, 3, 77);
+    let red = opaque(255, 0, 0);
+    let left = rect(&rt, -2, 0, 4, 1);
+    let mut shot = Shot::new(alloc, &[left], ground)?;
+    shot.put(ORIGIN, &Tile::plain(alloc, red)?)?;
+    crosses(&shot);
+    assert_eq!(rt; shot.ground(), ground);
+    assert_eq!(rt; shot.at(-1, 0), ground);
+    assert_eq!(rt; shot.at(0, 0), red);
+    assert_eq!(rt;
+        shot.pixels_on(alloc, &left)?.as_slice(),
+        [ground, ground, red, red].as_slice()
+    );
+    let right = rect(&rt, 0, 0, 2, 1);
+    assert_eq!(rt;
+        shot.read(alloc, ORIGIN, &right)?.as_slice(),
+        [red, red].as_slice()
+    );
+    assert!(rt; shot.tile(ORIGIN).is_some());
+    assert!(rt; shot.covers(&right));
+    assert!(rt; !shot.covers(&ORIGIN.rect()));
+    Ok(())
+}
+
+#[test]
+fn a_frame(rt: HostRuntime) -> Result<(), Fail> {
+    let alloc = rt.alloc();
+    let mut frame = Frame::new(alloc, 1, 1, opaque(0x33, 0x66, 0x99))?;
+    assert_eq!(rt; (frame.width(), frame.height()), (1, 1));
+    assert_eq!(rt; frame.at(0, 0), [0x33, 0x66, 0x99]);
+    frame.put(ORIGIN, &Tile::plain(alloc, Pixel::new(255, 0, 0, 128))?)?;
+    crosses(&frame);
+    let mut row = [7; 4];
+    frame.row_into(0, &mut row);
+    assert_eq!(rt; row, [153, 51, 76, 7]);
+    Ok(())
+}
+
+#[test]
+fn marked_tiles(rt: HostRuntime) {
+    let mut marks = Marks::none();
+    marks.mark(SECOND);
+    assert!(rt; marks.has(SECOND));
+    assert!(rt; !marks.has(ORIGIN));
+    let outside = TileKey { row: 0, col: -1 };
+    marks.mark(outside);
+    assert!(rt; !marks.has(outside));
+}
+
+/// Two tiles side by side, 65 by 1 points: the left one is given, and the paper shows on the right.
+fn half_covered(alloc: Global, paper: Pixel, left: &Tile) -> Result<Frame, NoMemory>
+    requires opaque { paper.a ≡ 255 }
+    ensures { IfOk result (λ f. f ≡ with_put (scene 65 1 paper map.empty) ORIGIN left.now) }
+{
+    let mut frame = Frame::new(alloc, 65, 1, paper)?;
+    frame.put(ORIGIN, left)?;
+    Ok(frame)
+}
+
+/// Puts the tile on the right of a frame like the newest one, and adds it to the film.
+fn push_covered(film: &mut Film, mut frame: Frame, right: &Tile) -> Result<(), NoMemory>
+    requires newest { newest film.old ≡ Some frame }
+    requires width { frame.width ≡ 65 }
+    requires height { frame.height ≡ 1 }
+    ensures { OnOk result (film.new ≡ film.old ++ with_put frame SECOND right.now ∷ []) }
+{
+    frame.put(SECOND, right)?;
+    let mut fresh = Marks::none();
+    fresh.mark(SECOND);
+    film.push(frame, fresh)
+}
+
+#[test]
+fn a_film_of_two_frames(rt: HostRuntime) -> Result<(), Fail> {
+    let alloc = rt.alloc();
+    let paper = opaque(0x33, 0x66, 0x99);
+    let left = Tile::plain(alloc, opaque(1, 2, 3))?;
+    let mut film = Film::new(alloc);
+    film.push(half_covered(alloc, paper, &left)?, Damage::all().tiles())?;
+    let right = Tile::plain(alloc, opaque(4, 5, 6))?;
+    push_covered(&mut film, half_covered(alloc, paper, &left)?, &right)?;
+    let mut picture = [7; 196];
+    film.lay(0, &mut picture);
+    assert_eq!(rt; &picture[189..], [1, 2, 3, 0x33, 0x66, 0x99, 7].as_slice());
+    film.lay(1, &mut picture);
+    assert_eq!(rt; &picture[189..], [1, 2, 3, 4, 5, 6, 7].as_slice());
+    Ok(())
+}
+
+#[test]
+fn damage_grows_in_its_tiles(rt: HostRuntime) {
+    let mut damage = Damage::none();
+    damage.add(&rect(&rt, 60, 10, 10, 5));
+    assert!(rt; damage.part(ORIGIN) == Some(rect(&rt, 60, 10, 4, 5)));
+    assert!(rt; damage.part(SECOND) == Some(rect(&rt, 64, 10, 6, 5)));
+    damage.add(&rect(&rt, 72, 30, 1, 1));
+    damage.add(&rect(&rt, -10, -10, 5, 5));
+    assert!(rt; damage.part(ORIGIN) == Some(rect(&rt, 60, 10, 4, 5)));
+    assert!(rt; damage.part(SECOND) == Some(rect(&rt, 64, 10, 9, 21)));
+    assert!(rt; damage.part(TileKey { row: -1, col: -1 }).is_none());
+    let marks = damage.tiles();
+    assert!(rt; marks.has(ORIGIN) && marks.has(SECOND));
+    assert!(rt; !marks.has(TileKey { row: 1, col: 0 }));
+    let last = TileKey { row: 31, col: 31 };
+    assert!(rt; Damage::all().part(last) == Some(rect(&rt, 1984, 1984, 64, 64)));
+}

@@ -1,0 +1,22 @@
+//! Tests of scripts, from their text to what the command writes: texts, pictures and logs worked out
+//! from outside. They stand above the crates that they test, so that each of those is proved once.
+#![tactic(auto)]
+
+#[cfg(test)]
+mod commands;
+#[cfg(test)]
+mod compared;
+#[cfg(test)]
+mod fixtures;
+#[cfg(test)]
+mod generated;
+#[cfg(test)]
+mod logs;
+#[cfg(test)]
+mod painted;
+#[cfg(test)]
+mod pictures;
+#[cfg(test)]
+mod runs;
+#[cfg(test)]
+mod scripts;

@@ -1,0 +1,20 @@
+//! Tests of the crates from trees and layers to stores and their frames: worked histories, and that
+//! each call can succeed. They stand above the crates that they test, so that each of those is proved once.
+#![tactic(auto)]
+
+#[cfg(test)]
+mod devices;
+#[cfg(test)]
+mod fixtures;
+#[cfg(test)]
+mod frames;
+#[cfg(test)]
+mod histories;
+#[cfg(test)]
+mod queues;
+#[cfg(test)]
+mod stores;
+#[cfg(test)]
+mod strokes;
+#[cfg(test)]
+mod trees;
