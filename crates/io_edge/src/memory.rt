@@ -1,6 +1,6 @@
 //! Sources and sinks over bytes in memory, which fail when they are told to.
 
-ghost use Rattle.std.specs.Prelude.{◌≡◌, ◌<◌, ◌≤◌, ◌==◌, ◌||◌, [], Some, length, min, is_err, IfOk};
+ghost use Rattle.std.specs.Prelude.{◌≡◌, ◌<◌, ◌≤◌, ◌==◌, ◌||◌, [], Some, length, min, is_err, IfOk, OnOk, OnErr};
 ghost use Rattle.std.specs.Io.{ReadsAtMost};
 ghost use Rattle.std.specs.Io.KnownBytes.{ReadConsumes, WriteAppends};
 ghost use Rattle.io_edge.specs.Faults.{HasCause};
@@ -56,7 +56,7 @@ impl MemSource {
         }
     }
 
-    /// How often it has failed.
+    /// How many calls have failed, up to 2 ^ 64 - 1.
     pub fn faults(&self) -> u64
         ensures value { result ≡ self.now.faults }
         ensures none_without_failing { self.now.failing ≡ [] → result ≡ 0 }
@@ -70,7 +70,7 @@ impl Source for MemSource {
 
     ghost faults = { λ s. s.faults };
 
-    /// With no failing calls, it never fails.
+    /// It fails just at the calls that are to fail, and counts these.
     fn read(&mut self, buf: &mut [u8]) -> Result<usize, Failed>
         requires { 0 < length buf.old }
         ensures bound { ReadsAtMost result buf.new }
@@ -81,6 +81,8 @@ impl Source for MemSource {
         ensures fails { is_err result ≡ fails_at self.old.failing (one_more self.old.calls) }
         ensures passed { IfOk result (λ n. n ≡ min (min (length buf.old) self.old.most) (length self.old.left)) }
         ensures counted { self.new.calls ≡ one_more self.old.calls }
+        ensures one_fault { OnErr result (self.new.faults ≡ one_more self.old.faults) }
+        ensures no_fault { OnOk result (self.new.faults ≡ self.old.faults) }
         ensures same_most { self.new.most ≡ self.old.most }
         ensures same_failing { self.new.failing ≡ self.old.failing }
     {
@@ -144,7 +146,7 @@ impl MemSink {
         &self.room[..self.len]
     }
 
-    /// How often it has failed.
+    /// How many calls have failed, up to 2 ^ 64 - 1.
     pub fn faults(&self) -> u64
         ensures value { result ≡ self.now.faults }
         ensures full_without_failing { self.now.failing ≡ [] → result ≡ self.now.full_writes }
@@ -158,7 +160,7 @@ impl Sink for MemSink {
 
     ghost faults = { λ s. s.faults };
 
-    /// With no failing calls, it fails just where the room is full.
+    /// It fails just at the calls that are to fail and where the room is full, and counts these.
     fn write(&mut self, piece: &[u8]) -> Result<usize, Failed>
         requires { 0 < length piece.now }
         ensures some { IfOk result (λ n. 0 < n) }
@@ -170,6 +172,8 @@ impl Sink for MemSink {
         ensures fails { is_err result ≡ ((self.old.free == 0) || fails_at self.old.failing (one_more self.old.calls)) }
         ensures passed { IfOk result (λ n. n ≡ min (min (length piece.now) self.old.most) self.old.free) }
         ensures counted { self.new.calls ≡ one_more self.old.calls }
+        ensures one_fault { OnErr result (self.new.faults ≡ one_more self.old.faults) }
+        ensures no_fault { OnOk result (self.new.faults ≡ self.old.faults) }
         ensures same_most { self.new.most ≡ self.old.most }
         ensures full { self.old.free ≡ 0 → self.new.full_writes ≡ one_more self.old.full_writes }
         ensures not_full { 0 < self.old.free → self.new.full_writes ≡ self.old.full_writes }

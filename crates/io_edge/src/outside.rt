@@ -12,14 +12,17 @@ pub struct Failed;
 
 /// Where bytes come from.
 pub trait Source {
-    /// The bytes that are left, where the source tells them.
+    /// The bytes that are left, or None where the source doesn't tell them. Nothing is promised of the
+    /// bytes of a source that doesn't.
     ghost left: { Self → Option (List ℕ) };
 
-    /// How often it has failed: 0 to 2 ^ 64 - 1, where the count stays.
+    /// A count of faults.
     ghost faults: { Self → ℕ };
 
-    /// Puts the next bytes at the front of the buffer, which isn't empty, and says how many: 0 only at
-    /// the end. At `Failed`, which comes only where the count of faults rose, what is left stays.
+    /// Puts the bytes that are left at the front of the buffer, which isn't empty, as many as it likes,
+    /// and says how many: 0 just where none is left. At `Failed` what is left stays. The count of
+    /// faults doesn't fall, and `Failed` comes only where it rose: it is greater than before, or is at
+    /// least 2 ^ 64 - 1.
     fn read(&mut self, buf: &mut [u8]) -> Result<usize, Failed>
         requires { 0 < length buf.old }
         ensures bound { ReadsAtMost result buf.new }
@@ -29,14 +32,16 @@ pub trait Source {
 
 /// Where bytes go.
 pub trait Sink {
-    /// The bytes that it has taken, where the sink tells them.
+    /// The bytes that it has taken, or None where the sink doesn't tell them. Nothing is promised of
+    /// the bytes of a sink that doesn't.
     ghost taken: { Self → Option (List ℕ) };
 
-    /// How often it has failed: 0 to 2 ^ 64 - 1, where the count stays.
+    /// A count of faults.
     ghost faults: { Self → ℕ };
 
     /// Takes some bytes, at least one, from the front of the piece, which isn't empty, and says how
-    /// many. At `Failed`, which comes only where the count of faults rose, it takes none.
+    /// many. At `Failed` it takes none. The count of faults doesn't fall, and `Failed` comes only where
+    /// it rose: it is greater than before, or is at least 2 ^ 64 - 1.
     fn write(&mut self, piece: &[u8]) -> Result<usize, Failed>
         requires { 0 < length piece.now }
         ensures some { IfOk result (λ n. 0 < n) }
@@ -45,10 +50,10 @@ pub trait Sink {
         ensures cause { HasCause (faults self.old) (faults self.new) result };
 }
 
-/// Is told when the first tile of a job has been painted and none of it is published yet.
+/// What a painter may call while it paints. No clause says that it does, or when.
 pub trait Gate: Sync {
-    /// The job of that number, counted from 1, of the stroke was painted. Nothing is known of the call
-    /// but that it returns.
+    /// Names a stroke and one of its jobs, whose numbers count from 1. Nothing is known of the call but
+    /// that it returns.
     fn painting(&self, stroke: u32, job: u32);
 }
 

@@ -1,9 +1,7 @@
-//! Tests of scripts, from their text to what the command writes: texts, pictures and logs worked out
-//! from outside. They stand above the crates that they test, so that each of those is proved once.
+//! Tests of scripts, from their text to what they paint: texts, pictures and logs worked out from
+//! outside. They stand above the crates that they test, so that each of those is proved once.
 #![tactic(auto)]
 
-#[cfg(test)]
-mod commands;
 #[cfg(test)]
 mod compared;
 #[cfg(test)]
@@ -16,7 +14,5 @@ mod logs;
 mod painted;
 #[cfg(test)]
 mod pictures;
-#[cfg(test)]
-mod runs;
 #[cfg(test)]
 mod scripts;

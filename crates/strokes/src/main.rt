@@ -7,7 +7,7 @@ use io_edge::{NoGate, StdSink, StdSource};
 use std::alloc::Global;
 use std::process::ExitCode;
 use std::{env, io};
-use strokes_top::{Status, Words, run};
+use strokes_top::{Status, Words, report, run};
 
 /// The words of the command line, without the program's name. One that isn't text stands as a
 /// replacement character, which is no word of the command.
@@ -36,7 +36,7 @@ fn main(rt: HostRuntime) -> ExitCode {
             &mut StdSink::new(rt.stderr()),
             &NoGate,
         ),
-        Err(NoMemory) => Status::NoMemory,
+        Err(NoMemory) => report(rt.alloc(), &mut StdSink::new(rt.stderr()), Status::NoMemory),
     };
     ExitCode::from(status.code())
 }

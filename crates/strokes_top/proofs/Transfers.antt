@@ -25,15 +25,17 @@ module _ (start : ℕ) (before now : Option (List ℕ)) (count : ℕ) (c : IsCou
   more_counted piece n h e = record { got = c.got ++ piece; consumed = Consumes-trans before now next c.got piece c.consumed h; size = omega (arith, length-append c.got piece, c.size, e) }
 
   -- more than what was left of a limit is more than all of it
-  pub more_in_all : (limit : ℕ) → count ≤ limit → ConsumesMore (limit - count) now next → ConsumesMore (limit - start) before next
-  more_in_all limit few m = (c.got ++ m.0, Consumes-trans before now next c.got m.0 c.consumed m.1, omega (arith, length-append c.got m.0, c.size, m.2))
+  pub more_in_all : (limit piece : ℕ) → count ≤ limit → ConsumesMore (limit - count) piece now next → ConsumesMore (limit - start) piece before next
+  more_in_all limit piece few m = (
+    c.got ++ m.0,
+    Consumes-trans before now next c.got m.0 c.consumed m.1,
+    omega (arith, length-append c.got m.0, c.size, m.2),
+    omega (arith, length-append c.got m.0, c.size, m.3),
+  )
 
   pub at_most_in_all : (limit : ℕ) → count ≤ limit → ConsumesAtMost (limit - count) now next → ConsumesAtMost (limit - start) before next
   at_most_in_all limit few m = (c.got ++ m.0, Consumes-trans before now next c.got m.0 c.consumed m.1, omega (arith, length-append c.got m.0, c.size, m.2))
 
 -- what was read of a source, with a fault that stays its first, and then all the rest
 pub faulty_source : (before now next : Option (List ℕ)) (got : List ℕ) (limit : ℕ) (f told : ScriptFault) → f ≡ told → Consumes before now got → ((more : List ℕ) → fault (got ++ more) ≡ Some f) → ConsumesAtMost limit now next → IsAtEnd next → WasRead before next (HasFault told)
-faulty_source None now next got limit f told same h bad m end = tt
-faulty_source (Some x) None next got limit f told same h bad m end = absurd h
-faulty_source (Some x) (Some y) None got limit f told same h bad m end = absurd m.1
-faulty_source (Some x) (Some y) (Some z) got limit f told same h bad m end = (ap Some end, ap fault (h ∙ ap (λ l. got ++ l) m.1) ∙ bad (m.0 ++ z) ∙ ap Some same)
+faulty_source before now next got limit f told same h bad m end = (got ++ m.0, Consumes-trans before now next got m.0 h m.1, end, bad m.0 ∙ ap Some same)

@@ -1,5 +1,6 @@
 -- What a run reads, what it means, and what it writes.
-use Rattle.std.specs.Prelude.{◌≡◌, ℕ, ◌<◌, ◌≤◌, Bool, false, List, [], Option, length, Some, map, None, IfSome, IsSomeAnd, is_some}
+use Rattle.std.specs.Prelude.{◌≡◌, ℕ, ◌+◌, ◌≤◌, Bool, ◌<◌, false, List, Option, Some, length, None, map, IsSomeAnd, is_some}
+use Rattle.std.specs.Io.KnownBytes.{Appends, Consumes, IsAtEnd}
 use Rattle.script_text.specs.Script.{Contents, meaning_of}
 use Rattle.script_text.specs.Reading.{fault, script}
 use Rattle.script_text.specs.declared.script.ScriptFault.{ScriptFault}
@@ -8,7 +9,6 @@ use Rattle.strokes_top.specs.declared.choice.Emit.{Emit}
 use Rattle.strokes_top.specs.declared.choice.Choice.{Choice}
 use Rattle.strokes_top.specs.Choice.{choice}
 use Rattle.std.specs.List.{flat_map}
-use Rattle.std.specs.Io.KnownBytes.{Appends, Consumes}
 use Rattle.doc_model.specs.declared.canvas.Canvas.{Canvas}
 use Rattle.doc_model.specs.Picture.{Frame}
 use Rattle.doc_model.specs.Strokes.{entries}
@@ -49,9 +49,9 @@ pub record IsOutput (refusals : Bool) (before after : Option (List ℕ)) (emit :
 abbrev pub IsBegun : Option (List ℕ) → Option (List ℕ) → Emit → Contents → Type 0
 IsBegun before after emit s = AppendsPrefix before after (output emit s)
 
--- where the source told what it had left, it gave all of it, and what it gave has P
+-- the source gave some bytes, up to its end, and these have P; where it tells what it has left, they are all that it had
 abbrev pub WasRead : Option (List ℕ) → Option (List ℕ) → (List ℕ → Type 0) → Type 0
-WasRead before after P = IfSome before (λ bytes. (after ≡ Some []) × P bytes)
+WasRead before after P = (bytes : List ℕ) × Consumes before after bytes × IsAtEnd after × P bytes
 
 -- these bytes are a script without a fault, which has P
 abbrev pub IsGood : (Contents → Type 0) → List ℕ → Type 0
@@ -86,9 +86,9 @@ has_number (Some c) = is_some c.demo
 abbrev pub asks_for_demo : List (List ℕ) → Bool
 asks_for_demo words = has_number (choice words)
 
--- more than limit of the known bytes were taken
-abbrev pub ConsumesMore : ℕ → Option (List ℕ) → Option (List ℕ) → Type 0
-ConsumesMore limit old new = (bs : List ℕ) × Consumes old new bs × (limit < length bs)
+-- more than limit of the known bytes were taken, but no more than a piece behind the limit
+abbrev pub ConsumesMore : ℕ → ℕ → Option (List ℕ) → Option (List ℕ) → Type 0
+ConsumesMore limit piece old new = (bs : List ℕ) × Consumes old new bs × (limit < length bs) × (length bs ≤ limit + piece)
 
 -- at most limit of the known bytes were taken
 abbrev pub ConsumesAtMost : ℕ → Option (List ℕ) → Option (List ℕ) → Type 0

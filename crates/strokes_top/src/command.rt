@@ -1,6 +1,6 @@
 //! One run of the command.
 
-ghost use Rattle.std.specs.Prelude.{◌≡◌, ◌≢◌, ℕ, None, true, false, is_some};
+ghost use Rattle.std.specs.Prelude.{◌≡◌, ◌≢◌, ◌≤◌, ℕ, None, true, false, is_some};
 ghost use Rattle.std.specs.Io.KnownBytes.{Keeps, Appends};
 ghost use Rattle.io_edge.specs.Told.{AppendsPrefix, Rose};
 ghost use Rattle.script_lines.specs.declared.cause.Cause.{Cause};
@@ -11,10 +11,10 @@ ghost use Rattle.strokes_top.specs.Ends.{is_painted};
 ghost use Rattle.doc_model.specs.Meaning.{some_refused as said_refused};
 
 use crate::choice::{ChoiceError, Emit, choice_of};
-use crate::report::report;
 use crate::source::take_script;
 use crate::status::Status;
-use crate::transfer::LIMIT;
+use crate::telling::report;
+use crate::transfer::{CHUNK, LIMIT};
 use crate::words::Words;
 use crate::writing::{room_for, write_output};
 use doc_model::Outcome;
@@ -41,6 +41,7 @@ fn paint<K: Sink>(alloc: Global, emit: Emit, script: &Script, out: &mut K) -> St
     ensures write_fault { result ≡ Status.WriteFault → Rose (K.faults out.old) (K.faults out.new) }
     ensures nothing { may_write result ≡ false → Keeps (K.taken out.old) (K.taken out.new) }
     ensures statuses { is_painted result ≡ true }
+    ensures later { K.faults out.old ≤ K.faults out.new }
 {
     let Ok(shown) = run_solo(alloc, script) else {
         return Status::NoMemory;
@@ -63,7 +64,7 @@ fn answer<S: Source, K: Sink>(alloc: Global, words: &Words, source: &mut S, out:
     ensures usage { result ≡ Status.Usage → choice words.now ≡ None }
     ensures taken_words { result ≢ Status.Usage → result ≢ Status.NoMemory → is_some (choice words.now) ≡ true }
     ensures script { (line : ℕ) (cause : Cause) → result ≡ Status.Script line cause → IsFaulty (record { line = line; cause = cause }) words.now (S.left source.old) (S.left source.new) }
-    ensures too_long { result ≡ Status.TooLong → ConsumesMore LIMIT (S.left source.old) (S.left source.new) }
+    ensures too_long { result ≡ Status.TooLong → ConsumesMore LIMIT CHUNK (S.left source.old) (S.left source.new) }
     ensures within_limit { result ≢ Status.TooLong → ConsumesAtMost LIMIT (S.left source.old) (S.left source.new) }
     ensures read_fault { result ≡ Status.ReadFault → Rose (S.faults source.old) (S.faults source.new) }
     ensures write_fault { result ≡ Status.WriteFault → Rose (K.faults out.old) (K.faults out.new) }
@@ -71,6 +72,8 @@ fn answer<S: Source, K: Sink>(alloc: Global, words: &Words, source: &mut S, out:
     ensures demo_reads_nothing { asks_for_demo words.now ≡ true → (S.left source.new ≡ S.left source.old) × (S.faults source.new ≡ S.faults source.old) }
     ensures begun { result ≡ Status.WriteFault → IsAnswered (IsBegun (K.taken out.old) (K.taken out.new)) words.now (S.left source.old) (S.left source.new) }
     ensures nothing { may_write result ≡ false → Keeps (K.taken out.old) (K.taken out.new) }
+    ensures source_count { S.faults source.old ≤ S.faults source.new }
+    ensures out_count { K.faults out.old ≤ K.faults out.new }
 {
     let choice = match choice_of(alloc, words) {
         Ok(choice) => choice,
@@ -97,7 +100,8 @@ pub fn run<R: Threads + Wait + Sync, S: Source, K: Sink, E: Sink, G: Gate>(
     err: &mut E,
     _gate: &G,
 ) -> Status
-    // The words were taken, the script was read or generated, and just what is asked for was written.
+    // The words were taken, the script was read or generated, and just what is asked for was written. Where the source
+    // doesn't tell what it has left, that is so of some bytes.
     ensures done { result ≡ Status.Done → IsAnswered (IsOutput false (K.taken out.old) (K.taken out.new)) words.now (S.left source.old) (S.left source.new) }
     ensures done_with_refusals { result ≡ Status.DoneWithRefusals → IsAnswered (IsOutput true (K.taken out.old) (K.taken out.new)) words.now (S.left source.old) (S.left source.new) }
 
@@ -105,7 +109,7 @@ pub fn run<R: Threads + Wait + Sync, S: Source, K: Sink, E: Sink, G: Gate>(
     ensures usage { result ≡ Status.Usage → choice words.now ≡ None }
     ensures taken_words { result ≢ Status.Usage → result ≢ Status.NoMemory → is_some (choice words.now) ≡ true }
     ensures script { (line : ℕ) (cause : Cause) → result ≡ Status.Script line cause → IsFaulty (record { line = line; cause = cause }) words.now (S.left source.old) (S.left source.new) }
-    ensures too_long { result ≡ Status.TooLong → ConsumesMore LIMIT (S.left source.old) (S.left source.new) }
+    ensures too_long { result ≡ Status.TooLong → ConsumesMore LIMIT CHUNK (S.left source.old) (S.left source.new) }
     ensures within_limit { result ≢ Status.TooLong → ConsumesAtMost LIMIT (S.left source.old) (S.left source.new) }
     ensures read_fault { result ≡ Status.ReadFault → Rose (S.faults source.old) (S.faults source.new) }
     ensures write_fault { result ≡ Status.WriteFault → Rose (K.faults out.old) (K.faults out.new) }
@@ -120,6 +124,11 @@ pub fn run<R: Threads + Wait + Sync, S: Source, K: Sink, E: Sink, G: Gate>(
     ensures quiet { is_done result ≡ true → Keeps (E.taken err.old) (E.taken err.new) }
     ensures told { is_done result ≡ false → AppendsPrefix (E.taken err.old) (E.taken err.new) (told_by result) }
     ensures told_whole { is_done result ≡ false → ¬ Rose (E.faults err.old) (E.faults err.new) → Appends (E.taken err.old) (E.taken err.new) (told_by result) }
+
+    // No count of faults falls.
+    ensures source_count { S.faults source.old ≤ S.faults source.new }
+    ensures out_count { K.faults out.old ≤ K.faults out.new }
+    ensures err_count { E.faults err.old ≤ E.faults err.new }
 {
     let status = answer(alloc, words, source, out);
     report(alloc, err, status)

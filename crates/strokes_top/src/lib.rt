@@ -4,9 +4,9 @@
 mod choice;
 mod command;
 mod intake;
-mod report;
 mod source;
 mod status;
+mod telling;
 mod transfer;
 mod words;
 mod writing;
@@ -14,4 +14,5 @@ mod writing;
 pub use choice::{Choice, Emit, UnknownEmit};
 pub use command::run;
 pub use status::Status;
+pub use telling::report;
 pub use words::Words;

@@ -1,6 +1,6 @@
 //! Taking the script: what the source spells, or a generated one.
 
-ghost use Rattle.std.specs.Prelude.{◌≡◌, ◌≢◌, ℕ, true, Err, IfOk, OnErr, IfErr, IsErrOf, is_some};
+ghost use Rattle.std.specs.Prelude.{◌≡◌, ◌≢◌, ◌≤◌, ℕ, true, Err, IfOk, OnErr, IfErr, IsErrOf, is_some};
 ghost use Rattle.io_edge.specs.Told.{Rose};
 ghost use Rattle.script_lines.specs.declared.cause.Cause.{Cause};
 ghost use Rattle.strokes_top.specs.Run.{WasRead, IsGood, HasFault, IsOf, IsRefused, ConsumesMore, ConsumesAtMost};
@@ -22,9 +22,10 @@ use std::alloc::Global;
 fn read_script<S: Source>(alloc: Global, source: &mut S) -> Result<Script, Status>
     ensures ok { IfOk result (λ s. WasRead (S.left source.old) (S.left source.new) (IsGood (λ t. t ≡ s))) }
     ensures script { (line : ℕ) (cause : Cause) → IsErrOf result (Status.Script line cause) → WasRead (S.left source.old) (S.left source.new) (HasFault (record { line = line; cause = cause })) }
-    ensures too_long { IsErrOf result Status.TooLong → ConsumesMore LIMIT (S.left source.old) (S.left source.new) }
+    ensures too_long { IsErrOf result Status.TooLong → ConsumesMore LIMIT CHUNK (S.left source.old) (S.left source.new) }
     ensures within_limit { result ≢ Err Status.TooLong → ConsumesAtMost LIMIT (S.left source.old) (S.left source.new) }
     ensures read_fault { IsErrOf result Status.ReadFault → Rose (S.faults source.old) (S.faults source.new) }
+    ensures later { S.faults source.old ≤ S.faults source.new }
     ensures statuses { IfErr result (λ status. is_of_script status ≡ true) }
 {
     let Ok(mut intake) = Intake::new(alloc) else {
@@ -62,9 +63,10 @@ pub(crate) fn take_script<S: Source>(
 ) -> Result<Script, Status>
     ensures ok { IfOk result (λ s. IsOf (λ t. t ≡ s) number (S.left source.old) (S.left source.new)) }
     ensures script { (line : ℕ) (cause : Cause) → IsErrOf result (Status.Script line cause) → IsRefused (record { line = line; cause = cause }) number (S.left source.old) (S.left source.new) }
-    ensures too_long { IsErrOf result Status.TooLong → ConsumesMore LIMIT (S.left source.old) (S.left source.new) }
+    ensures too_long { IsErrOf result Status.TooLong → ConsumesMore LIMIT CHUNK (S.left source.old) (S.left source.new) }
     ensures within_limit { result ≢ Err Status.TooLong → ConsumesAtMost LIMIT (S.left source.old) (S.left source.new) }
     ensures read_fault { IsErrOf result Status.ReadFault → Rose (S.faults source.old) (S.faults source.new) }
+    ensures later { S.faults source.old ≤ S.faults source.new }
     ensures statuses { IfErr result (λ status. is_of_script status ≡ true) }
     ensures left { is_some number ≡ true → S.left source.new ≡ S.left source.old }
     ensures faults { is_some number ≡ true → S.faults source.new ≡ S.faults source.old }

@@ -1,6 +1,6 @@
 //! Reading a source piece by piece, as far as the limit.
 
-ghost use Rattle.std.specs.Prelude.{◌≡◌, ◌≢◌, ◌+◌, ◌-◌, ◌<◌, ◌≤◌, length, take, Ok, Err, IfOk, OnOk, IsErrOf};
+ghost use Rattle.std.specs.Prelude.{◌≡◌, ◌≢◌, ◌+◌, ◌-◌, ◌≤◌, length, take, Ok, Err, IfOk, OnOk, IsErrOf};
 ghost use Rattle.std.specs.Io.KnownBytes.{Consumes, IsAtEnd};
 ghost use Rattle.io_edge.specs.Told.{Rose};
 ghost use Rattle.strokes_top.specs.Run.{ConsumesMore, ConsumesAtMost};
@@ -29,13 +29,13 @@ pub fn next_piece<S: Source>(
     chunk: &mut [u8],
     count: usize,
 ) -> Result<usize, ReadError>
-    requires room { 0 < length chunk.old }
+    requires room { length chunk.old ≡ CHUNK }
     requires count { count ≤ LIMIT }
     ensures bytes { IfOk result (λ n. Consumes (S.left source.old) (S.left source.new) (take n chunk.new)) }
     ensures bound { IfOk result (λ n. n ≤ length chunk.new) }
     ensures short { IfOk result (λ n. count + n ≤ LIMIT) }
     ensures to_the_end { result ≡ Ok 0 → IsAtEnd (S.left source.new) }
-    ensures too_long { IsErrOf result ReadError.TooLong → ConsumesMore (LIMIT - count) (S.left source.old) (S.left source.new) }
+    ensures too_long { IsErrOf result ReadError.TooLong → ConsumesMore (LIMIT - count) CHUNK (S.left source.old) (S.left source.new) }
     ensures within_limit { result ≢ Err ReadError.TooLong → ConsumesAtMost (LIMIT - count) (S.left source.old) (S.left source.new) }
     ensures failed { IsErrOf result ReadError.Failed → Rose (S.faults source.old) (S.faults source.new) }
     ensures later { S.faults source.old ≤ S.faults source.new }
@@ -53,10 +53,10 @@ pub fn skip_rest<S: Source>(
     chunk: &mut [u8],
     mut count: usize,
 ) -> Result<(), ReadError>
-    requires room { 0 < length chunk.old }
+    requires room { length chunk.old ≡ CHUNK }
     requires count { count ≤ LIMIT }
     ensures to_the_end { OnOk result (IsAtEnd (S.left source.new)) }
-    ensures too_long { IsErrOf result ReadError.TooLong → ConsumesMore (LIMIT - count) (S.left source.old) (S.left source.new) }
+    ensures too_long { IsErrOf result ReadError.TooLong → ConsumesMore (LIMIT - count) CHUNK (S.left source.old) (S.left source.new) }
     ensures within_limit { result ≢ Err ReadError.TooLong → ConsumesAtMost (LIMIT - count) (S.left source.old) (S.left source.new) }
     ensures failed { IsErrOf result ReadError.Failed → Rose (S.faults source.old) (S.faults source.new) }
     ensures later { S.faults source.old ≤ S.faults source.new }

@@ -15,7 +15,7 @@ pub returns-in_err-n-clause-too_long : goal.returns-in_err-n-clause-too_long
 returns-in_err-n-clause-too_long g c = λ e.
     let told : c.from_residual.result ≡ Err (of_read c.in_err-n.field-0.0) = search rules in
     let long : of_read c.in_err-n.field-0.0 ≡ status.TooLong = cc in
-    more_in_all 0 _ _ c.loop-intake.count (counted _ _ _ _ c.loop-intake.invariant.taking) _ 1048576 c.loop-intake.invariant.few (c.in_err-n.ensures.too_long (ap Err (is_long _ long)))
+    more_in_all 0 _ _ c.loop-intake.count (counted _ _ _ _ c.loop-intake.invariant.taking) _ 1048576 _ c.loop-intake.invariant.few (c.in_err-n.ensures.too_long (ap Err (is_long _ long)))
 
 pub returns-in_err-n-clause-within_limit : goal.returns-in_err-n-clause-within_limit
 returns-in_err-n-clause-within_limit g c = λ e.
@@ -35,7 +35,7 @@ returns-in_err-skip_rest-in-Err-Fault-clause-too_long g c = λ e.
     let long : of_read c.in_err-skip_rest-in-Err-Fault.field-0.0 ≡ status.TooLong = cc in
     more_in_all 0 _ _ (c.loop-intake.count + c.in_ok-n.n)
     (counted_with _ _ _ _ c.loop-intake.invariant.taking _ c.next_piece.new.chunk c.in_ok-n.n c.in_ok-n.ensures.bytes c.in_ok-n.ensures.bound)
-    _ 1048576 c.in_ok-n.ensures.short (c.in_err-skip_rest-in-Err-Fault.ensures.too_long (ap Err (is_long _ long)))
+    _ 1048576 _ c.in_ok-n.ensures.short (c.in_err-skip_rest-in-Err-Fault.ensures.too_long (ap Err (is_long _ long)))
 
 pub returns-in_err-skip_rest-in-Err-Fault-clause-within_limit :
     goal.returns-in_err-skip_rest-in-Err-Fault-clause-within_limit

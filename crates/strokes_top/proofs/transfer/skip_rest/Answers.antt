@@ -7,7 +7,7 @@ pub returns-in_err-n-clause-too_long : goal.returns-in_err-n-clause-too_long
 returns-in_err-n-clause-too_long g c = λ e.
     let told : c.from_residual.result ≡ Err c.in_err-n.field-0.0 = search rules in
     let is : c.in_err-n.field-0.0 ≡ TooLong = cc in
-    more_in_all c.args.count _ _ c.loop-n.count c.loop-n.invariant.counted _ 1048576 c.loop-n.invariant.few (c.in_err-n.ensures.too_long (ap Err is))
+    more_in_all c.args.count _ _ c.loop-n.count c.loop-n.invariant.counted _ 1048576 _ c.loop-n.invariant.few (c.in_err-n.ensures.too_long (ap Err is))
 
 pub returns-in_err-n-clause-within_limit : goal.returns-in_err-n-clause-within_limit
 returns-in_err-n-clause-within_limit g c = λ e.

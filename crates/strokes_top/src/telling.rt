@@ -1,6 +1,6 @@
 //! What a run tells of itself.
 
-ghost use Rattle.std.specs.Prelude.{◌≡◌, ◌⊎◌, true, false, IfOk, string_bytes};
+ghost use Rattle.std.specs.Prelude.{◌≡◌, ◌≤◌, ◌⊎◌, true, false, IfOk, string_bytes};
 ghost use Rattle.std.specs.Io.KnownBytes.{Keeps, Appends};
 ghost use Rattle.io_edge.specs.Told.{AppendsPrefix, Rose};
 ghost use Rattle.strokes_top.specs.Status.{is_done, told_by};
@@ -24,17 +24,20 @@ fn script_line(alloc: Global, line: u32, cause: Cause) -> Result<String, AllocEr
 fn tell<E: Sink>(err: &mut E, line: &[u8])
     ensures prefix { AppendsPrefix (E.taken err.old) (E.taken err.new) line.now }
     ensures whole { ¬ Rose (E.faults err.old) (E.faults err.new) → Appends (E.taken err.old) (E.taken err.new) line.now }
+    ensures later { E.faults err.old ≤ E.faults err.new }
 {
     let _ = write_all(err, line);
 }
 
-/// Tells a status on the error sink. Where the line finds no memory, the status is that.
+/// Tells a status on the error sink, in one line, and gives it back. One that has an output is told
+/// by no line. Where the line of a bad script finds no memory, that is told, and is the status.
 pub fn report<E: Sink>(alloc: Global, err: &mut E, status: Status) -> Status
     ensures same { (result ≡ status) ⊎ (result ≡ Status.NoMemory) }
     ensures others { is_script status ≡ false → result ≡ status }
     ensures quiet { is_done result ≡ true → Keeps (E.taken err.old) (E.taken err.new) }
     ensures prefix { is_done result ≡ false → AppendsPrefix (E.taken err.old) (E.taken err.new) (told_by result) }
     ensures whole { is_done result ≡ false → ¬ Rose (E.faults err.old) (E.faults err.new) → Appends (E.taken err.old) (E.taken err.new) (told_by result) }
+    ensures later { E.faults err.old ≤ E.faults err.new }
 {
     match status {
         Status::Done | Status::DoneWithRefusals => {}
