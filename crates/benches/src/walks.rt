@@ -25,7 +25,7 @@ const CALLS: u32 = 100;
 const ORIGIN: TileKey = TileKey { row: 0, col: 0 };
 
 /// How many children of a group stand in the tile, where there are many.
-const THERE: u16 = 5;
+const THERE: u8 = 5;
 
 /// What a walk reads, and what its groups have on the tile.
 #[derive(Drop)]
@@ -74,36 +74,50 @@ fn path_of(alloc: Global, groups: u16) -> Result<Path, NoMemory> {
     Ok(path)
 }
 
-/// A walk over groups, each in the one before it, that have this many children with tiles, and others
-/// that have none there.
-fn made(alloc: Global, groups: u16, there: u16, elsewhere: u16) -> Result<Subject, NoMemory> {
-    let rect = ORIGIN.rect();
-    let patch = Patch {
-        walk: Walk::All,
-        rect,
-    };
-    let mut inputs = Inputs::new(alloc, patch, path_of(alloc, groups)?);
+/// Gives a group so many children on top, all of that layer.
+fn add_layers(
+    inputs: &mut Inputs,
+    alloc: Global,
+    group: u16,
+    count: u8,
+    layer: &Device,
+) -> Result<(), NoMemory> {
+    for id in 0..u16::from(count) {
+        inputs.add_child(alloc, group, 1000 + id, half(), layer)?;
+    }
+    Ok(())
+}
+
+/// So many children with that tile.
+fn stacked(alloc: Global, tile: &Tile, count: u8) -> Result<(Vec<Look>, Vec<Given>), NoMemory> {
+    let mut looks = Vec::new(alloc);
+    let mut tiles = Vec::new(alloc);
+    for _child in 0..count {
+        looks.push(half())?;
+        tiles.push(Given::Held(tile.share()?))?;
+    }
+    Ok((looks, tiles))
+}
+
+/// A walk over groups, each in the one before it, that have some children with tiles, and so many that
+/// have none there.
+fn made(alloc: Global, groups: u16, elsewhere: u8) -> Result<Subject, NoMemory> {
     let tile = tile_of(alloc)?;
     let layer = layer_of(alloc, &tile)?;
     let bare = Device::new(alloc, Pixel::CLEAR);
-    let mut looks = Vec::new(alloc);
-    let mut tiles = Vec::new(alloc);
+    let patch = Patch {
+        walk: Walk::All,
+        rect: ORIGIN.rect(),
+    };
+    let mut inputs = Inputs::new(alloc, patch, path_of(alloc, groups)?);
     for group in 0..groups {
-        for id in 0..there {
-            inputs.add_child(alloc, group, 1000 + id, half(), &layer)?;
-        }
-        for id in 0..elsewhere {
-            inputs.add_child(alloc, group, 2000 + id, half(), &bare)?;
-        }
+        add_layers(&mut inputs, alloc, group, THERE, &layer)?;
+        add_layers(&mut inputs, alloc, group, elsewhere, &bare)?;
         if group + 1 < groups {
             inputs.add_child(alloc, group, group + 1, half(), &bare)?;
         }
     }
-    let more = u16::from(groups > 1);
-    for _child in 0..there + more {
-        looks.push(half())?;
-        tiles.push(Given::Held(tile.share()?))?;
-    }
+    let (looks, tiles) = stacked(alloc, &tile, THERE + u8::from(groups > 1))?;
     Ok(Subject {
         inputs,
         looks,
@@ -172,9 +186,9 @@ fn measure_walk(
     alloc: Global,
     name: &str,
     groups: u16,
-    elsewhere: u16,
+    elsewhere: u8,
 ) -> io::Result<()> {
-    match made(alloc, groups, THERE, elsewhere) {
+    match made(alloc, groups, elsewhere) {
         Ok(subject) => compare(rt, alloc, name, &subject),
         Err(NoMemory) => println!(rt; "benches: no memory"),
     }

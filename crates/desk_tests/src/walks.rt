@@ -98,6 +98,29 @@ fn root_pixel(
     Ok(pixel_of(&composed, 0, CORNER))
 }
 
+/// A group's pixel at the corner of a tile, where all tiles are composed.
+fn of_all(
+    alloc: Global,
+    inputs: &Inputs,
+    group: u16,
+    key: TileKey,
+) -> Result<Option<Pixel>, NoMemory> {
+    let composed = compose_walk(alloc, inputs)?;
+    Ok(pixel_of(&composed, group, key))
+}
+
+/// The root's pixel at the corner of a tile, where the next tile alone is composed.
+fn of_next(alloc: Global, inputs: &Inputs, key: TileKey) -> Result<Option<Pixel>, NoMemory> {
+    let composed = compose_key(alloc, inputs, NEXT)?;
+    Ok(pixel_of(&composed, 0, key))
+}
+
+/// The same where both are.
+fn of_both(alloc: Global, inputs: &Inputs, key: TileKey) -> Result<Option<Pixel>, NoMemory> {
+    let composed = compose_keys(alloc, inputs, &[NEXT, CORNER])?;
+    Ok(pixel_of(&composed, 0, key))
+}
+
 #[test]
 fn paths(rt: HostRuntime) -> Result<(), Fail> {
     let tree = two_groups();
@@ -160,17 +183,14 @@ fn only_what_was_asked(rt: HostRuntime) -> Result<(), Fail> {
     let rect = Rect::new(0, 0, 128, 64).expect(&rt, "a rectangle of the world");
     let inputs = root_of(alloc, rect, &[(over(128), red())])?;
     let pixel = Some(Pixel::new(255, 0, 0, 128));
-    let whole = compose_walk(alloc, &inputs)?;
-    let one = compose_key(alloc, &inputs, NEXT)?;
-    let two = compose_keys(alloc, &inputs, &[NEXT, CORNER])?;
     let rows = [
-        (pixel_of(&whole, 0, CORNER), pixel),
-        (pixel_of(&whole, 0, NEXT), pixel),
-        (pixel_of(&whole, 9, CORNER), None),
-        (pixel_of(&one, 0, CORNER), None),
-        (pixel_of(&one, 0, NEXT), pixel),
-        (pixel_of(&two, 0, CORNER), pixel),
-        (pixel_of(&two, 0, NEXT), pixel),
+        (of_all(alloc, &inputs, 0, CORNER)?, pixel),
+        (of_all(alloc, &inputs, 0, NEXT)?, pixel),
+        (of_all(alloc, &inputs, 9, CORNER)?, None),
+        (of_next(alloc, &inputs, CORNER)?, None),
+        (of_next(alloc, &inputs, NEXT)?, pixel),
+        (of_both(alloc, &inputs, CORNER)?, pixel),
+        (of_both(alloc, &inputs, NEXT)?, pixel),
     ];
     for (found, expected) in rows {
         assert_eq!(rt; found, expected);
