@@ -66,6 +66,3 @@ edge_of n c e = omega (arith, ints)
 
 pub tile_at : (n m : ℕ) (c r : ℤ) → pos n ≡ (c +ℤ pos 256) → pos m ≡ (r +ℤ pos 256) → area (pos (64 * n) -ℤ pos 16384) (pos (64 * m) -ℤ pos 16384) 64 64 ≡ area (pos 64 *ℤ c) (pos 64 *ℤ r) 64 64
 tile_at n m c r e h = rw (edge_of n c e, edge_of m r h) refl
-
--- the lemmas that the goals of rectangles want
-pub ruleset shifted = lt_shifted

@@ -1,6 +1,6 @@
 //! The world of points: its rectangles, its tiles of 64 by 64 points, by which layers keep their
 //! pixels, and its cells of 256 by 256, by which updates are queued.
-#![tactic(auto, using(crate::proofs::Shifted::shifted))]
+#![tactic(auto)]
 
 mod key;
 pub mod laws;
