@@ -2,6 +2,7 @@
 #![tactic(auto)]
 
 mod frames;
+mod mementos;
 mod rows;
 mod stopwatch;
 mod strokes;
@@ -16,6 +17,7 @@ use std::{env, io};
 #[derive(Clone, Copy)]
 enum Subject {
     Frames,
+    Mementos,
     Rows,
     Strokes,
     Tiles,
@@ -27,6 +29,7 @@ enum Subject {
 fn subject_of(name: &str) -> Option<Subject> {
     match name {
         "frames" => Some(Subject::Frames),
+        "mementos" => Some(Subject::Mementos),
         "rows" => Some(Subject::Rows),
         "strokes" => Some(Subject::Strokes),
         "tiles" => Some(Subject::Tiles),
@@ -49,13 +52,14 @@ fn asked(rt: &impl Runtime) -> io::Result<Option<Subject>> {
 fn main(rt: HostRuntime) -> io::Result<()> {
     match asked(&rt)? {
         Some(Subject::Frames) => frames::measure(&rt, rt.alloc()),
+        Some(Subject::Mementos) => mementos::measure(&rt, rt.alloc()),
         Some(Subject::Rows) => rows::measure(&rt),
         Some(Subject::Strokes) => strokes::measure(&rt, rt.alloc()),
         Some(Subject::Tiles) => tiles::measure(&rt, rt.alloc()),
         Some(Subject::Trees) => trees::measure(&rt, rt.alloc()),
         Some(Subject::Walks) => walks::measure(&rt, rt.alloc()),
         None => println!(rt;
-            "benches: pass a word to measure: frames, rows, strokes, tiles, trees, walks"
+            "benches: pass a word to measure: frames, mementos, rows, strokes, tiles, trees, walks"
         ),
     }
 }

@@ -1,6 +1,6 @@
 -- A store's invariant through its calls.
 use Rattle.std.proofs.Common.{◌≡◌, ℕ, suc, ◌≤◌, Bool, true, false, ◌&&◌, ◌||◌, cond, max, Option, Some, None, is_some, Result, Ok, Err, List, [], ◌∷◌, take, drop, refl, sym, ap, ◌∙◌, subst, arith}
-use Rattle.std.specs.Prelude.{◌≢◌, OnOk, OnErr, OnSome, IfOk, IfSome, IfNone}
+use Rattle.std.specs.Prelude.{OnOk, OnErr, IfOk, IfSome, IfNone}
 use Rattle.std.specs.Borrow.{Bor}
 use Rattle.std.specs.Option.{option_copied, unwrap_or}
 use Rattle.std.specs.FinMap as map

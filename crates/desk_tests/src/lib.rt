@@ -2,7 +2,11 @@
 #![tactic(auto)]
 
 #[cfg(test)]
+mod books;
+#[cfg(test)]
 mod caches;
+#[cfg(test)]
+mod stores;
 #[cfg(test)]
 mod walk_starts;
 #[cfg(test)]

@@ -1,5 +1,5 @@
 -- An entry that a stack has lent.
-use Rattle.std.proofs.Common.{◌≡◌, Bool, true, false, List, [], ◌∷◌, take, drop, Option, Some, None, refl}
+use Rattle.std.proofs.Common.{◌≡◌, true, false, List, [], ◌∷◌, take, drop, Option, Some, None, refl}
 use Rattle.std.specs.Prelude.{◌≢◌, OnSome}
 
 module _ {A : Type 0} where

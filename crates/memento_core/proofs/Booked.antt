@@ -6,15 +6,15 @@ use Rattle.std.specs.FinSet as set
 use Rattle.geom_core.specs.Grid.{Key, key_cmp, same_key, key_cmp_total, key_cmp-IsAntisymmetric}
 use Rattle.geom_core.specs.Touches.{HasTouched}
 use Rattle.geom_core.specs.declared.Touched.{Touched}
-use Rattle.geom_core.proofs.Tests.{taken, kept, is_some-None}
+use Rattle.geom_core.proofs.Tests.{kept, is_some-None}
 use Rattle.geom_core.proofs.Tiles.{key_same}
 use Rattle.history_core.specs.Stacks.{Stack, IsUndone, IsRedone}
-use Rattle.history_core.proofs.Lent.{first_is, nothing_is}
+use Rattle.history_core.proofs.Lent.{first_is}
 use Rattle.memento_core.specs.Planes.{Keyed, tile_under}
 use Rattle.memento_core.specs.Revisions.{AllStand, Exchanges, IsIndex, keys_in, noted_under}
 use Rattle.memento_core.specs.Books.{FirstStands, Pages, committed, RollsBack, RollsForward, first_keys}
-use Rattle.memento_core.specs.Laws.{BackAgain, BackToBegin, ForthAgain, IndexBegins, IndexGrows, KeysStay}
-use Rattle.memento_core.proofs.Exchanging.{contains-keys_in, false-true, has-insert}
+use Rattle.memento_core.specs.Laws.{BackAgain, BackToBegin, ForthAgain, IndexBegins, IndexGrows}
+use Rattle.memento_core.proofs.Exchanging.{contains-keys_in, false-true, has-insert, some_under}
 
 module _ {T : Type 0} where
   same_maps : (m n : Keyed T) → ((k : Key) → map.get m k ≡ map.get n k) → m ≡ n
@@ -97,10 +97,6 @@ module _ {T : Type 0} where
 
   pub index_begins : IndexBegins T
   index_begins plane = record { noted = λ k h. false-true (sym (ap is_some (map.get-empty key_cmp k)) ∙ h); others = λ k h. refl }
-
-  some_under : (o : Option (Option T)) → is_some o ≡ true → Some (unwrap_or o None) ≡ o
-  some_under None h = false-true h
-  some_under (Some t) h = refl
 
   pub index_grows : IndexGrows T
   index_grows r before now k t there is = go (map.contains_key r k) refl

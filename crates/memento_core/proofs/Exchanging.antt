@@ -11,7 +11,7 @@ use Rattle.geom_core.proofs.Tiles.{key_same, key_is}
 use Rattle.memento_core.specs.Planes.{Keyed, tile_under}
 use Rattle.memento_core.specs.declared.revision.Note.{Note}
 use Rattle.memento_core.specs.Notes.{IsEachOnce, IsRevision, keys_noted, noted}
-use Rattle.memento_core.specs.Revisions.{AllStand, Exchanges, PutsBack, keys_in}
+use Rattle.memento_core.specs.Revisions.{AllStand, Exchanges, keys_in}
 
 pub false-true : {P : Type 0} → false ≡ true → P
 false-true e = absurd (never e)
@@ -104,7 +104,7 @@ module _ {T : Type 0} where
   still_there [] m k t h = tt
   still_there (n ∷ ns) m k t h = (has-insert m k t n.key ∙ or_right (same_key n.key k) _ h.0, still_there ns m k t h.1)
 
-  some_under : (o : Option (Option T)) → is_some o ≡ true → Some (unwrap_or o None) ≡ o
+  pub some_under : (o : Option (Option T)) → is_some o ≡ true → Some (unwrap_or o None) ≡ o
   some_under None h = false-true h
   some_under (Some t) h = refl
 

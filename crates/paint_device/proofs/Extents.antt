@@ -1,7 +1,6 @@
 -- The bounding rectangle of tiles, one after another.
 use Rattle.std.proofs.Common.{◌≡◌, ℕ, Bool, true, false, ◌&&◌, cond, List, [], ◌∷◌, Option, Some, None, is_some, refl, sym, ap, ◌∙◌, arith}
-use Rattle.std.specs.Prelude.{ℤ, pos, ◌+ℤ◌, ◌-ℤ◌, ◌*ℤ◌, int_le, nat_abs, IfNone, IfSome}
-use Rattle.std.specs.Int.{int_min, int_max}
+use Rattle.std.specs.Prelude.{ℤ, pos, ◌+ℤ◌, ◌*ℤ◌, int_le, IfNone, IfSome}
 use borrow.Author.Differences.{ints}
 use Rattle.std.specs.Option.{unwrap_or}
 use Rattle.std.specs.FinMap as map
@@ -9,11 +8,9 @@ use Rattle.std.specs.BTreeMap as tree
 use Rattle.std.specs.BTreeMap.{BTreeMap, is_at}
 use Rattle.std.specs.Map.{lookup}
 use Rattle.geom_core.specs.Areas.{Area, area, lies_in}
-use Rattle.geom_core.specs.Overlaps.{bound}
 use Rattle.geom_core.specs.Grid.{Key, key_cmp, same_key, tile}
 use Rattle.geom_core.proofs.Tests.{and_left, and_right, both_true}
 use Rattle.geom_core.proofs.Tiles.{key_same}
-use Rattle.geom_core.proofs.Lying.{lies_trans, bound_lies}
 use Rattle.memento_core.specs.Planes.{tile_under}
 use Rattle.tile_core.specs.Pixels.{Pixels}
 use Rattle.tile_core.proofs.MapViews.{get-view}

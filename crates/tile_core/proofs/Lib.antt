@@ -14,3 +14,4 @@ pub mod PictureRows
 pub mod DamagedParts
 pub mod DamagedPoints
 pub mod Films
+pub mod SameParts

@@ -8,3 +8,4 @@ pub mod Laws
 pub mod Marks
 pub mod Films
 pub mod Damage
+pub mod Same

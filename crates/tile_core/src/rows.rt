@@ -2,6 +2,7 @@
 
 ghost use Rattle.std.specs.Prelude.{◌^◌, IfOk, vec_len, ◌≡◌, ℕ, ◌+◌, ◌*◌, ◌<◌, ◌≤◌, ◌↔◌, IsTrue, length, take, drop, ◌++◌, replicate};
 ghost use Rattle.tile_core.specs.Parts.{LaysPart, TakesPart, LaysTile};
+ghost use Rattle.tile_core.specs.Same.{SamePart, SameRow};
 
 use pixel_core::Pixel;
 use pixel_rows::all_are;
@@ -79,6 +80,39 @@ pub fn part_of(alloc: Global, tile: &[Pixel], part: Part) -> Result<Vec<Pixel>, 
         from += 64;
     }
     Ok(pixels)
+}
+
+/// Whether both tiles have the same pixels on the part.
+pub fn same_part(tile: &[Pixel], other: &[Pixel], part: Part) -> bool
+    requires whole { length tile.now ≡ 4096 }
+    requires other { length other.now ≡ 4096 }
+    requires across { part.left + part.w ≤ 64 }
+    requires down { part.top + part.h ≤ 64 }
+    ensures { IsTrue result ↔ SamePart tile.now other.now part.left part.top part.w part.h }
+{
+    let mut from = 64 * part.top + part.left;
+    for _row in 0..part.h {
+        if !same_row(tile, other, from, part.w) {
+            return false;
+        }
+        from += 64;
+    }
+    true
+}
+
+/// Whether both tiles have the same `n` pixels from a place on.
+fn same_row(tile: &[Pixel], other: &[Pixel], from: usize, n: usize) -> bool
+    requires whole { length tile.now ≡ 4096 }
+    requires other { length other.now ≡ 4096 }
+    requires inside { from + n ≤ 4096 }
+    ensures { IsTrue result ↔ SameRow tile.now other.now from n }
+{
+    for i in 0..n {
+        if tile[from + i] != other[from + i] {
+            return false;
+        }
+    }
+    true
 }
 
 /// Whether all 4,096 pixels are `p`. Where the first or the last one isn't, it looks no further.

@@ -1,7 +1,7 @@
 //! Tiles of 64 by 64 pixels, shared copy on write.
 
 ghost use Rattle.std.specs.Prelude.{vec_len, ◌≡◌, ℕ, ◌+◌, ◌*◌, ◌<◌, ◌↔◌, IsTrue, length, IfOk, replicate, true, false, negsuc, pos, ◌≤ℤ◌, ◌+ℤ◌, ◌%◌, nat_abs};
-ghost use Rattle.tile_core.specs.Pixels.{Pixels, pixel_of, pixel_at, HasPixels};
+ghost use Rattle.tile_core.specs.Pixels.{Pixels, pixel_of, pixel_at, whole_tile, HasPixels, SameOn};
 ghost use Rattle.tile_core.specs.Parts.{IsPartOf};
 ghost use Rattle.geom_core.specs.Grid.{IsWorldKey, tile};
 ghost use Rattle.tile_core.specs.Blocks.{LaysBlock};
@@ -10,7 +10,7 @@ ghost use Rattle.geom_core.specs.Areas.{point, holds, world};
 ghost use Rattle.pixel_core.specs.Rgba.{clear};
 
 use crate::Block;
-use crate::rows::{Part, is_plain, lay_part, part_of, with_part};
+use crate::rows::{Part, is_plain, lay_part, part_of, same_part, with_part};
 use geom_core::{NoMemory, Rect, TileKey};
 use pixel_core::Pixel;
 use std::alloc::Global;
@@ -119,6 +119,14 @@ impl Tile {
         let rect = block.rect();
         let pixels = with_part(alloc, self.pixels(), part_in_tile(&rect), block.pixels())?;
         Tile::from_pixels(alloc, pixels)
+    }
+
+    /// Whether both tiles have the same pixels on a rectangle of the tile whose corner is (0, 0).
+    pub fn same_in(&self, other: &Tile, rect: &Rect) -> bool
+        requires { IsWithin rect.now whole_tile }
+        ensures { IsTrue result ↔ SameOn rect.now self.now other.now }
+    {
+        same_part(self.pixels(), other.pixels(), part_in_tile(rect))
     }
 
     /// Makes a change in place, and tells whether it did. Where somebody shares the pixels, nothing

@@ -1,7 +1,6 @@
-use Rattle.std.proofs.Common.{◌≡◌, sym, ap, ◌∙◌}
+use Rattle.std.proofs.Common.{ap}
 use Rattle.history_core.specs.Stacks.{IsRedone}
 use Rattle.history_core.proofs.Lent.{lent_holds, nothing_is}
-use Rattle.memento_core.specs.Books.{Pages}
 use Rattle.memento_core.proofs.Booked.{first_again, first_stood, first_touched, none_counted, rolled_forward}
 use Rattle.memento_core.proofs.book.Book.rollforward.Goals as goal
 
