@@ -3,6 +3,7 @@
 
 mod blends;
 mod block;
+mod each;
 mod mixing;
 mod plain;
 mod quotient;
@@ -13,5 +14,6 @@ mod shares;
 mod tests;
 
 pub use block::tell_canonical;
+pub use each::compose_row;
 pub use plain::all_are;
 pub use rows::{lay_colour, lay_masked, lay_sources, left_everywhere};
