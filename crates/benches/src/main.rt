@@ -1,6 +1,7 @@
 //! Times parts of the engine against the plain work that they do.
 #![tactic(auto)]
 
+mod caches;
 mod frames;
 mod mementos;
 mod rows;
@@ -8,58 +9,63 @@ mod stopwatch;
 mod strokes;
 mod tiles;
 mod trees;
+mod updates;
 mod walks;
 
-use std::rt::Runtime;
+use std::alloc::Global;
+use std::rt::{Clock, Runtime};
 use std::{env, io};
 
-/// What can be measured.
-#[derive(Clone, Copy)]
-enum Subject {
-    Frames,
-    Mementos,
-    Rows,
-    Strokes,
-    Tiles,
-    Trees,
-    Walks,
-}
+/// What the program says to one who names nothing to measure.
+const USAGE: &str = "benches: pass one of these words, or all
+caches
+frames
+mementos
+rows
+strokes
+tiles
+trees
+updates
+walks";
 
-/// The subject of that name.
-fn subject_of(name: &str) -> Option<Subject> {
-    match name {
-        "frames" => Some(Subject::Frames),
-        "mementos" => Some(Subject::Mementos),
-        "rows" => Some(Subject::Rows),
-        "strokes" => Some(Subject::Strokes),
-        "tiles" => Some(Subject::Tiles),
-        "trees" => Some(Subject::Trees),
-        "walks" => Some(Subject::Walks),
-        _ => None,
+/// Measures what the word names, or all in turn.
+fn measure(rt: &(impl Print + Clock), alloc: Global, word: &str) -> io::Result<()> {
+    let all = word == "all";
+    if all || word == "caches" {
+        caches::measure(rt, alloc)?;
     }
-}
-
-/// The subject that the first argument names.
-fn asked(rt: &impl Runtime) -> io::Result<Option<Subject>> {
-    let mut words = env::args(rt)?;
-    let _program = words.next();
-    match words.next() {
-        Some(word) => Ok(subject_of(word.as_str())),
-        None => Ok(None),
+    if all || word == "frames" {
+        frames::measure(rt, alloc)?;
     }
+    if all || word == "mementos" {
+        mementos::measure(rt, alloc)?;
+    }
+    if all || word == "rows" {
+        rows::measure(rt)?;
+    }
+    if all || word == "strokes" {
+        strokes::measure(rt, alloc)?;
+    }
+    if all || word == "tiles" {
+        tiles::measure(rt, alloc)?;
+    }
+    if all || word == "trees" {
+        trees::measure(rt, alloc)?;
+    }
+    if all || word == "updates" {
+        updates::measure(rt)?;
+    }
+    if all || word == "walks" {
+        walks::measure(rt, alloc)?;
+    }
+    Ok(())
 }
 
 fn main(rt: HostRuntime) -> io::Result<()> {
-    match asked(&rt)? {
-        Some(Subject::Frames) => frames::measure(&rt, rt.alloc()),
-        Some(Subject::Mementos) => mementos::measure(&rt, rt.alloc()),
-        Some(Subject::Rows) => rows::measure(&rt),
-        Some(Subject::Strokes) => strokes::measure(&rt, rt.alloc()),
-        Some(Subject::Tiles) => tiles::measure(&rt, rt.alloc()),
-        Some(Subject::Trees) => trees::measure(&rt, rt.alloc()),
-        Some(Subject::Walks) => walks::measure(&rt, rt.alloc()),
-        None => println!(rt;
-            "benches: pass a word to measure: frames, mementos, rows, strokes, tiles, trees, walks"
-        ),
+    let mut words = env::args(&rt)?;
+    let _program = words.next();
+    match words.next() {
+        Some(word) => measure(&rt, rt.alloc(), word.as_str()),
+        None => println!(rt; "{}", USAGE),
     }
 }

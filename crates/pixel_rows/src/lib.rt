@@ -3,6 +3,7 @@
 
 mod blends;
 mod block;
+mod each;
 mod mixing;
 mod plain;
 mod quotient;
@@ -11,5 +12,6 @@ mod rows;
 mod shares;
 
 pub use block::tell_canonical;
+pub use each::compose_row;
 pub use plain::all_are;
 pub use rows::{lay_colour, lay_masked, lay_sources, left_everywhere};

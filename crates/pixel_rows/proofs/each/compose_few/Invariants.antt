@@ -1,0 +1,8 @@
+use Rattle.std.proofs.Common.{get_or}
+use Rattle.pixel_core.specs.Rgba.{clear}
+use Rattle.pixel_rows.specs.Rows.{LaysPart}
+use Rattle.pixel_rows.proofs.each.compose_few.Given as goal
+
+-- the pixels so far are composed
+abbrev pub invariant-loop-i : goal.invariant-loop-i
+invariant-loop-i l = LaysPart l.op (λ k. get_or l.src k clear) (λ k. get_or l.strength k 0) l.start l.i l.initial.dst l.dst

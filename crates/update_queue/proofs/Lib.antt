@@ -1,0 +1,5 @@
+pub mod Joining
+pub mod Bounded
+pub mod Elements
+pub mod Keeping
+pub mod Spread

@@ -1,0 +1,38 @@
+-- The patches that wait to be composed anew, as contracts see them.
+use Rattle.std.specs.Prelude.{◌≡◌, pos, not, Bool, true, List, map, length, refl}
+use Rattle.std.specs.List.{list_any}
+use Rattle.std.specs.Coded.{Coded, code_by, coded×, coded_list}
+use Rattle.geom_core.specs.Areas.{Area, area, meets, lies_in}
+use Rattle.geom_core.specs.Overlaps.{area_code}
+use Rattle.geom_core.specs.Grid.{parts}
+use Rattle.doc_model.specs.declared.canvas.Patch.{Patch}
+use Rattle.doc_model.specs.declared.canvas.Walk.TheVariants.{All}
+use Rattle.doc_model.specs.Updates.{patch}
+use Rattle.doc_model.specs.contracts.canvas.Patch as patches
+
+-- the part of the world that is shown, and the patches of it that wait, the next one first
+pub record Waiting : Type 0 where
+  pub canvas : Area
+  pub patches : List Patch
+
+-- the patches of a canvas
+abbrev pub waiting : Area → List Patch → Waiting
+waiting canvas patches = record { canvas = canvas; patches = patches }
+
+-- the largest canvas, which has 8 by 8 cells
+abbrev pub largest : Area
+largest = area (pos 0) (pos 0) 2048 2048
+
+-- whether the patch meets none of the rectangles
+abbrev pub avoids : List Area → Patch → Bool
+avoids running p = not (list_any (meets p.rect) running)
+
+-- all 64 places have patches of all groups: the parts of a rectangle of the largest canvas
+pub record IsSpread (rect : Area) (patches : List Patch) : Type 0 where
+  pub inside : lies_in rect largest ≡ true
+  pub each : patches ≡ map (patch All) (parts rect)
+  pub full : length patches ≡ 64
+
+-- the code by which contracts tell lists of patches apart
+abbrev pub waiting_code : Coded Waiting
+waiting_code = code_by (Area × List Patch) (coded× area_code (coded_list (patches.the_row).coded)) (λ w. (w.canvas, w.patches)) (λ t. waiting t.0 t.1) (λ _. refl)
