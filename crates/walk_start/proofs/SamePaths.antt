@@ -15,25 +15,25 @@ use Rattle.machine_model.specs.Groups.{path_of, nodes_in, on}
 use Rattle.machine_model.specs.Walking.{IsGroupOf}
 use Rattle.machine_model.proofs.WalkPaths.{path_orderly_of}
 use Rattle.walker_core.specs.Paths.{tree_path, IsWalkOf}
-use Rattle.walk_start.specs.Shots.{shape_of}
+use Rattle.desk_steps.specs.Archives.{shape}
 use Rattle.doc_model.proofs.SameTree.{has_each, takes_each}
 
-path_each : (q : ℕ) (t : Doc) → path q (shape_of t) ≡ path q t
+path_each : (q : ℕ) (t : Doc) → path q (shape t) ≡ path q t
 path_each q none = refl
 path_each q (paint id look x rest) = ap (cond (eqb q id) (id ∷ [])) (path_each q rest)
 path_each q (group id look nodes rest) = λ i. cond (eqb q id) (id ∷ []) (cond (has_each (λ n x. tt) q nodes i) (path_each q nodes i ++ id ∷ []) (path_each q rest i))
 
-order_each : (t : Doc) → order (shape_of t) ≡ order t
+order_each : (t : Doc) → order (shape t) ≡ order t
 order_each none = refl
 order_each (paint id look x rest) = order_each rest
 order_each (group id look nodes rest) = λ i. order_each nodes i ++ id ∷ order_each rest i
 
 -- a walk's path
-pub path_same : (w : Walk) (t : Doc) → tree_path w (shape_of t) ≡ path_of w t
+pub path_same : (w : Walk) (t : Doc) → tree_path w (shape t) ≡ path_of w t
 path_same (Up g) t = ap (λ p. cond (eqb g 0) (0 ∷ []) (p ++ 0 ∷ [])) (path_each g t)
 path_same All t = ap (λ p. p ++ 0 ∷ []) (order_each t)
 
-pub walk_same : (w : Walk) (t : Doc) → IsGroupOf t w → IsWalkOf (shape_of t) w
+pub walk_same : (w : Walk) (t : Doc) → IsGroupOf t w → IsWalkOf (shape t) w
 walk_same (Up g) t is = takes_each (λ n x. tt) g t ∙ is
 walk_same All t is = tt
 

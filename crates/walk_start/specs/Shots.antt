@@ -14,10 +14,6 @@ use Rattle.machine_model.specs.Effects.{layer_in}
 use Rattle.machine_model.specs.Walks.{cut_child, walk_shot}
 use Rattle.walker_core.specs.Readings.{Readings, readings, with_child}
 
--- the document without its layers' pixels
-abbrev pub shape_of : Doc → Forest (Unit {0})
-shape_of doc = each (λ id layer. tt) doc
-
 -- these are what a walk of the patch reads in a state of that document and those caches
 abbrev pub ReadsWalk : Doc → FinMap nat_cmp Layer → Patch → Readings → Type 0
 ReadsWalk doc caches patch r = (s : State) → s.present ≡ doc → s.caches ≡ caches → r ≡ readings patch (walk_shot s patch)

@@ -10,7 +10,8 @@ ghost use Rattle.doc_model.specs.Forest.{content};
 ghost use Rattle.doc_model.specs.Picture.{Doc};
 ghost use Rattle.machine_model.specs.Walking.{IsGroupOf};
 ghost use Rattle.paint_device.specs.Seen.{layer_of};
-ghost use Rattle.walk_start.specs.Shots.{shape_of, ReadsWalk, pixels_in, with_children};
+ghost use Rattle.desk_steps.specs.Archives.{shape};
+ghost use Rattle.walk_start.specs.Shots.{ReadsWalk, pixels_in, with_children};
 
 use desk_steps::Store;
 use doc_model::Patch;
@@ -50,7 +51,7 @@ pub fn gather<S: Layers>(
     caches: &Caches,
     patch: Patch,
 ) -> Result<Inputs, NoMemory>
-    requires tree { tree.now ≡ shape_of (S.doc layers.now) }
+    requires tree { tree.now ≡ shape (S.doc layers.now) }
     requires group { IsGroupOf (S.doc layers.now) patch.walk }
     ensures { IfOk result (ReadsWalk (S.doc layers.now) caches.now patch) }
 {
@@ -74,7 +75,7 @@ fn add_children<S: Layers>(
     group: u16,
     inputs: &mut Inputs,
 ) -> Result<(), NoMemory>
-    requires tree { tree.now ≡ shape_of (S.doc layers.now) }
+    requires tree { tree.now ≡ shape (S.doc layers.now) }
     requires limits { IsDocument tree.now }
     ensures { OnOk result (inputs.new ≡ with_children inputs.old group (with_pixels caches.now (nodes_in group (S.doc layers.now)))) }
 {
@@ -94,7 +95,7 @@ fn add_child<S: Layers>(
     place: u16,
     inputs: &mut Inputs,
 ) -> Result<(), NoMemory>
-    requires tree { tree.now ≡ shape_of (S.doc layers.now) }
+    requires tree { tree.now ≡ shape (S.doc layers.now) }
     requires limits { IsDocument tree.now }
     ensures { OnOk result (with_children inputs.new group (with_pixels caches.now (upper (suc place) (nodes_in group (S.doc layers.now)))) ≡ with_children inputs.old group (with_pixels caches.now (upper place (nodes_in group (S.doc layers.now))))) }
 {
@@ -120,7 +121,7 @@ fn pixels_of<'a, S: Layers>(
     caches: &'a Caches,
     id: u16,
 ) -> Option<&'a Device>
-    requires { tree.now ≡ shape_of (S.doc layers.now) }
+    requires { tree.now ≡ shape (S.doc layers.now) }
     ensures some { IfSome result (λ d. layer_of d.now ≡ pixels_in caches.now (S.doc layers.now) id) }
     ensures none { IfNone result (plain clear ≡ pixels_in caches.now (S.doc layers.now) id) }
 {
