@@ -6,7 +6,11 @@ mod books;
 #[cfg(test)]
 mod caches;
 #[cfg(test)]
+mod slots;
+#[cfg(test)]
 mod stores;
+#[cfg(test)]
+mod updates;
 #[cfg(test)]
 mod walk_starts;
 #[cfg(test)]

@@ -5,6 +5,8 @@
 #[cfg(test)]
 mod blurs;
 #[cfg(test)]
+mod composed_rows;
+#[cfg(test)]
 mod documents;
 #[cfg(test)]
 mod fixtures;

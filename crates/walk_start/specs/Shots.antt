@@ -3,8 +3,6 @@ use Rattle.std.specs.Prelude.{◌≡◌, ℕ, if◌then◌else◌, List, [], ◌
 use Rattle.std.specs.Ordering.{nat_cmp}
 use Rattle.std.specs.FinMap.{FinMap}
 use Rattle.doc_model.specs.declared.canvas.Patch.{Patch}
-use Rattle.doc_model.specs.Forest.{Forest}
-use Rattle.doc_model.specs.Adjusting.{each}
 use Rattle.doc_model.specs.Layers.{Layer}
 use Rattle.doc_model.specs.Picture.{Doc}
 use Rattle.doc_model.specs.Changes.{takes}
