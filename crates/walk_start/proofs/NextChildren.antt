@@ -25,8 +25,8 @@ no_child g k t e = kids.none_next k (nodes_in g t) e
 pub next_child : (caches : FinMap nat_cmp Layer) (t : Doc) (g k id : ℕ) (look : Look) → IsTree t → child_in g k t ≡ Some id → look_in id t ≡ Some look
     → with_pixels caches (upper k (nodes_in g t)) ≡ record { id = id; look = look; pixels = pixels_in caches t id } ∷ with_pixels caches (upper (suc k) (nodes_in g t))
 next_child caches t g k id look tree e l = elim (kids.next_child t g k id look tree e l) [
-      | inl is ↦ (let pixels : is.held ≡ pixels_in caches t id = sym (kept (takes id t) (cache caches id) (layer_in id t) is.paints ∙ ap (λ o. unwrap_or o (plain clear)) is.holds) in
-          ap (with_pixels caches) is.here ∙ (λ j. record { id = id; look = look; pixels = pixels j } ∷ with_pixels caches (upper (suc k) (nodes_in g t))))
-      | inr is ↦ (let pixels : cache caches id ≡ pixels_in caches t id = sym (taken (takes id t) (cache caches id) (layer_in id t) is.groups) in
-          ap (with_pixels caches) is.here ∙ (λ j. record { id = id; look = look; pixels = pixels j } ∷ with_pixels caches (upper (suc k) (nodes_in g t))))
-    ]
+  | inl is ↦ (let pixels : is.held ≡ pixels_in caches t id = sym (kept (takes id t) (cache caches id) (layer_in id t) is.paints ∙ ap (λ o. unwrap_or o (plain clear)) is.holds) in
+      ap (with_pixels caches) is.here ∙ (λ j. record { id = id; look = look; pixels = pixels j } ∷ with_pixels caches (upper (suc k) (nodes_in g t))))
+  | inr is ↦ (let pixels : cache caches id ≡ pixels_in caches t id = sym (taken (takes id t) (cache caches id) (layer_in id t) is.groups) in
+      ap (with_pixels caches) is.here ∙ (λ j. record { id = id; look = look; pixels = pixels j } ∷ with_pixels caches (upper (suc k) (nodes_in g t))))
+]
