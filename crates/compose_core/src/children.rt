@@ -1,9 +1,11 @@
 //! The children of a group, laid one on another.
 
-ghost use Rattle.std.specs.Prelude.{◌≡◌, ◌+◌, ◌*◌, ◌<◌, ◌≤◌, length, vec_len, IfOk, true};
+ghost use Rattle.std.specs.Prelude.{◌≡◌, ◌↔◌, ◌+◌, ◌*◌, ◌<◌, ◌≤◌, length, vec_len, IfOk, IsTrue, true};
+ghost use Rattle.pixel_core.specs.Rgba.{clear};
 ghost use Rattle.geom_core.specs.Overlaps.{IsWithin};
 ghost use Rattle.tile_core.specs.Pixels.{whole_tile, HasPixels};
 ghost use Rattle.compose_core.specs.Children.{IsComposed};
+ghost use Rattle.compose_core.specs.declared.children.Given.TheVariants as given_is;
 ghost use Rattle.compose_core.specs.Laid.{LaysChild};
 ghost use Rattle.compose_core.specs.Spots.{IsSpot, given_on};
 
@@ -33,6 +35,16 @@ impl Given {
         match self {
             Given::Held(tile) => Ok(Given::Held(tile.share()?)),
             Given::Plain(pixel) => Ok(Given::Plain(*pixel)),
+        }
+    }
+
+    /// Whether it is the clear pixel at every point, without a tile.
+    pub fn is_clear(&self) -> bool
+        ensures { IsTrue result ↔ (self.now ≡ given_is.Plain clear) }
+    {
+        match self {
+            Given::Held(_) => false,
+            Given::Plain(pixel) => *pixel == Pixel::CLEAR,
         }
     }
 

@@ -1,12 +1,11 @@
 //! The children of a group on one tile, gathered from the bottom.
 
-ghost use Rattle.std.specs.Prelude.{◌≡◌, ℕ, ◌<◌, IfOk, OnOk, length, slice_index_or, IsTrue, ◌↔◌, true};
+ghost use Rattle.std.specs.Prelude.{◌≡◌, ℕ, ◌<◌, IfOk, OnOk, length, slice_index_or, true};
 ghost use Rattle.pixel_core.specs.Rgba.{clear};
 ghost use Rattle.geom_core.specs.Areas.{Point};
 ghost use Rattle.geom_core.specs.Overlaps.{IsWithin};
 ghost use Rattle.tile_core.specs.Pixels.{whole_tile};
 ghost use Rattle.doc_model.specs.Picture.{with_look};
-ghost use Rattle.compose_core.specs.declared.children.Given.TheVariants.{Plain};
 ghost use Rattle.compose_core.specs.Spots.{given_on};
 ghost use Rattle.compose_core.specs.Piles.{pile_at, IsClean, IsPile, ShowsPile, shows_itself, covers};
 
@@ -55,7 +54,7 @@ impl Pile {
         ensures laid { OnOk result ((p : Point) → pile_at self.new p ≡ with_look look (given_on given p) (pile_at self.old p)) }
     {
         tell_clean(&given);
-        if is_clear(&given) {
+        if given.is_clear() {
             return Ok(());
         }
         self.uncover(look, &given);
@@ -103,16 +102,6 @@ impl Pile {
         }
         let tile = compose_tile(alloc, &self.looks, &self.tiles, part)?;
         Ok(Given::Held(tile))
-    }
-}
-
-/// Whether it is the clear pixel at every point, without a tile.
-fn is_clear(given: &Given) -> bool
-    ensures { IsTrue result ↔ (given.now ≡ Plain clear) }
-{
-    match given {
-        Given::Held(_) => false,
-        Given::Plain(pixel) => *pixel == Pixel::CLEAR,
     }
 }
 

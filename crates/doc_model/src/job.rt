@@ -1,5 +1,5 @@
 //! Jobs, and how they stand to their neighbours.
-ghost use Rattle.std.specs.Prelude.{◌≡◌, ◌≤◌, ◌≤ℤ◌, ◌-ℤ◌, ◌&&◌, pos, negsuc, int_le, [], ◌∷◌, true, false, IfOk, OnOk, OnErr};
+ghost use Rattle.std.specs.Prelude.{IsTrue, ◌↔◌, ◌≡◌, ◌≤◌, ◌≤ℤ◌, ◌-ℤ◌, ◌&&◌, pos, negsuc, int_le, [], ◌∷◌, true, false, IfOk, OnOk, OnErr};
 ghost use Rattle.geom_core.specs.Areas.{lies_in, moved, world};
 ghost use Rattle.doc_model.specs.Jobs.{square, grown, reads, writes, checks};
 ghost use Rattle.doc_model.specs.Lawful.{of_limits, within_limits};
@@ -98,6 +98,13 @@ impl Job {
             Job::Blur { rect, .. } => one(rect),
             _ => self.reads(),
         }
+    }
+
+    /// Whether both are the same job.
+    pub fn same_as(&self, other: &Job) -> bool
+        ensures { IsTrue result ↔ (self.now ≡ other.now) }
+    {
+        self == other
     }
 
     /// Whether the job meets the limits: sides of 1 to 4096 columns and rows, a dab's radius of at

@@ -16,7 +16,7 @@ const SIDE: u32 = 32768;
 
 /// A rectangle of the world with at least one point. Contracts see it as an `Area`: the point of
 /// its upper left corner, and how many columns and rows it has.
-#[derive(Clone, Copy, Debug, PartialEq, Eq)]
+#[derive(Clone, Copy, Debug)]
 pub struct Rect {
     left: u32,
     top: u32,
@@ -39,6 +39,25 @@ impl Model for Rect {
     ghost inverse = { kept };
 
     ghost inverse_ok = { λ a h. kept-seen a };
+}
+
+impl PartialEq for Rect {
+    ghost use Rattle.std.specs.Cmp.{partial_equiv_from_equiv};
+    ghost use Rattle.geom_core.specs.Same.{same_area, same_area_equiv};
+
+    ghost eq = { same_area };
+
+    ghost laws = { partial_equiv_from_equiv same_area_equiv };
+
+    fn eq(&self, other: &Rect) -> bool {
+        self.left == other.left && self.top == other.top && self.w == other.w && self.h == other.h
+    }
+}
+
+impl Eq for Rect {
+    ghost use Rattle.geom_core.specs.Same.{same_area_equiv};
+
+    ghost laws = { same_area_equiv };
 }
 
 /// The point (0, 0) alone. It fills the unused places of lists of a fixed capacity.

@@ -81,3 +81,12 @@ put_layer places i g x is s = map.same_map nat_cmp_total map.nat_cmp-IsAntisymme
 pub lone_layer : (cs new : List Place) (c : Place) (l : Layer) → new ≡ cs ++ c ∷ [] → cs ≡ [] → c.group ≡ 0 → layer_of c.device ≡ l → caches_of new ≡ map.insert map.empty 0 l
 lone_layer cs new c l e none group layer = ap caches_of (e ∙ ap (λ xs. xs ++ c ∷ []) none) ∙ (λ i. map.from_entries ((group i, layer i) ∷ []))
     ∙ map.same_map nat_cmp_total map.nat_cmp-IsAntisymmetric _ _ (λ q. map.get-from_entries nat_cmp_total ((0, l) ∷ []) q ∙ ap (cond (eq_by_cmp nat_cmp q 0) (Some l)) (sym (map.get-empty nat_cmp q)) ∙ sym (map.get-insert nat_cmp_total map.empty 0 l q))
+
+entries_more : (places : List Place) (x : Place) → entries_of (places ++ x ∷ []) ≡ entries_of places ++ (x.group, layer_of x.device) ∷ []
+entries_more [] x = refl
+entries_more (c ∷ cs) x = ap (λ es. (c.group, layer_of c.device) ∷ es) (entries_more cs x)
+
+-- one more place, of a group that had none
+pub pushed_layer : (places new : List Place) (g : ℕ) (x : Place) → LacksBelow g places (length places) → new ≡ places ++ x ∷ [] → x.group ≡ g → caches_of new ≡ map.insert (caches_of places) g (layer_of x.device)
+pushed_layer places new g x lacks e s = ap caches_of e ∙ ap map.from_entries (entries_more places x) ∙ (λ i. map.from_entries (entries_of places ++ (s i, layer_of x.device) ∷ []))
+    ∙ map.from_entries_push nat_cmp_total map.nat_cmp-IsAntisymmetric (entries_of places) g (layer_of x.device) (none_found places g lacks)

@@ -1,8 +1,7 @@
 -- What is laid on a device.
-use Rattle.std.specs.Prelude.{◌≡◌, ◌%◌, ◌&&◌, cond, Option, None, false}
-use Rattle.pixel_core.specs.Rgba.{Rgba, clear}
+use Rattle.std.specs.Prelude.{◌≡◌, ◌&&◌, cond, Option, None, false}
+use Rattle.pixel_core.specs.Rgba.{clear}
 use Rattle.geom_core.specs.Areas.{Area, holds, Point}
-use Rattle.geom_core.specs.Place.{across, down}
 use Rattle.geom_core.specs.Grid.{Key, same_key}
 use Rattle.tile_core.specs.Pixels.{Pixels, pixel_or}
 use Rattle.tile_core.specs.Blocks.{Piece, piece_at}

@@ -16,7 +16,7 @@ ghost use Rattle.machine_model.specs.Effects.{caches_for};
 ghost use Rattle.paint_device.specs.Seen.{layer_of};
 ghost use Rattle.paint_device.specs.Sheets.{sheet};
 ghost use Rattle.compose_core.specs.Spots.{given_on};
-ghost use Rattle.group_caches.specs.Entries.{IsClear, entries_of, caches_of};
+ghost use Rattle.group_caches.specs.Entries.{IsClear, LacksBelow, entries_of, caches_of};
 ghost use Rattle.group_caches.specs.Kept.{with_picture, SameThere, kept_entries};
 
 use crate::painting::lay_given;
@@ -79,6 +79,7 @@ impl Caches {
     }
 
     /// Lays a walk's picture of a group on its cache, at the points of the rectangle in the key's tile.
+    /// The cache of a group that has none yet is clear before.
     pub fn put(
         &mut self,
         group: u16,
@@ -86,15 +87,14 @@ impl Caches {
         key: TileKey,
         given: &Given,
     ) -> Result<(), NoMemory>
-        requires there { map.contains_key self.old group ≡ true }
-        requires key { IsWorldKey key }
+        requires { IsWorldKey key }
         ensures ok { OnOk result ((f : Point → Rgba) → SameThere rect.now key (given_on given.now) f → self.new ≡ with_picture self.old group rect.now key f) }
         ensures err { OnErr result (self.new ≡ self.old) }
     {
         let alloc = self.alloc;
         match place_of(&self.places, group) {
             Some(i) => lay_given(alloc, &mut self.places[i].device, rect, key, given),
-            None => Ok(()),
+            None => lay_first(alloc, &mut self.places, group, rect, key, given),
         }
     }
 
@@ -153,6 +153,29 @@ fn clear_place(alloc: Global, group: u16) -> Place
         group,
         device: Device::new(alloc, Pixel::CLEAR),
     }
+}
+
+/// Lays what is given on a clear cache for a group that has none.
+fn lay_first(
+    alloc: Global,
+    places: &mut Vec<Place>,
+    group: u16,
+    rect: &Rect,
+    key: TileKey,
+    given: &Given,
+) -> Result<(), NoMemory>
+    requires lacks { LacksBelow group places.old.items (length places.old.items) }
+    requires key { IsWorldKey key }
+    requires clear { All IsClear places.old.items }
+    ensures ok { OnOk result ((f : Point → Rgba) → SameThere rect.now key (given_on given.now) f → caches_of places.new.items ≡ with_picture (caches_of places.old.items) group rect.now key f) }
+    ensures clear { All IsClear places.new.items }
+    ensures room { vec_capacity places.old ≤ vec_capacity places.new }
+    ensures err { OnErr result (places.new.items ≡ places.old.items) }
+{
+    let mut place = clear_place(alloc, group);
+    lay_given(alloc, &mut place.device, rect, key, given)?;
+    places.push(place)?;
+    Ok(())
 }
 
 /// Moves the caches of these groups to the end of a list that has room for them, and makes a clear one

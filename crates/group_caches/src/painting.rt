@@ -1,10 +1,9 @@
 //! What is laid on a cache.
 
-ghost use Rattle.std.specs.Prelude.{◌≡◌, ◌↔◌, IsTrue, IfOk, OnOk, OnErr};
+ghost use Rattle.std.specs.Prelude.{◌≡◌, IfOk, OnOk, OnErr};
 ghost use Rattle.pixel_core.specs.Rgba.{clear};
 ghost use Rattle.geom_core.specs.Overlaps.{IsWithin};
 ghost use Rattle.geom_core.specs.Grid.{IsWorldKey, tile as tile_area};
-ghost use Rattle.compose_core.specs.declared.children.Given.TheVariants as given_is;
 ghost use Rattle.group_caches.specs.Laying.{StandsFor, HasNone, LaysPoints, LaysGiven, LaysWhole};
 
 use compose_core::{Given, Spot};
@@ -101,23 +100,13 @@ fn lay_part(
     ensures ok { OnOk result (LaysGiven part.now key given.now device.old device.new) }
     ensures err { OnErr result (device.new ≡ device.old) }
 {
-    if is_clear(given) && device.tile(key).is_none() {
+    if given.is_clear() && device.tile(key).is_none() {
         return Ok(());
     }
     let spot = Spot { key, part: *part };
     let pixels = given.pixels_on(alloc, &spot)?;
     let block = Block::from_pixels(key, *part, pixels);
     lay_block(alloc, device, &block)
-}
-
-/// Whether it is the clear pixel at every point, without a tile.
-fn is_clear(given: &Given) -> bool
-    ensures { IsTrue result ↔ (given.now ≡ given_is.Plain clear) }
-{
-    match given {
-        Given::Held(_) => false,
-        Given::Plain(pixel) => *pixel == Pixel::CLEAR,
-    }
 }
 
 /// Lays a block, in place where nobody shares the tile.

@@ -15,3 +15,4 @@ pub mod DamagedParts
 pub mod DamagedPoints
 pub mod Films
 pub mod SameParts
+pub mod SameSights

@@ -1,49 +1,60 @@
--- Tiles that are the same on a part, row by row.
-use Rattle.std.proofs.Common.{◌≡◌, ℕ, ◌+◌, ◌*◌, ◌%◌, ◌<◌, ◌≤◌, ◌&&◌, Bool, true, false, IsTrue, refl, ap, sym, subst, ◌∙◌, arith, ◌⊎◌, inl, inr}
-use Rattle.std.specs.Prelude.{ℤ, pos, ◌+ℤ◌, ◌-ℤ◌, ◌≤ℤ◌, int_le, int_lt, nat_abs, slice_index_or}
+-- Parts of tiles that have given pixels, row by row.
+use Rattle.std.proofs.Common.{◌≡◌, ℕ, ◌+◌, ◌*◌, ◌%◌, ◌<◌, ◌≤◌, ◌&&◌, Bool, true, false, IsTrue, ap, sym, subst, ◌∙◌, arith, ◌⊎◌, inl, inr}
+use Rattle.std.specs.Prelude.{ℤ, pos, negsuc, ◌+ℤ◌, ◌-ℤ◌, ◌*ℤ◌, ◌≤ℤ◌, int_le, int_lt, nat_abs, slice_index_or}
 use borrow.Author.Differences.{ints}
-use Rattle.pixel_core.specs.Rgba.{clear}
+use Rattle.pixel_core.specs.Rgba.{Rgba, clear}
 use Rattle.geom_core.specs.Areas.{Area, holds, Point, point}
 use Rattle.geom_core.specs.Overlaps.{IsWithin}
+use Rattle.geom_core.specs.Grid.{Key, tile, IsWorldKey}
+use Rattle.geom_core.specs.Place.{IsOffset, across, down}
 use Rattle.geom_core.proofs.Tests.{and_left, and_right, both_true}
 use Rattle.tile_core.specs.declared.rows.Part.{Part}
-use Rattle.tile_core.specs.Pixels.{Pixels, pixel_of, pixel_at, whole_tile, SameOn}
+use Rattle.tile_core.specs.Pixels.{Pixels, pixel_of, pixel_at}
 use Rattle.tile_core.specs.Parts.{IsPartOf}
-use Rattle.tile_core.specs.Same.{SamePart, SameRow}
-use Rattle.tile_core.proofs.LaidBlocks.{rest_of}
+use Rattle.tile_core.specs.Same.{PartIs, RowIs}
+use Rattle.tile_core.proofs.LaidKeys.{InPiece, in_piece}
 
--- the rows above are the same
-pub record SameSoFar (t u : Pixels) (left top w n from : ℕ) : Type 0 where
+-- the rows above have those pixels
+pub record IsSoFar (t : Pixels) (f : ℕ → Rgba) (left top w n from : ℕ) : Type 0 where
   pub at : from ≡ 64 * (top + n) + left
-  pub same : SamePart t u left top w n
+  pub is : PartIs t f left top w n
 
-pub none_same : (t u : Pixels) (left top w n from : ℕ) → n ≡ 0 → from ≡ 64 * top + left → SameSoFar t u left top w n from
-none_same t u left top w n from z e = record { at = omega (arith, z, e); same = λ col row p q. absurd (omega (arith, z, q)) }
+pub none_so_far : (t : Pixels) (f : ℕ → Rgba) (left top w n from : ℕ) → n ≡ 0 → from ≡ 64 * top + left → IsSoFar t f left top w n from
+none_so_far t f left top w n from z e = record { at = omega (arith, z, e); is = λ col row p q. absurd (omega (arith, z, q)) }
 
 last_row : (row n : ℕ) → row < n + 1 → (row < n) ⊎ (row ≡ n)
 last_row row n h = grind arith
 
-pub one_same : (t u : Pixels) (left top w n from : ℕ) → SameSoFar t u left top w n from → SameRow t u from w → SameSoFar t u left top w (n + 1) (from + 64)
-one_same t u left top w n from so row_same = record { at = let e : from ≡ 64 * (top + n) + left = so.at in omega (arith, e); same = λ col row p q. go col row p (last_row row n q) }
+pub one_more : (t : Pixels) (f : ℕ → Rgba) (left top w n from : ℕ) → IsSoFar t f left top w n from → RowIs t f from w → IsSoFar t f left top w (n + 1) (from + 64)
+one_more t f left top w n from so row_is = record { at = let e : from ≡ 64 * (top + n) + left = so.at in omega (arith, e); is = λ col row p q. go col row p (last_row row n q) }
   where
-    go : (col row : ℕ) → col < w → (row < n) ⊎ (row ≡ n) → pixel_of t (left + col) (top + row) ≡ pixel_of u (left + col) (top + row)
-    go col row p (inl q) = so.same col row p q
+    go : (col row : ℕ) → col < w → (row < n) ⊎ (row ≡ n) → pixel_of t (left + col) (top + row) ≡ f (64 * (top + row) + (left + col))
+    go col row p (inl q) = so.is col row p q
     go col row p (inr e) =
         let place : 64 * (top + row) + (left + col) ≡ from + col = omega (arith, e, so.at) in
-        ap (λ i. slice_index_or t i clear) place ∙ row_same col p ∙ ap (λ i. slice_index_or u i clear) (sym place)
+        ap (λ i. slice_index_or t i clear) place ∙ row_is col p ∙ ap f (sym place)
 
--- so is each row of a part that is
-pub row_of : (t u : Pixels) (left top w h n from : ℕ) → SameSoFar t u left top w n from → n < h → SamePart t u left top w h → SameRow t u from w
-row_of t u left top w h n from so low all col p =
+-- so does each row of a part that has them
+pub row_of : (t : Pixels) (f : ℕ → Rgba) (left top w h n from : ℕ) → IsSoFar t f left top w n from → n < h → PartIs t f left top w h → RowIs t f from w
+row_of t f left top w h n from so low all col p =
     let place : 64 * (top + n) + (left + col) ≡ from + col = omega (arith, so.at) in
-    ap (λ i. slice_index_or t i clear) (sym place) ∙ all col n p low ∙ ap (λ i. slice_index_or u i clear) place
+    ap (λ i. slice_index_or t i clear) (sym place) ∙ all col n p low ∙ ap f place
 
--- a number of a part's axis, within its tile
-along : (a x : ℤ) (w : ℕ) → pos 0 ≤ℤ a → (a +ℤ pos w) ≤ℤ pos 64 → (int_le a x && int_lt x (a +ℤ pos w)) ≡ true → nat_abs (x +ℤ pos 16384) % 64 ≡ nat_abs a + nat_abs (x -ℤ a)
-along a x w low high h = rest_of x 256 (nat_abs a + nat_abs (x -ℤ a)) (grind (arith, ints)) (grind (arith, ints))
+-- one axis: how far a number of the part lies from its tile's edge
+offset : (a x : ℤ) (w left : ℕ) → IsOffset left a → (int_le a x && int_lt x (a +ℤ pos w)) ≡ true → nat_abs (x +ℤ pos 16384) ≡ left + nat_abs (x -ℤ a)
+offset a x w left e h = grind (arith, ints)
 
 small : (a x : ℤ) (w : ℕ) → (int_le a x && int_lt x (a +ℤ pos w)) ≡ true → nat_abs (x -ℤ a) < w
 small a x w h = grind (arith, ints)
+
+rest : (n left d w : ℕ) → 64 * n ≤ left → left + w ≤ 64 * n + 64 → d < w → (left + d) % 64 ≡ left % 64 + d
+rest n left d w low high h = omega arith
+
+along : (k a x : ℤ) (w left part : ℕ) → negsuc 255 ≤ℤ k → IsOffset left a → (pos 64 *ℤ k) ≤ℤ a → (a +ℤ pos w) ≤ℤ ((pos 64 *ℤ k) +ℤ pos 64) → part ≡ left % 64
+    → (int_le a x && int_lt x (a +ℤ pos w)) ≡ true → nat_abs (x +ℤ pos 16384) % 64 ≡ part + nat_abs (x -ℤ a)
+along k a x w left part world e low high at h =
+    let piece : InPiece (nat_abs (k +ℤ pos 256)) left w = in_piece k a left w world e low high in
+    ap (λ n. n % 64) (offset a x w left e h) ∙ rest (nat_abs (k +ℤ pos 256)) left (nat_abs (x -ℤ a)) w piece.from piece.to (small a x w h) ∙ ap (λ n. n + nat_abs (x -ℤ a)) (sym at)
 
 step : (a : ℤ) (n w : ℕ) → n < w → (int_le a (a +ℤ pos n) && int_lt (a +ℤ pos n) (a +ℤ pos w)) ≡ true
 step a n w h = grind (arith, ints)
@@ -51,41 +62,31 @@ step a n w h = grind (arith, ints)
 step_back : (a : ℤ) (n : ℕ) → nat_abs ((a +ℤ pos n) -ℤ a) ≡ n
 step_back a n = grind (arith, ints)
 
-first : (a : ℤ) (w : ℕ) → pos 0 ≤ℤ a → (a +ℤ pos w) ≤ℤ pos 64 → 1 ≤ w → nat_abs (a +ℤ pos 16384) % 64 ≡ nat_abs a
-first a w low high some = rest_of a 256 (nat_abs a) (grind (arith, ints)) (grind (arith, ints))
+-- the place of a point in its tile
+abbrev pub spot_of : Point → ℕ
+spot_of p = 64 * (down p % 64) + across p % 64
 
-module _ (t u : Pixels) (a : Area) (low_x : pos 0 ≤ℤ a.x) (high_x : (a.x +ℤ pos a.w) ≤ℤ pos 64) (low_y : pos 0 ≤ℤ a.y) (high_y : (a.y +ℤ pos a.h) ≤ℤ pos 64) where
-  at_part : (t : Pixels) (p : Point) → holds a p ≡ true → pixel_at t p ≡ pixel_of t (nat_abs a.x + nat_abs (p.x -ℤ a.x)) (nat_abs a.y + nat_abs (p.y -ℤ a.y))
-  at_part t p h = (λ i. pixel_of t (along a.x p.x a.w low_x high_x (and_left _ _ h) i) (along a.y p.y a.h low_y high_y (and_right _ _ h) i))
+module _ (t : Pixels) (f : ℕ → Rgba) (k : Key) (a : Area) (part : Part) (world : IsWorldKey k) (within : IsWithin a (tile k)) (is : IsPartOf a part) where
+  across_is : (p : Point) → holds a p ≡ true → across p % 64 ≡ part.left + nat_abs (p.x -ℤ a.x)
+  across_is p h = along k.col a.x p.x a.w (nat_abs (a.x +ℤ pos 16384)) part.left world.left is.x within.left within.right is.left (and_left _ _ h)
 
-  points_same : SamePart t u (nat_abs a.x) (nat_abs a.y) a.w a.h → SameOn a t u
-  points_same same p h = at_part t p h ∙ same (nat_abs (p.x -ℤ a.x)) (nat_abs (p.y -ℤ a.y)) (small a.x p.x a.w (and_left _ _ h)) (small a.y p.y a.h (and_right _ _ h)) ∙ sym (at_part u p h)
+  down_is : (p : Point) → holds a p ≡ true → down p % 64 ≡ part.top + nat_abs (p.y -ℤ a.y)
+  down_is p h = along k.row a.y p.y a.h (nat_abs (a.y +ℤ pos 16384)) part.top world.top is.y within.top within.bottom is.top (and_right _ _ h)
 
-  part_same : SameOn a t u → SamePart t u (nat_abs a.x) (nat_abs a.y) a.w a.h
-  part_same same col row c r =
+  -- the part has the pixels of f exactly where each point of the rectangle has
+  pub points_are : PartIs t f part.left part.top part.w part.h → (p : Point) → holds a p ≡ true → pixel_at t p ≡ f (spot_of p)
+  points_are all p h =
+      (λ i. pixel_of t (across_is p h i) (down_is p h i))
+      ∙ all (nat_abs (p.x -ℤ a.x)) (nat_abs (p.y -ℤ a.y)) (subst (λ n. nat_abs (p.x -ℤ a.x) < n) (sym is.w) (small a.x p.x a.w (and_left _ _ h))) (subst (λ n. nat_abs (p.y -ℤ a.y) < n) (sym is.h) (small a.y p.y a.h (and_right _ _ h)))
+      ∙ (λ i. f (64 * sym (down_is p h) i + sym (across_is p h) i))
+
+  pub part_is : ((p : Point) → holds a p ≡ true → pixel_at t p ≡ f (spot_of p)) → PartIs t f part.left part.top part.w part.h
+  part_is all col row c r =
       let p : Point = point (a.x +ℤ pos col) (a.y +ℤ pos row) in
-      let h : holds a p ≡ true = both_true _ _ (step a.x col a.w c) (step a.y row a.h r) in
-      (λ i. pixel_of t (nat_abs a.x + sym (step_back a.x col) i) (nat_abs a.y + sym (step_back a.y row) i)) ∙ sym (at_part t p h) ∙ same p h ∙ at_part u p h
-      ∙ (λ i. pixel_of u (nat_abs a.x + step_back a.x col i) (nat_abs a.y + step_back a.y row i))
-
-low_of : (a : Area) → IsWithin a whole_tile → (pos 0 ≤ℤ a.x) × (pos 0 ≤ℤ a.y)
-low_of a is = (is.left, is.top)
-
-high_of : (a : Area) → IsWithin a whole_tile → ((a.x +ℤ pos a.w) ≤ℤ pos 64) × ((a.y +ℤ pos a.h) ≤ℤ pos 64)
-high_of a is = (is.right, is.bottom)
-
-module _ (t u : Pixels) (a : Area) (part : Part) (within : IsWithin a whole_tile) (is : IsPartOf a part) where
-  part_is : SamePart t u part.left part.top part.w part.h ≡ SamePart t u (nat_abs a.x) (nat_abs a.y) a.w a.h
-  part_is =
-      let w : 1 ≤ a.w = omega (arith, is.w, is.some_w) in
-      let h : 1 ≤ a.h = omega (arith, is.h, is.some_h) in
-      λ i. SamePart t u ((is.left ∙ first a.x a.w (low_of a within).0 (high_of a within).0 w) i) ((is.top ∙ first a.y a.h (low_of a within).1 (high_of a within).1 h) i) (is.w i) (is.h i)
-
-  pub same_on_part : SamePart t u part.left part.top part.w part.h → SameOn a t u
-  same_on_part same = points_same t u a (low_of a within).0 (high_of a within).0 (low_of a within).1 (high_of a within).1 (subst (λ P. P) part_is same)
-
-  pub same_part_of : SameOn a t u → SamePart t u part.left part.top part.w part.h
-  same_part_of same = subst (λ P. P) (sym part_is) (part_same t u a (low_of a within).0 (high_of a within).0 (low_of a within).1 (high_of a within).1 same)
+      let h : holds a p ≡ true = both_true _ _ (step a.x col a.w (subst (λ n. col < n) is.w c)) (step a.y row a.h (subst (λ n. row < n) is.h r)) in
+      let x : across p % 64 ≡ part.left + col = across_is p h ∙ ap (λ n. part.left + n) (step_back a.x col) in
+      let y : down p % 64 ≡ part.top + row = down_is p h ∙ ap (λ n. part.top + n) (step_back a.y row) in
+      (λ i. pixel_of t (sym x i) (sym y i)) ∙ all p h ∙ (λ i. f (64 * y i + x i))
 
 pub not_true : (b : Bool) {P : Type 0} → b ≡ false → IsTrue b → P
 not_true true e h = absurd (no e)
@@ -98,4 +99,4 @@ not_true false e h = absurd (no h)
     no h = cc
 
 pub is_true : (b : Bool) → b ≡ true → IsTrue b
-is_true b e = subst IsTrue (sym e) refl
+is_true b e = e

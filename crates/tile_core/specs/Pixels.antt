@@ -30,6 +30,10 @@ whole_tile = area (pos 0) (pos 0) 64 64
 abbrev pub SameOn : Area → Pixels → Pixels → Type 0
 SameOn a tile other = (p : Point) → holds a p ≡ true → pixel_at tile p ≡ pixel_at other p
 
+-- the tile has that pixel at each point of the rectangle
+abbrev pub IsPlainOn : Area → Pixels → Rgba → Type 0
+IsPlainOn a tile c = (p : Point) → holds a p ≡ true → pixel_at tile p ≡ c
+
 -- pixels in row order are those of the points of a rectangle, as f has them
 abbrev pub HasPixels : Area → (Point → Rgba) → List Rgba → Type 0
 HasPixels a f pixels = (p : Point) → holds a p ≡ true → slice_index_or pixels (place_in a p) clear ≡ f p

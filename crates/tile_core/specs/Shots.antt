@@ -7,7 +7,7 @@ use Rattle.std.specs.Coded.{Coded, code_by, coded×, coded_list}
 use Rattle.pixel_core.specs.Rgba.{Rgba, clear}
 use Rattle.pixel_core.specs.Words.{pixel_code}
 use Rattle.geom_core.specs.Areas.{Area, holds, Point}
-use Rattle.geom_core.specs.Overlaps.{place_in, area_code}
+use Rattle.geom_core.specs.Overlaps.{any_holds, place_in, area_code}
 use Rattle.geom_core.specs.Grid.{Key, key_cmp, key_of, same_key, key_code}
 use Rattle.tile_core.specs.Pixels.{Pixels, pixel_at, pixel_or}
 
@@ -24,6 +24,19 @@ sight c rects m = record { default_pixel = c; rects = rects; tiles = m }
 -- the pixel at a point
 abbrev pub sight_at : Sight → Point → Rgba
 sight_at s p = pixel_or (map.get s.tiles (key_of p)) s.default_pixel p
+
+-- the shot has the pixels of f at the points of the rectangle
+abbrev pub ShowsOn : Area → Sight → (Point → Rgba) → Type 0
+ShowsOn a s f = (p : Point) → holds a p ≡ true → f p ≡ sight_at s p
+
+-- both shots have the same pixels at the points of the rectangle in the key's tile
+abbrev pub SameInTile : Key → Area → Sight → Sight → Type 0
+SameInTile k a s other = (p : Point) → holds a p ≡ true → same_key (key_of p) k ≡ true → sight_at s p ≡ sight_at other p
+
+-- both shots have the same default pixel, and the same pixels at the points of the rectangles
+pub record SameShots (rects : List Area) (s other : Sight) : Type 0 where
+  pub default_pixel : s.default_pixel ≡ other.default_pixel
+  pub pixels : (p : Point) → any_holds rects p ≡ true → sight_at s p ≡ sight_at other p
 
 -- the same with that tile under the key
 abbrev pub with_seen : Sight → Key → Pixels → Sight

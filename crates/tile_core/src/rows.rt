@@ -1,8 +1,9 @@
 //! Rows of pixels in parts of tiles.
 
-ghost use Rattle.std.specs.Prelude.{◌^◌, IfOk, vec_len, ◌≡◌, ℕ, ◌+◌, ◌*◌, ◌<◌, ◌≤◌, ◌↔◌, IsTrue, length, take, drop, ◌++◌, replicate};
+ghost use Rattle.std.specs.Prelude.{◌^◌, IfOk, vec_len, ◌≡◌, ℕ, ◌+◌, ◌*◌, ◌<◌, ◌≤◌, ◌↔◌, IsTrue, length, take, drop, ◌++◌, replicate, slice_index_or};
 ghost use Rattle.tile_core.specs.Parts.{LaysPart, TakesPart, LaysTile};
-ghost use Rattle.tile_core.specs.Same.{SamePart, SameRow};
+ghost use Rattle.tile_core.specs.Same.{PartIs, RowIs};
+ghost use Rattle.pixel_core.specs.Rgba.{clear};
 
 use pixel_core::Pixel;
 use pixel_rows::all_are;
@@ -88,7 +89,7 @@ pub fn same_part(tile: &[Pixel], other: &[Pixel], part: Part) -> bool
     requires other { length other.now ≡ 4096 }
     requires across { part.left + part.w ≤ 64 }
     requires down { part.top + part.h ≤ 64 }
-    ensures { IsTrue result ↔ SamePart tile.now other.now part.left part.top part.w part.h }
+    ensures { IsTrue result ↔ PartIs tile.now (λ k. slice_index_or other.now k clear) part.left part.top part.w part.h }
 {
     let mut from = 64 * part.top + part.left;
     for _row in 0..part.h {
@@ -105,10 +106,41 @@ fn same_row(tile: &[Pixel], other: &[Pixel], from: usize, n: usize) -> bool
     requires whole { length tile.now ≡ 4096 }
     requires other { length other.now ≡ 4096 }
     requires inside { from + n ≤ 4096 }
-    ensures { IsTrue result ↔ SameRow tile.now other.now from n }
+    ensures { IsTrue result ↔ RowIs tile.now (λ k. slice_index_or other.now k clear) from n }
 {
     for i in 0..n {
         if tile[from + i] != other[from + i] {
+            return false;
+        }
+    }
+    true
+}
+
+/// Whether every pixel of the part is `p`.
+pub fn is_plain_part(tile: &[Pixel], part: Part, p: Pixel) -> bool
+    requires whole { length tile.now ≡ 4096 }
+    requires across { part.left + part.w ≤ 64 }
+    requires down { part.top + part.h ≤ 64 }
+    ensures { IsTrue result ↔ PartIs tile.now (λ _. p) part.left part.top part.w part.h }
+{
+    let mut from = 64 * part.top + part.left;
+    for _row in 0..part.h {
+        if !is_plain_row(tile, from, part.w, p) {
+            return false;
+        }
+        from += 64;
+    }
+    true
+}
+
+/// Whether the `n` pixels from a place on are all `p`.
+fn is_plain_row(tile: &[Pixel], from: usize, n: usize, p: Pixel) -> bool
+    requires whole { length tile.now ≡ 4096 }
+    requires inside { from + n ≤ 4096 }
+    ensures { IsTrue result ↔ RowIs tile.now (λ _. p) from n }
+{
+    for i in 0..n {
+        if tile[from + i] != p {
             return false;
         }
     }

@@ -1,14 +1,14 @@
 //! The pixels that a job reads, kept as they were when it started.
 
-ghost use Rattle.std.specs.Prelude.{List, [], ◌∷◌, ◌++◌, length, replicate, ◌≡◌, ℕ, ◌*◌, true, IfOk, OnOk, OnErr, vec_len, ◌+◌, ◌≤◌, ◌&&◌, nat_le};
+ghost use Rattle.std.specs.Prelude.{List, [], ◌∷◌, ◌++◌, length, replicate, ◌≡◌, ℕ, ◌*◌, true, IfOk, OnOk, OnErr, vec_len, ◌+◌, ◌≤◌, ◌&&◌, nat_le, IsTrue, ◌↔◌};
 ghost use Rattle.std.specs.List.{list_any};
 ghost use Rattle.std.specs.Option.{option_copied};
 ghost use Rattle.std.specs.FinMap as map;
 ghost use Rattle.geom_core.specs.Overlaps.{IsWithin, IsShared};
 ghost use Rattle.geom_core.specs.Grid.{Key, IsWorldKey, tile as tile_area};
 ghost use Rattle.geom_core.specs.Areas.{point, holds, lies_in, world};
-ghost use Rattle.tile_core.specs.Pixels.{HasPixels};
-ghost use Rattle.tile_core.specs.Shots.{sight, sight_at, with_seen, LaysKey, ReadsKeys};
+ghost use Rattle.tile_core.specs.Pixels.{HasPixels, pixel_at};
+ghost use Rattle.tile_core.specs.Shots.{sight, sight_at, with_seen, LaysKey, ReadsKeys, ShowsOn, SameInTile, SameShots};
 
 use crate::Tile;
 use crate::keyed::{pixel_under, put_under, tile_under};
@@ -87,6 +87,81 @@ impl Shot {
         ensures { result ≡ list_any (lies_in rect.now) self.now.rects }
     {
         lies_in_some(rect, &self.rects)
+    }
+
+    /// Whether both shots have the same pixels on what a rectangle has of the key's tile. No memory.
+    pub fn same_in(&self, other: &Shot, key: TileKey, rect: &Rect) -> bool
+        requires { IsWorldKey key }
+        ensures { IsTrue result ↔ SameInTile key rect.now self.now other.now }
+    {
+        match rect.clip(&key.rect()) {
+            Some(part) => self.same_part(other, key, &part),
+            None => true,
+        }
+    }
+
+    /// Whether both shots have the same ground, and the same pixels on some rectangles. No memory.
+    pub fn same_on(&self, other: &Shot, rects: &[Rect]) -> bool
+        ensures { IsTrue result ↔ SameShots rects.now self.now other.now }
+    {
+        if self.ground != other.ground {
+            return false;
+        }
+        for rect in rects {
+            if !self.same_on_one(other, rect) {
+                return false;
+            }
+        }
+        true
+    }
+
+    /// Whether both shots have the same pixels on a rectangle.
+    fn same_on_one(&self, other: &Shot, rect: &Rect) -> bool
+        ensures { IsTrue result ↔ ShowsOn rect.now other.now (sight_at self.now) }
+    {
+        for i in 0..rect.tile_count() {
+            if !self.same_in(other, rect.tile_at(i), rect) {
+                return false;
+            }
+        }
+        true
+    }
+
+    /// Whether both shots have the same pixels on a rectangle inside the key's tile.
+    fn same_part(&self, other: &Shot, key: TileKey, rect: &Rect) -> bool
+        requires key { IsWorldKey key }
+        requires inside { IsWithin rect.now (tile_area key) }
+        ensures { IsTrue result ↔ ShowsOn rect.now other.now (sight_at self.now) }
+    {
+        match self.tile(key) {
+            Some(tile) => other.shows_tile(tile, key, rect),
+            None => other.shows_plain(self.ground(), key, rect),
+        }
+    }
+
+    /// Whether the shot has the tile's pixels on a rectangle inside the key's tile.
+    fn shows_tile(&self, tile: &Tile, key: TileKey, rect: &Rect) -> bool
+        requires key { IsWorldKey key }
+        requires inside { IsWithin rect.now (tile_area key) }
+        ensures { IsTrue result ↔ ShowsOn rect.now self.now (pixel_at tile.now) }
+    {
+        match self.tile(key) {
+            Some(own) => tile.same_in(own, key, rect),
+            None => tile.is_plain_in(self.ground(), key, rect),
+        }
+    }
+
+    /// Whether every pixel that the shot has on a rectangle inside the key's tile is `p`.
+    fn shows_plain(&self, p: Pixel, key: TileKey, rect: &Rect) -> bool
+        requires key { IsWorldKey key }
+        requires inside { IsWithin rect.now (tile_area key) }
+        ensures { IsTrue result ↔ ShowsOn rect.now self.now (λ _. p) }
+    {
+        let _sides = (rect.w(), rect.h());
+        match self.tile(key) {
+            Some(own) => own.is_plain_in(p, key, rect),
+            None => p == self.ground(),
+        }
     }
 
     /// The pixels on a rectangle inside the key's tile, in row order.

@@ -1,7 +1,7 @@
 //! Tiles of 64 by 64 pixels, shared copy on write.
 
 ghost use Rattle.std.specs.Prelude.{vec_len, ◌≡◌, ℕ, ◌+◌, ◌*◌, ◌<◌, ◌↔◌, IsTrue, length, IfOk, replicate, true, false, negsuc, pos, ◌≤ℤ◌, ◌+ℤ◌, ◌%◌, nat_abs};
-ghost use Rattle.tile_core.specs.Pixels.{Pixels, pixel_of, pixel_at, whole_tile, HasPixels, SameOn};
+ghost use Rattle.tile_core.specs.Pixels.{Pixels, pixel_of, pixel_at, HasPixels, SameOn, IsPlainOn};
 ghost use Rattle.tile_core.specs.Parts.{IsPartOf};
 ghost use Rattle.geom_core.specs.Grid.{IsWorldKey, tile};
 ghost use Rattle.tile_core.specs.Blocks.{LaysBlock};
@@ -10,7 +10,7 @@ ghost use Rattle.geom_core.specs.Areas.{point, holds, world};
 ghost use Rattle.pixel_core.specs.Rgba.{clear};
 
 use crate::Block;
-use crate::rows::{Part, is_plain, lay_part, part_of, same_part, with_part};
+use crate::rows::{Part, is_plain, is_plain_part, lay_part, part_of, same_part, with_part};
 use geom_core::{NoMemory, Rect, TileKey};
 use pixel_core::Pixel;
 use std::alloc::Global;
@@ -121,12 +121,22 @@ impl Tile {
         Tile::from_pixels(alloc, pixels)
     }
 
-    /// Whether both tiles have the same pixels on a rectangle of the tile whose corner is (0, 0).
-    pub fn same_in(&self, other: &Tile, rect: &Rect) -> bool
-        requires { IsWithin rect.now whole_tile }
+    /// Whether both tiles have the same pixels on a rectangle inside the key's tile.
+    pub fn same_in(&self, other: &Tile, key: TileKey, rect: &Rect) -> bool
+        requires key { IsWorldKey key }
+        requires inside { IsWithin rect.now (tile key) }
         ensures { IsTrue result ↔ SameOn rect.now self.now other.now }
     {
         same_part(self.pixels(), other.pixels(), part_in_tile(rect))
+    }
+
+    /// Whether every pixel on a rectangle inside the key's tile is `p`.
+    pub fn is_plain_in(&self, p: Pixel, key: TileKey, rect: &Rect) -> bool
+        requires key { IsWorldKey key }
+        requires inside { IsWithin rect.now (tile key) }
+        ensures { IsTrue result ↔ IsPlainOn rect.now self.now p }
+    {
+        is_plain_part(self.pixels(), part_in_tile(rect), p)
     }
 
     /// Makes a change in place, and tells whether it did. Where somebody shares the pixels, nothing

@@ -15,17 +15,6 @@ use arrayvec::ArrayVec;
 use doc_model::{Patch, Walk};
 use geom_core::Rect;
 
-/// Whether the walks are one.
-fn same_walk(a: Walk, b: Walk) -> bool
-    ensures { result ≡ same_walk a b }
-{
-    match (a, b) {
-        (Walk::Up(a), Walk::Up(b)) => a == b,
-        (Walk::All, Walk::All) => true,
-        (Walk::Up(_), Walk::All) | (Walk::All, Walk::Up(_)) => false,
-    }
-}
-
 /// Whether the rectangles' corners lie in one cell.
 fn one_cell(a: &Rect, b: &Rect) -> bool
     ensures { result ≡ one_cell a.now b.now }
@@ -37,7 +26,7 @@ fn one_cell(a: &Rect, b: &Rect) -> bool
 fn takes_in(patch: &Patch, walk: Walk, part: &Rect) -> bool
     ensures { result ≡ (same_walk patch.now.walk walk && one_cell patch.now.rect part.now) }
 {
-    same_walk(patch.walk, walk) && one_cell(&patch.rect, part)
+    patch.walk == walk && one_cell(&patch.rect, part)
 }
 
 /// The first place whose patch has the walk in the part's cell.

@@ -10,4 +10,4 @@ mod same;
 pub use composed::{Composed, compose_key, compose_keys, compose_walk};
 pub use inputs::Inputs;
 pub use paths::{Path, all_groups, plan};
-pub use same::{same_on, same_values};
+pub use same::same_values;

@@ -1,6 +1,8 @@
-use Rattle.tile_core.specs.Same.{SameRow}
+use Rattle.std.specs.Prelude.{slice_index_or}
+use Rattle.pixel_core.specs.Rgba.{clear}
+use Rattle.tile_core.specs.Same.{RowIs}
 use Rattle.tile_core.proofs.rows.same_row.Given as goal
 
--- the pixels so far are the same
+-- the pixels so far are those
 abbrev pub invariant-loop-i : goal.invariant-loop-i
-invariant-loop-i l = SameRow l.tile l.other l.from l.i
+invariant-loop-i l = RowIs l.tile (λ k. slice_index_or l.other k clear) l.from l.i

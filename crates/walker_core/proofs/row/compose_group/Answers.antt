@@ -1,4 +1,4 @@
-use Rattle.std.proofs.Common.{◌∙◌, ap, sym, true, false, [], subst, arith}
+use Rattle.std.proofs.Common.{◌∙◌, ap, sym, [], subst, arith}
 use Rattle.std.proofs.lemmas.Result.{IfOk-weaker}
 use Rattle.std.proofs.lemmas.List.{take_all}
 use Rattle.pixel_core.specs.Rgba.{clear}

@@ -1,14 +1,14 @@
-use Rattle.std.proofs.Common.{◌≡◌, ◌∙◌, ap, sym, subst, length, is_some}
+use Rattle.std.proofs.Common.{◌∙◌, ap, subst}
 use Rattle.std.specs.FinMap as map
-use Rattle.group_caches.specs.Entries.{IsPlace, LacksBelow}
-use Rattle.std.proofs.Common.{true, false, None, [], ◌∷◌}
+use Rattle.group_caches.specs.Entries.{IsPlace}
+use Rattle.std.proofs.Common.{[], ◌∷◌}
 use Rattle.std.proofs.lemmas.Result.{on_ok_weaker}
 use Rattle.doc_model.specs.Layers.{painted}
 use Rattle.doc_model.specs.Shots.{in_tile}
 use Rattle.group_caches.specs.declared.places.Place.{Place}
 use Rattle.group_caches.specs.Laying.{LaysGiven}
 use Rattle.group_caches.specs.Kept.{with_picture}
-use Rattle.group_caches.proofs.Finds.{place_cache, put_layer, no_layer}
+use Rattle.group_caches.proofs.Finds.{place_cache, put_layer}
 use Rattle.group_caches.proofs.Layers.{laid_layer}
 use Rattle.group_caches.proofs.caches.Caches.put.Goals as goal
 
@@ -23,6 +23,6 @@ returns-in-Some-clause-ok c =
     c.lay_given.ensures.ok
 
 pub returns-in-None-clause-ok : goal.returns-in-None-clause-ok
-returns-in-None-clause-ok c = absurd (
-    let none : map.get c.args.self.now c.args.group ≡ None = sym (ap (λ m. map.get m c.args.group) c.self.view_is) ∙ no_layer c.self.inside.places.items c.args.group (subst (λ ps. LacksBelow c.args.group ps (length ps)) c.deref.ensures.value c.in-None.ensures.none) in
-    let t : false ≡ true = sym (ap is_some none) ∙ c.requires.there in cc)
+returns-in-None-clause-ok c = on_ok_weaker c.lay_first.result
+    (λ h f same. h f same ∙ ap (λ m. with_picture m c.args.group c.args.rect.now c.args.key f) c.self.view_is)
+    c.lay_first.ensures.ok
