@@ -1,7 +1,8 @@
 -- One dab and one block more.
 use Rattle.std.proofs.Common.{◌≡◌, ℕ, suc, ◌+◌, ◌++◌, ◌∷◌, [], refl, arith, append_assoc, sym, ap, ◌∙◌, append-nil, List}
 use Rattle.doc_model.specs.declared.command.Command.{Command}
-use Rattle.demo_gen.specs.Demo.{later, dab, dabs, after_dabs, block, blocks, after_block, after_blocks}
+use Rattle.demo_gen.specs.Demo.{later, dabs, after_dabs, block, blocks, after_block, after_blocks}
+use Rattle.demo_gen.specs.Adds.{dab}
 
 pub no_dabs : (k s : ℕ) (front : List Command) → front ≡ front ++ dabs k 0 s
 unfolding dabs

@@ -22,7 +22,8 @@ use Rattle.doc_model.specs.Jobs.{checks}
 use Rattle.doc_model.proofs.Feeding.{Touches, with_job_touches, with_fate_touches}
 use Rattle.script_lines.specs.Colours.{is_pixel}
 use Rattle.script_forms.specs.Ranges.{in_range, job_in_range}
-use Rattle.demo_gen.specs.Demo.{told, later, draw, ink, dab_op, dab_job, dab, dabs, after_dabs}
+use Rattle.demo_gen.specs.Demo.{told, later, draw, ink, dab_op, dab_job, dabs, after_dabs}
+use Rattle.demo_gen.specs.Adds.{dab}
 use Rattle.demo_gen.proofs.Blocks.{more_dabs}
 
 -- commands that lead from some entries to others

@@ -11,7 +11,8 @@ use Rattle.doc_model.specs.Strokes.{Jobs, Open, Ended, Cancelled, Entry, Changes
 use Rattle.doc_model.specs.Lawful.{is_closed_entry, may_follow}
 use Rattle.script_forms.specs.Ranges.{in_range, is_id}
 use Rattle.script_text.specs.Closed.{is_script}
-use Rattle.demo_gen.specs.Demo.{later, draw, dabs, after_dabs, move_job, move, closing, layer, stroke, after_stroke, only_if, look, block, after_blocks, blocks, tree, demo}
+use Rattle.demo_gen.specs.Demo.{later, draw, dabs, after_dabs, move_job, closing, layer, stroke, after_stroke, only_if, look, block, after_blocks, blocks, tree, demo}
+use Rattle.demo_gen.specs.Adds.{move}
 use Rattle.demo_gen.proofs.Blocks.{more_blocks}
 use Rattle.demo_gen.proofs.Feeds.{Goes, goes_nowhere, goes_on, goes_one, IsReady, none_last, all_last, few_last, stroke_of, IsDabbed, dabbed, job_goes, close_goes, told_below, checks_move}
 

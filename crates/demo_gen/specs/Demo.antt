@@ -1,10 +1,9 @@
 -- The script of a number, whose commands follow the draws of a generator.
-use Rattle.std.specs.Prelude.{ℕ, suc, zero, ◌+◌, ◌*◌, ◌/◌, ◌%◌, ◌==◌, pos, ◌-ℤ◌, Bool, true, if◌then◌else◌, List, [], ◌∷◌, ◌++◌}
+use Rattle.std.specs.Prelude.{ℕ, suc, zero, ◌+◌, ◌*◌, ◌/◌, ◌%◌, ◌==◌, pos, ◌-ℤ◌, Bool, true, if◌then◌else◌, List, [], ◌∷◌, ◌++◌, map}
 use Rattle.geom_core.specs.Areas.{area}
 use Rattle.pixel_core.specs.Rgba.{Rgba, rgba, clear, if_canonical}
 use Rattle.pixel_core.specs.declared.blending.Op.{Op}
 use Rattle.pixel_core.specs.declared.blending.Op.TheVariants.{Over, Erase, Multiply, Screen, Addition}
-use Rattle.doc_model.specs.declared.canvas.Canvas.{Canvas}
 use Rattle.doc_model.specs.declared.job.Job.{Job}
 use Rattle.doc_model.specs.declared.job.Job.TheVariants.{Dab, Move}
 use Rattle.doc_model.specs.declared.job.Kind.TheVariants.{Con, Seq}
@@ -41,9 +40,6 @@ dab_op n = if n == 0 then Erase else Over
 abbrev pub dab_job : ℕ → ℕ → Job
 dab_job i s = Dab (pos (65 + 130 * (i % 6))) (pos (75 + 150 * (i / 6))) (draw s 1 60) true (ink (later 1 s)) (dab_op (draw s 6 8)) 255
 
-abbrev pub dab : ℕ → ℕ → ℕ → Command
-dab k i s = command.Add k Con (dab_job i s)
-
 -- the state after so many dabs
 unfoldable pub after_dabs : ℕ → ℕ → ℕ
 after_dabs zero s = s
@@ -52,13 +48,10 @@ after_dabs (suc i) s = later 6 (after_dabs i s)
 -- the dabs at the first places
 unfoldable pub dabs : ℕ → ℕ → ℕ → List Command
 dabs k zero s = []
-dabs k (suc i) s = dabs k i s ++ dab k i (after_dabs i s) ∷ []
+dabs k (suc i) s = dabs k i s ++ command.Add k Con (dab_job i (after_dabs i s)) ∷ []
 
 abbrev pub move_job : ℕ → Job
 move_job s = Move (area (pos (draw s 1 600)) (pos (draw s 2 400)) 200 200) (pos (draw s 3 201) -ℤ pos 100) (pos (draw s 4 201) -ℤ pos 100)
-
-abbrev pub move : ℕ → ℕ → Command
-move k s = command.Add k Seq (move_job s)
 
 abbrev pub closing : ℕ → Command
 closing k = if (k % 7) == 3 then command.Cancel k else command.End k
@@ -69,7 +62,8 @@ layer s = 3 + draw s 1 6
 
 -- a stroke's commands: its start, 24 dabs, a move and its end
 abbrev pub stroke : ℕ → ℕ → List Command
-stroke k s = command.Stroke k (layer s) ((k % 10) == 0) ∷ (dabs k 24 (later 1 s) ++ move k (after_dabs 24 (later 1 s)) ∷ closing k ∷ [])
+stroke k s = command.Stroke k (layer s) ((k % 10) == 0)
+    ∷ (dabs k 24 (later 1 s) ++ command.Add k Seq (move_job (after_dabs 24 (later 1 s))) ∷ closing k ∷ [])
 
 abbrev pub after_stroke : ℕ → ℕ
 after_stroke s = later 4 (after_dabs 24 (later 1 s))
@@ -107,19 +101,11 @@ blocks (suc n) s = blocks n s ++ block (suc n) (after_blocks n s)
 
 -- two groups, each with two layers, and two layers above them
 unfoldable pub tree : List Command
-tree = command.Change (change.Group 1 0 0)
-    ∷ command.Change (change.Group 2 0 1)
-    ∷ command.Change (change.Layer 3 1 0 clear)
-    ∷ command.Change (change.Layer 4 1 1 clear)
-    ∷ command.Change (change.Layer 5 2 0 clear)
-    ∷ command.Change (change.Layer 6 2 1 clear)
-    ∷ command.Change (change.Layer 7 0 2 clear)
-    ∷ command.Change (change.Layer 8 0 3 clear)
-    ∷ []
+tree = map command.Change (
+    change.Group 1 0 0 ∷ change.Group 2 0 1
+    ∷ change.Layer 3 1 0 clear ∷ change.Layer 4 1 1 clear ∷ change.Layer 5 2 0 clear ∷ change.Layer 6 2 1 clear
+    ∷ change.Layer 7 0 2 clear ∷ change.Layer 8 0 3 clear ∷ [])
 
-abbrev pub white_canvas : Canvas
-white_canvas = record { w = 800; h = 600; paper = rgba 255 255 255 255 }
-
--- a tree of six layers, and 40 strokes
+-- a tree of six layers and 40 strokes, on a white canvas
 unfoldable pub demo : ℕ → Contents
-demo number = contents white_canvas (tree ++ blocks 40 number)
+demo number = contents (record { w = 800; h = 600; paper = rgba 255 255 255 255 }) (tree ++ blocks 40 number)

@@ -2,7 +2,8 @@
 
 ghost use Rattle.std.specs.Prelude.{◌≡◌, ◌≤◌, ◌<◌, ◌++◌, ◌∷◌, [], OnOk, IfOk, pos, ◌-ℤ◌, ◌%◌, ◌==◌, if◌then◌else◌};
 ghost use Rattle.geom_core.specs.Areas.{area};
-ghost use Rattle.demo_gen.specs.Demo.{next, told, later, ink as said_ink, dab as said_dab, dab_op as said_dab_op, dabs, after_dabs, move as said_move, closing as said_closing, layer, stroke, after_stroke, only_if, look_op as said_look_op, look as said_look, block, after_block};
+ghost use Rattle.demo_gen.specs.Demo.{next, told, later, ink as said_ink, dab_op as said_dab_op, dabs, after_dabs, closing as said_closing, layer, stroke, after_stroke, only_if, look_op as said_look_op, look as said_look, block, after_block};
+ghost use Rattle.demo_gen.specs.Adds.{dab as said_dab, move as said_move};
 
 use crate::draws::draw;
 use doc_model::{Change, Command, Job, Kind, Look};

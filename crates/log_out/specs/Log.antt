@@ -56,9 +56,8 @@ line n name ending = concat (decimal n ∷ codes " " ∷ name ∷ codes " " ∷ 
 
 -- the lines of entries of these names, whose numbers count from n
 abbrev pub lines : ℕ → List (List ℕ) → List Outcome → List ℕ
-lines n [] outcomes = []
-lines n (name ∷ names) [] = []
 lines n (name ∷ names) (o ∷ outcomes) = line n name (outcome_text o) ++ lines (n + 1) names outcomes
+lines n names outcomes = []
 
 -- a line for each entry
 abbrev pub log_text : List Entry → List Outcome → List ℕ
@@ -76,7 +75,8 @@ cancelled o = false
 
 -- how many entries there are, and how they ended
 abbrev pub counts : List Outcome → List ℕ
-counts outcomes = concat (codes "entries " ∷ decimal (length outcomes) ∷ codes " done " ∷ decimal (count_by done outcomes) ∷ codes " cancelled " ∷ decimal (count_by cancelled outcomes)
+counts outcomes = concat (codes "entries " ∷ decimal (length outcomes) ∷ codes " done " ∷ decimal (count_by done outcomes)
+    ∷ codes " cancelled " ∷ decimal (count_by cancelled outcomes)
     ∷ codes " refused " ∷ decimal (count_by refused outcomes) ∷ codes "\n" ∷ [])
 
 -- a frame with its columns and rows
@@ -85,13 +85,10 @@ pub record Sheet : Type 0 where
   pub h : ℕ
   pub frame : Frame
 
--- the sum of a frame's colour bytes
-abbrev pub colour_sum : Frame → ℕ
-colour_sum frame = sum (concat frame)
-
--- the line of the frame number n
+-- the line of the frame number n: its columns and rows, and the sum of its colour bytes
 abbrev pub frame_line : ℕ → Sheet → List ℕ
-frame_line n s = concat (codes "frame " ∷ decimal n ∷ codes " " ∷ decimal s.w ∷ codes " " ∷ decimal s.h ∷ codes " " ∷ decimal (colour_sum s.frame) ∷ codes "\n" ∷ [])
+frame_line n s = concat (codes "frame " ∷ decimal n ∷ codes " " ∷ decimal s.w ∷ codes " " ∷ decimal s.h
+    ∷ codes " " ∷ decimal (sum (concat s.frame)) ∷ codes "\n" ∷ [])
 
 -- the lines of frames whose numbers count from n
 abbrev pub frame_lines : ℕ → List Sheet → List ℕ

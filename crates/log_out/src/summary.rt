@@ -7,8 +7,8 @@ ghost use Rattle.io_edge.specs.Told.{AppendsPrefix};
 ghost use Rattle.io_edge.specs.Faults.{HasCause};
 ghost use Rattle.doc_model.specs.Meaning.{refused};
 ghost use Rattle.ppm_out.specs.Scenes.{colours_of};
-ghost use Rattle.log_out.specs.Summary.{sheet_of};
-ghost use Rattle.log_out.specs.Log.{done, cancelled, counts, colour_sum as sum_of, frame_line, sum_text};
+ghost use Rattle.log_out.specs.Summary.{sheet_of, colour_sum as sum_of};
+ghost use Rattle.log_out.specs.Log.{done, cancelled, counts, frame_line, sum_text};
 
 use doc_model::Outcome;
 use io_edge::{Failed, Sink, write_pieces};

@@ -15,7 +15,7 @@ use Rattle.script_forms.specs.declared.jobs.Outline.{Outline}
 use Rattle.script_forms.specs.declared.jobs.Ink.{Ink}
 use Rattle.script_forms.specs.declared.jobs.Tip.{Tip}
 use Rattle.script_forms.specs.Words.{kind_of, op_of, edge_of}
-use Rattle.script_forms.specs.Jobs.{Fields, coordinate, outline, area_of, ink, tip, checked, fill, dab, job_fields, job_of, paint}
+use Rattle.script_forms.specs.Jobs.{Fields, coordinate, outline, area_of, ink, tip, checked, job_fields, job_of, paint}
 use Rattle.script_forms.specs.Plain.{BeginsOutline, BeginsTip, IsInkLine, IsPaintLine}
 
 -- words
@@ -74,11 +74,11 @@ unfolding paint
 paint_told work number kind others n k j count a b c = rw (count, a, b, c) refl
 
 fill_told : (left top width height colour operation strength : List ℕ) (o : Outline) (i : Ink) (j : Job) → outline left top width height ≡ Ok o → ink colour operation strength ≡ Ok i → checked (job.Fill (area_of o) i.colour i.op i.strength) ≡ Ok j → job_of Fill (left ∷ top ∷ width ∷ height ∷ colour ∷ operation ∷ strength ∷ []) ≡ Ok j
-unfolding job_of fill
+unfolding job_of
 fill_told left top width height colour operation strength o i j a b c = rw (a, b) c
 
 dab_told : (left top radius edge colour operation strength : List ℕ) (t : Tip) (i : Ink) (j : Job) → tip left top radius edge ≡ Ok t → ink colour operation strength ≡ Ok i → checked (job.Dab t.x t.y t.r t.soft i.colour i.op i.strength) ≡ Ok j → job_of Dab (left ∷ top ∷ radius ∷ edge ∷ colour ∷ operation ∷ strength ∷ []) ≡ Ok j
-unfolding job_of dab
+unfolding job_of
 dab_told left top radius edge colour operation strength t i j a b c = rw (a, b) c
 
 pub fill_line : (text t1 t2 t3 behind : List ℕ) (n : ℕ) (k : Kind) (o : Outline) (i : Ink) (j : Job) → Begins (natural 0 4294967295) 32 text n t1 → Begins kind_of 32 t1 k t2 → BeginsOutline t2 o t3 → IsInkLine t3 i behind → checked (job.Fill (area_of o) i.colour i.op i.strength) ≡ Ok j → IsPaintLine Fill text (Add n k j) behind

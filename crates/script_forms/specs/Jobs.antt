@@ -61,47 +61,32 @@ tip left top radius edge = do
 abbrev pub checked : Job → Result Job Cause
 checked j = if checks j then Ok j else Err OutOfWorld
 
-unfoldable pub fill : Fields → Result Job Cause
-fill (left ∷ top ∷ width ∷ height ∷ colour ∷ operation ∷ strength ∷ []) = do
+-- how many fields a job has behind its stroke and its kind
+abbrev pub job_fields : Work → ℕ
+job_fields Move = 6
+job_fields Blur = 5
+job_fields work = 7
+
+-- the job that these fields say
+unfoldable pub job_of : Work → Fields → Result Job Cause
+job_of Fill (left ∷ top ∷ width ∷ height ∷ colour ∷ operation ∷ strength ∷ []) = do
   o ← outline left top width height
   i ← ink colour operation strength
   checked (job.Fill (area_of o) i.colour i.op i.strength)
-fill _ = Err FieldCount
-
-unfoldable pub dab : Fields → Result Job Cause
-dab (left ∷ top ∷ radius ∷ edge ∷ colour ∷ operation ∷ strength ∷ []) = do
+job_of Dab (left ∷ top ∷ radius ∷ edge ∷ colour ∷ operation ∷ strength ∷ []) = do
   t ← tip left top radius edge
   i ← ink colour operation strength
   checked (job.Dab t.x t.y t.r t.soft i.colour i.op i.strength)
-dab _ = Err FieldCount
-
-unfoldable pub move_by : Fields → Result Job Cause
-move_by (left ∷ top ∷ width ∷ height ∷ columns ∷ rows ∷ []) = do
+job_of Move (left ∷ top ∷ width ∷ height ∷ columns ∷ rows ∷ []) = do
   o ← outline left top width height
   dx ← distance columns
   dy ← distance rows
   checked (job.Move (area_of o) dx dy)
-move_by _ = Err FieldCount
-
-unfoldable pub blur : Fields → Result Job Cause
-blur (left ∷ top ∷ width ∷ height ∷ radius ∷ []) = do
+job_of Blur (left ∷ top ∷ width ∷ height ∷ radius ∷ []) = do
   o ← outline left top width height
   r ← natural 1 16 radius
   checked (job.Blur (area_of o) r)
-blur _ = Err FieldCount
-
--- how many fields a job has behind its stroke and its kind
-abbrev pub job_fields : Work → ℕ
-job_fields Fill = 7
-job_fields Dab = 7
-job_fields Move = 6
-job_fields Blur = 5
-
-unfoldable pub job_of : Work → Fields → Result Job Cause
-job_of Fill = fill
-job_of Dab = dab
-job_of Move = move_by
-job_of Blur = blur
+job_of work fields = Err FieldCount
 
 -- a job of a stroke
 unfoldable pub paint : Work → Fields → Result Command Cause

@@ -3,3 +3,4 @@ pub mod Jobs
 pub mod Ranges
 pub mod Forms
 pub mod Plain
+pub mod Texts

@@ -1,5 +1,7 @@
 -- Lines of jobs at the front of a text.
-use Rattle.std.specs.Prelude.{ℕ, ◌≡◌, List, [], ◌∷◌, Ok}
+use Rattle.std.specs.Prelude.{ℕ, ◌≡◌, List, [], ◌∷◌, Result, Ok, Err}
+use Rattle.script_lines.specs.declared.cause.Cause.{Cause}
+use Rattle.script_lines.specs.declared.cause.Cause.TheVariants.{FieldCount}
 use Rattle.doc_model.specs.declared.command.Command.{Command}
 use Rattle.script_lines.specs.Lines.{lines}
 use Rattle.script_lines.specs.Fronts.{with_field}
@@ -7,7 +9,7 @@ use Rattle.script_forms.specs.declared.words.Work.{Work}
 use Rattle.script_forms.specs.declared.jobs.Outline.{Outline}
 use Rattle.script_forms.specs.declared.jobs.Ink.{Ink}
 use Rattle.script_forms.specs.declared.jobs.Tip.{Tip}
-use Rattle.script_forms.specs.Words.{work_text}
+use Rattle.script_forms.specs.Texts.{work_text}
 use Rattle.script_forms.specs.Jobs.{Fields, outline, ink, tip, paint}
 
 -- the first line begins with the fields of an outline, and the rest of the line stands behind
@@ -48,3 +50,8 @@ pub record IsJobLine (text : List ℕ) (c : Command) (behind : List ℕ) : Type 
   pub others : Fields
   pub told : paint work others ≡ Ok c
   pub line : lines text ≡ (work_text work ∷ others) ∷ lines behind
+
+-- a command where nothing stands behind its word
+abbrev pub alone : Command → Fields → Result Command Cause
+alone c [] = Ok c
+alone c (field ∷ others) = Err FieldCount

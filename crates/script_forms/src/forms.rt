@@ -2,8 +2,9 @@
 
 ghost use Rattle.std.specs.Prelude.{◌≡◌, [], ◌∷◌, nat_le, ◌&&◌, true, IfOk};
 ghost use Rattle.script_lines.specs.Fronts.{pointed};
-ghost use Rattle.script_forms.specs.Ranges.{in_limits, is_spot, is_number, change_in_range, in_range, is_sound};
-ghost use Rattle.script_forms.specs.Forms.{sides as told_sides, canvas as told_canvas, spot as told_spot, layer as told_layer, group as told_group, remove as told_remove, place as told_place, look as told_look, stroke as told_stroke, one_number as told_number, alone as told_alone, command_of as told_command};
+ghost use Rattle.script_forms.specs.Ranges.{in_limits, is_spot, in_range, is_sound};
+ghost use Rattle.script_forms.specs.Forms.{sides as told_sides, canvas as told_canvas, spot as told_spot, command_of as told_command};
+ghost use Rattle.script_forms.specs.Plain.{alone as told_alone};
 
 use crate::jobs::paint;
 use crate::words::{Word, exclusive_of, op_of, seen_of};
@@ -67,41 +68,44 @@ fn spot(id: &[u8], parent: &[u8], place: &[u8]) -> Result<(u16, u16, u8), Cause>
     Ok((id, parent, place))
 }
 
-#[tactic(auto, unfolding(crate::specs::Forms::layer))]
-fn clear_layer(id: &[u8], parent: &[u8], place: &[u8]) -> Result<Change, Cause>
-    ensures value { result ≡ told_layer (id.now ∷ parent.now ∷ place.now ∷ []) }
-    ensures ranges { IfOk result (λ c. change_in_range c ≡ true) }
+#[tactic(auto, unfolding(crate::specs::Forms::command_of))]
+fn clear_layer(id: &[u8], parent: &[u8], place: &[u8]) -> Result<Command, Cause>
+    ensures value { result ≡ told_command Word.Layer (id.now ∷ parent.now ∷ place.now ∷ []) }
+    ensures ranges { IfOk result (λ c. in_range c ≡ true) }
+    ensures sound { IfOk result (λ c. is_sound c ≡ true) }
 {
     let (id, parent, place) = spot(id, parent, place)?;
     let ground = Pixel::CLEAR;
-    Ok(Change::Layer {
+    Ok(Command::Change(Change::Layer {
         id,
         parent,
         place,
         ground,
-    })
+    }))
 }
 
-#[tactic(auto, unfolding(crate::specs::Forms::layer))]
-fn coloured_layer(id: &[u8], parent: &[u8], place: &[u8], colour: &[u8]) -> Result<Change, Cause>
-    ensures value { result ≡ told_layer (id.now ∷ parent.now ∷ place.now ∷ colour.now ∷ []) }
-    ensures ranges { IfOk result (λ c. change_in_range c ≡ true) }
+#[tactic(auto, unfolding(crate::specs::Forms::command_of))]
+fn coloured_layer(id: &[u8], parent: &[u8], place: &[u8], colour: &[u8]) -> Result<Command, Cause>
+    ensures value { result ≡ told_command Word.Layer (id.now ∷ parent.now ∷ place.now ∷ colour.now ∷ []) }
+    ensures ranges { IfOk result (λ c. in_range c ≡ true) }
+    ensures sound { IfOk result (λ c. is_sound c ≡ true) }
 {
     let (id, parent, place) = spot(id, parent, place)?;
     let ground = rgba(colour)?;
-    Ok(Change::Layer {
+    Ok(Command::Change(Change::Layer {
         id,
         parent,
         place,
         ground,
-    })
+    }))
 }
 
 /// A paint layer, clear unless its default pixel is told.
-#[tactic(auto, unfolding(crate::specs::Forms::layer))]
-fn layer(fields: &[&[u8]]) -> Result<Change, Cause>
-    ensures value { result ≡ told_layer (pointed fields.now) }
-    ensures ranges { IfOk result (λ c. change_in_range c ≡ true) }
+#[tactic(auto, unfolding(crate::specs::Forms::command_of))]
+fn layer(fields: &[&[u8]]) -> Result<Command, Cause>
+    ensures value { result ≡ told_command Word.Layer (pointed fields.now) }
+    ensures ranges { IfOk result (λ c. in_range c ≡ true) }
+    ensures sound { IfOk result (λ c. is_sound c ≡ true) }
 {
     match fields {
         [id, parent, place] => clear_layer(id, parent, place),
@@ -110,52 +114,56 @@ fn layer(fields: &[&[u8]]) -> Result<Change, Cause>
     }
 }
 
-#[tactic(auto, unfolding(crate::specs::Forms::group))]
-fn group(fields: &[&[u8]]) -> Result<Change, Cause>
-    ensures value { result ≡ told_group (pointed fields.now) }
-    ensures ranges { IfOk result (λ c. change_in_range c ≡ true) }
+#[tactic(auto, unfolding(crate::specs::Forms::command_of))]
+fn group(fields: &[&[u8]]) -> Result<Command, Cause>
+    ensures value { result ≡ told_command Word.Group (pointed fields.now) }
+    ensures ranges { IfOk result (λ c. in_range c ≡ true) }
+    ensures sound { IfOk result (λ c. is_sound c ≡ true) }
 {
     match fields {
         [id, parent, place] => {
             let (id, parent, place) = spot(id, parent, place)?;
-            Ok(Change::Group { id, parent, place })
+            Ok(Command::Change(Change::Group { id, parent, place }))
         }
         _ => Err(Cause::FieldCount),
     }
 }
 
-#[tactic(auto, unfolding(crate::specs::Forms::remove))]
-fn remove(fields: &[&[u8]]) -> Result<Change, Cause>
-    ensures value { result ≡ told_remove (pointed fields.now) }
-    ensures ranges { IfOk result (λ c. change_in_range c ≡ true) }
+#[tactic(auto, unfolding(crate::specs::Forms::command_of))]
+fn remove(fields: &[&[u8]]) -> Result<Command, Cause>
+    ensures value { result ≡ told_command Word.Remove (pointed fields.now) }
+    ensures ranges { IfOk result (λ c. in_range c ≡ true) }
+    ensures sound { IfOk result (λ c. is_sound c ≡ true) }
 {
     match fields {
         [id] => {
             let id = natural(1, 65535, id)? as u16;
-            Ok(Change::Remove { id })
+            Ok(Command::Change(Change::Remove { id }))
         }
         _ => Err(Cause::FieldCount),
     }
 }
 
-#[tactic(auto, unfolding(crate::specs::Forms::place))]
-fn place(fields: &[&[u8]]) -> Result<Change, Cause>
-    ensures value { result ≡ told_place (pointed fields.now) }
-    ensures ranges { IfOk result (λ c. change_in_range c ≡ true) }
+#[tactic(auto, unfolding(crate::specs::Forms::command_of))]
+fn place(fields: &[&[u8]]) -> Result<Command, Cause>
+    ensures value { result ≡ told_command Word.Place (pointed fields.now) }
+    ensures ranges { IfOk result (λ c. in_range c ≡ true) }
+    ensures sound { IfOk result (λ c. is_sound c ≡ true) }
 {
     match fields {
         [id, parent, at] => {
             let (id, parent, place) = spot(id, parent, at)?;
-            Ok(Change::Place { id, parent, place })
+            Ok(Command::Change(Change::Place { id, parent, place }))
         }
         _ => Err(Cause::FieldCount),
     }
 }
 
-#[tactic(auto, unfolding(crate::specs::Forms::look))]
-fn look_of(id: &[u8], opacity: &[u8], operation: &[u8], seen: &[u8]) -> Result<Change, Cause>
-    ensures value { result ≡ told_look (id.now ∷ opacity.now ∷ operation.now ∷ seen.now ∷ []) }
-    ensures ranges { IfOk result (λ c. change_in_range c ≡ true) }
+#[tactic(auto, unfolding(crate::specs::Forms::command_of))]
+fn look_of(id: &[u8], opacity: &[u8], operation: &[u8], seen: &[u8]) -> Result<Command, Cause>
+    ensures value { result ≡ told_command Word.Look (id.now ∷ opacity.now ∷ operation.now ∷ seen.now ∷ []) }
+    ensures ranges { IfOk result (λ c. in_range c ≡ true) }
+    ensures sound { IfOk result (λ c. is_sound c ≡ true) }
 {
     let id = natural(1, 65535, id)? as u16;
     let opacity = natural(0, 255, opacity)? as u8;
@@ -166,13 +174,14 @@ fn look_of(id: &[u8], opacity: &[u8], operation: &[u8], seen: &[u8]) -> Result<C
         op,
         visible,
     };
-    Ok(Change::Look { id, look })
+    Ok(Command::Change(Change::Look { id, look }))
 }
 
-#[tactic(auto, unfolding(crate::specs::Forms::look))]
-fn look(fields: &[&[u8]]) -> Result<Change, Cause>
-    ensures value { result ≡ told_look (pointed fields.now) }
-    ensures ranges { IfOk result (λ c. change_in_range c ≡ true) }
+#[tactic(auto, unfolding(crate::specs::Forms::command_of))]
+fn look(fields: &[&[u8]]) -> Result<Command, Cause>
+    ensures value { result ≡ told_command Word.Look (pointed fields.now) }
+    ensures ranges { IfOk result (λ c. in_range c ≡ true) }
+    ensures sound { IfOk result (λ c. is_sound c ≡ true) }
 {
     match fields {
         [id, opacity, operation, seen] => look_of(id, opacity, operation, seen),
@@ -180,9 +189,9 @@ fn look(fields: &[&[u8]]) -> Result<Change, Cause>
     }
 }
 
-#[tactic(auto, unfolding(crate::specs::Forms::stroke))]
+#[tactic(auto, unfolding(crate::specs::Forms::command_of))]
 fn shared_stroke(number: &[u8], on: &[u8]) -> Result<Command, Cause>
-    ensures value { result ≡ told_stroke (number.now ∷ on.now ∷ []) }
+    ensures value { result ≡ told_command Word.Stroke (number.now ∷ on.now ∷ []) }
     ensures ranges { IfOk result (λ c. in_range c ≡ true) }
     ensures sound { IfOk result (λ c. is_sound c ≡ true) }
 {
@@ -196,9 +205,9 @@ fn shared_stroke(number: &[u8], on: &[u8]) -> Result<Command, Cause>
     })
 }
 
-#[tactic(auto, unfolding(crate::specs::Forms::stroke))]
+#[tactic(auto, unfolding(crate::specs::Forms::command_of))]
 fn exclusive_stroke(number: &[u8], on: &[u8], mark: &[u8]) -> Result<Command, Cause>
-    ensures value { result ≡ told_stroke (number.now ∷ on.now ∷ mark.now ∷ []) }
+    ensures value { result ≡ told_command Word.Stroke (number.now ∷ on.now ∷ mark.now ∷ []) }
     ensures ranges { IfOk result (λ c. in_range c ≡ true) }
     ensures sound { IfOk result (λ c. is_sound c ≡ true) }
 {
@@ -213,9 +222,9 @@ fn exclusive_stroke(number: &[u8], on: &[u8], mark: &[u8]) -> Result<Command, Ca
 }
 
 /// The start of a stroke, exclusive where a mark says so.
-#[tactic(auto, unfolding(crate::specs::Forms::stroke))]
+#[tactic(auto, unfolding(crate::specs::Forms::command_of))]
 fn stroke(fields: &[&[u8]]) -> Result<Command, Cause>
-    ensures value { result ≡ told_stroke (pointed fields.now) }
+    ensures value { result ≡ told_command Word.Stroke (pointed fields.now) }
     ensures ranges { IfOk result (λ c. in_range c ≡ true) }
     ensures sound { IfOk result (λ c. is_sound c ≡ true) }
 {
@@ -226,14 +235,48 @@ fn stroke(fields: &[&[u8]]) -> Result<Command, Cause>
     }
 }
 
-/// The one number of a line.
-#[tactic(auto, unfolding(crate::specs::Forms::one_number))]
-fn one_number(fields: &[&[u8]]) -> Result<u32, Cause>
-    ensures value { result ≡ told_number (pointed fields.now) }
-    ensures range { IfOk result (λ n. is_number n ≡ true) }
+/// The end of a stroke.
+#[tactic(auto, unfolding(crate::specs::Forms::command_of))]
+fn end(fields: &[&[u8]]) -> Result<Command, Cause>
+    ensures value { result ≡ told_command Word.End (pointed fields.now) }
+    ensures ranges { IfOk result (λ c. in_range c ≡ true) }
+    ensures sound { IfOk result (λ c. is_sound c ≡ true) }
 {
     match fields {
-        [number] => Ok(natural(0, 4294967295, number)? as u32),
+        [number] => {
+            let no = natural(0, 4294967295, number)? as u32;
+            Ok(Command::End { no })
+        }
+        _ => Err(Cause::FieldCount),
+    }
+}
+
+#[tactic(auto, unfolding(crate::specs::Forms::command_of))]
+fn cancel(fields: &[&[u8]]) -> Result<Command, Cause>
+    ensures value { result ≡ told_command Word.Cancel (pointed fields.now) }
+    ensures ranges { IfOk result (λ c. in_range c ≡ true) }
+    ensures sound { IfOk result (λ c. is_sound c ≡ true) }
+{
+    match fields {
+        [number] => {
+            let no = natural(0, 4294967295, number)? as u32;
+            Ok(Command::Cancel { no })
+        }
+        _ => Err(Cause::FieldCount),
+    }
+}
+
+#[tactic(auto, unfolding(crate::specs::Forms::command_of))]
+fn purge(fields: &[&[u8]]) -> Result<Command, Cause>
+    ensures value { result ≡ told_command Word.Purge (pointed fields.now) }
+    ensures ranges { IfOk result (λ c. in_range c ≡ true) }
+    ensures sound { IfOk result (λ c. is_sound c ≡ true) }
+{
+    match fields {
+        [number] => {
+            let keep = natural(0, 4294967295, number)? as u32;
+            Ok(Command::Purge { keep })
+        }
         _ => Err(Cause::FieldCount),
     }
 }
@@ -261,24 +304,18 @@ pub fn command_of(word: Word, fields: &[&[u8]]) -> Result<Command, Cause>
     ensures sound { IfOk result (λ c. is_sound c ≡ true) }
 {
     match word {
-        Word::Layer => Ok(Command::Change(layer(fields)?)),
-        Word::Group => Ok(Command::Change(group(fields)?)),
-        Word::Remove => Ok(Command::Change(remove(fields)?)),
-        Word::Place => Ok(Command::Change(place(fields)?)),
-        Word::Look => Ok(Command::Change(look(fields)?)),
+        Word::Layer => layer(fields),
+        Word::Group => group(fields),
+        Word::Remove => remove(fields),
+        Word::Place => place(fields),
+        Word::Look => look(fields),
         Word::Stroke => stroke(fields),
         Word::Paint(work) => paint(work, fields),
-        Word::End => Ok(Command::End {
-            no: one_number(fields)?,
-        }),
-        Word::Cancel => Ok(Command::Cancel {
-            no: one_number(fields)?,
-        }),
+        Word::End => end(fields),
+        Word::Cancel => cancel(fields),
         Word::Undo => alone(Command::Undo, fields),
         Word::Redo => alone(Command::Redo, fields),
-        Word::Purge => Ok(Command::Purge {
-            keep: one_number(fields)?,
-        }),
+        Word::Purge => purge(fields),
         Word::Export => alone(Command::Export, fields),
     }
 }

@@ -8,7 +8,7 @@ ghost use Rattle.script_lines.specs.Fronts.{pointed};
 ghost use Rattle.script_lines.specs.Colours.{is_pixel, is_byte};
 ghost use Rattle.doc_model.specs.Lawful.{within_limits};
 ghost use Rattle.script_forms.specs.Ranges.{job_in_range, in_range, is_sound, IsOutline, IsTip, in_world};
-ghost use Rattle.script_forms.specs.Jobs.{outline as told_outline, ink as told_ink, tip as told_tip, fill as told_fill, dab as told_dab, move_by as told_move, blur as told_blur, job_of as told_job, job_fields as fields_of_job, paint as told_paint, area_of, checked};
+ghost use Rattle.script_forms.specs.Jobs.{outline as told_outline, ink as told_ink, tip as told_tip, job_of as told_job, job_fields as fields_of_job, paint as told_paint, area_of, checked};
 
 use crate::words::{Work, edge_of, kind_of, op_of};
 use doc_model::{Command, Job};
@@ -226,7 +226,7 @@ fn blur_of(o: Outline, r: u8) -> Result<Job, Cause>
     Ok(Job::Blur { rect, r })
 }
 
-#[tactic(auto, unfolding(crate::specs::Jobs::fill))]
+#[tactic(auto, unfolding(crate::specs::Jobs::job_of))]
 fn fill_fields(
     left: &[u8],
     top: &[u8],
@@ -236,7 +236,7 @@ fn fill_fields(
     operation: &[u8],
     strength: &[u8],
 ) -> Result<Job, Cause>
-    ensures value { result ≡ told_fill (left.now ∷ top.now ∷ width.now ∷ height.now ∷ colour.now ∷ operation.now ∷ strength.now ∷ []) }
+    ensures value { result ≡ told_job Work.Fill (left.now ∷ top.now ∷ width.now ∷ height.now ∷ colour.now ∷ operation.now ∷ strength.now ∷ []) }
     ensures ranges { IfOk result (λ j. job_in_range j ≡ true) }
     ensures sound { IfOk result (λ j. (checks j && within_limits j) ≡ true) }
 {
@@ -245,9 +245,9 @@ fn fill_fields(
     fill_of(o, i)
 }
 
-#[tactic(auto, unfolding(crate::specs::Jobs::fill))]
+#[tactic(auto, unfolding(crate::specs::Jobs::job_of))]
 fn fill(fields: &[&[u8]]) -> Result<Job, Cause>
-    ensures value { result ≡ told_fill (pointed fields.now) }
+    ensures value { result ≡ told_job Work.Fill (pointed fields.now) }
     ensures ranges { IfOk result (λ j. job_in_range j ≡ true) }
     ensures sound { IfOk result (λ j. (checks j && within_limits j) ≡ true) }
 {
@@ -259,7 +259,7 @@ fn fill(fields: &[&[u8]]) -> Result<Job, Cause>
     }
 }
 
-#[tactic(auto, unfolding(crate::specs::Jobs::dab))]
+#[tactic(auto, unfolding(crate::specs::Jobs::job_of))]
 fn dab_fields(
     left: &[u8],
     top: &[u8],
@@ -269,7 +269,7 @@ fn dab_fields(
     operation: &[u8],
     strength: &[u8],
 ) -> Result<Job, Cause>
-    ensures value { result ≡ told_dab (left.now ∷ top.now ∷ radius.now ∷ edge.now ∷ colour.now ∷ operation.now ∷ strength.now ∷ []) }
+    ensures value { result ≡ told_job Work.Dab (left.now ∷ top.now ∷ radius.now ∷ edge.now ∷ colour.now ∷ operation.now ∷ strength.now ∷ []) }
     ensures ranges { IfOk result (λ j. job_in_range j ≡ true) }
     ensures sound { IfOk result (λ j. (checks j && within_limits j) ≡ true) }
 {
@@ -278,9 +278,9 @@ fn dab_fields(
     dab_of(t, i)
 }
 
-#[tactic(auto, unfolding(crate::specs::Jobs::dab))]
+#[tactic(auto, unfolding(crate::specs::Jobs::job_of))]
 fn dab(fields: &[&[u8]]) -> Result<Job, Cause>
-    ensures value { result ≡ told_dab (pointed fields.now) }
+    ensures value { result ≡ told_job Work.Dab (pointed fields.now) }
     ensures ranges { IfOk result (λ j. job_in_range j ≡ true) }
     ensures sound { IfOk result (λ j. (checks j && within_limits j) ≡ true) }
 {
@@ -292,7 +292,7 @@ fn dab(fields: &[&[u8]]) -> Result<Job, Cause>
     }
 }
 
-#[tactic(auto, unfolding(crate::specs::Jobs::move_by))]
+#[tactic(auto, unfolding(crate::specs::Jobs::job_of))]
 fn move_fields(
     left: &[u8],
     top: &[u8],
@@ -301,7 +301,7 @@ fn move_fields(
     columns: &[u8],
     rows: &[u8],
 ) -> Result<Job, Cause>
-    ensures value { result ≡ told_move (left.now ∷ top.now ∷ width.now ∷ height.now ∷ columns.now ∷ rows.now ∷ []) }
+    ensures value { result ≡ told_job Work.Move (left.now ∷ top.now ∷ width.now ∷ height.now ∷ columns.now ∷ rows.now ∷ []) }
     ensures ranges { IfOk result (λ j. job_in_range j ≡ true) }
     ensures sound { IfOk result (λ j. (checks j && within_limits j) ≡ true) }
 {
@@ -311,9 +311,9 @@ fn move_fields(
     move_of(o, dx, dy)
 }
 
-#[tactic(auto, unfolding(crate::specs::Jobs::move_by))]
+#[tactic(auto, unfolding(crate::specs::Jobs::job_of))]
 fn move_by(fields: &[&[u8]]) -> Result<Job, Cause>
-    ensures value { result ≡ told_move (pointed fields.now) }
+    ensures value { result ≡ told_job Work.Move (pointed fields.now) }
     ensures ranges { IfOk result (λ j. job_in_range j ≡ true) }
     ensures sound { IfOk result (λ j. (checks j && within_limits j) ≡ true) }
 {
@@ -325,7 +325,7 @@ fn move_by(fields: &[&[u8]]) -> Result<Job, Cause>
     }
 }
 
-#[tactic(auto, unfolding(crate::specs::Jobs::blur))]
+#[tactic(auto, unfolding(crate::specs::Jobs::job_of))]
 fn blur_fields(
     left: &[u8],
     top: &[u8],
@@ -333,7 +333,7 @@ fn blur_fields(
     height: &[u8],
     radius: &[u8],
 ) -> Result<Job, Cause>
-    ensures value { result ≡ told_blur (left.now ∷ top.now ∷ width.now ∷ height.now ∷ radius.now ∷ []) }
+    ensures value { result ≡ told_job Work.Blur (left.now ∷ top.now ∷ width.now ∷ height.now ∷ radius.now ∷ []) }
     ensures ranges { IfOk result (λ j. job_in_range j ≡ true) }
     ensures sound { IfOk result (λ j. (checks j && within_limits j) ≡ true) }
 {
@@ -342,9 +342,9 @@ fn blur_fields(
     blur_of(o, r)
 }
 
-#[tactic(auto, unfolding(crate::specs::Jobs::blur))]
+#[tactic(auto, unfolding(crate::specs::Jobs::job_of))]
 fn blur(fields: &[&[u8]]) -> Result<Job, Cause>
-    ensures value { result ≡ told_blur (pointed fields.now) }
+    ensures value { result ≡ told_job Work.Blur (pointed fields.now) }
     ensures ranges { IfOk result (λ j. job_in_range j ≡ true) }
     ensures sound { IfOk result (λ j. (checks j && within_limits j) ≡ true) }
 {

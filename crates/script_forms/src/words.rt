@@ -42,7 +42,7 @@ pub fn is(field: &[u8], word: &[u8]) -> bool
     field == word
 }
 
-#[tactic(auto, unfolding(crate::specs::Words::word_of, crate::specs::Words::work_of))]
+#[tactic(auto, unfolding(crate::specs::Words::word_of))]
 pub fn word_of(field: &[u8]) -> Option<Word>
     ensures { result ≡ said_word field.now }
 {

@@ -1,6 +1,6 @@
 -- Fields at the front of a text: digits, colours, and the lines that they begin.
 use Rattle.std.proofs.Common.{◌≡◌, ◌∙◌, ℕ, suc, ◌+◌, ◌*◌, ◌<◌, ◌≤◌, nat_le, Bool, true, false, not, ◌&&◌, List, [], ◌∷◌, ◌++◌, map, filter, length, Result, Ok, Err, refl, subst, ap, sym, arith}
-use Rattle.std.specs.Prelude.{ℤ, pos, ◌==◌, int_le, ◌≤ℤ◌}
+use Rattle.std.specs.Prelude.{ℤ, pos, nat_abs, ◌==◌, int_le, ◌≤ℤ◌}
 use borrow.Author.Differences.{ints}
 use Rattle.std.specs.Char.{is_ascii_digit, digit_value}
 use Rattle.std.specs.List.{list_all, slice_split, onto_first}
@@ -11,13 +11,13 @@ use Rattle.std.proofs.lemmas.Int.Digits.{digits_value_is}
 use Rattle.std.proofs.lemmas.Bool.{eqb-true}
 use Rattle.std.proofs.lemmas.Bool.Decides.{nat_tests}
 use Rattle.std.proofs.lemmas.Grind.{common_steps}
-use Rattle.script_lines.specs.Lines.{is_blank, is_some_field, fields, lines}
+use Rattle.script_lines.specs.Lines.{is_blank, fields, lines}
 use Rattle.script_lines.specs.declared.cause.Cause.{Cause}
 use Rattle.script_lines.specs.declared.cause.Cause.TheVariants.{Number}
 use Rattle.pixel_core.specs.Rgba.{Rgba}
 use Rattle.script_lines.specs.Colours.{pixel_by}
 use Rattle.script_lines.specs.Values.{hex_digit, hex_byte, rgba, ◌>>=◌, is_magnitude, magnitude, number, number_in, natural}
-use Rattle.script_lines.specs.Fronts.{Begins, is_plain, is_field, with_field}
+use Rattle.script_lines.specs.Fronts.{is_some_field, Begins, is_plain, is_field, with_field}
 use Rattle.script_lines.proofs.SpelledPixels.{drop_is}
 
 pub first : (a b : Bool) → (a && b) ≡ true → a ≡ true
@@ -100,13 +100,13 @@ digits_first mark n text behind d ds h few e v =
 
 -- a number in its range
 
-pub in_natural : (low high n : ℕ) (field : List ℕ) → number field ≡ Ok (pos n) → nat_le low n ≡ true → nat_le n high ≡ true → natural low high field ≡ Ok n
-unfolding natural
-in_natural low high n field e a b = rw (e, a, b) refl
-
 pub in_number : (low high z : ℤ) (field : List ℕ) → number field ≡ Ok z → int_le low z ≡ true → int_le z high ≡ true → number_in low high field ≡ Ok z
 unfolding number_in
 in_number low high z field e a b = rw (e, a, b) refl
+
+pub in_natural : (low high n : ℕ) (field : List ℕ) → number field ≡ Ok (pos n) → nat_le low n ≡ true → nat_le n high ≡ true → natural low high field ≡ Ok n
+unfolding natural
+in_natural low high n field e a b = ap (λ r. r >>= λ z. Ok (nat_abs z)) (in_number (pos low) (pos high) (pos n) field e a b)
 
 pub natural_first : (low high mark n : ℕ) (text behind : List ℕ) → Begins number mark text (pos n) behind → low ≤ n → n ≤ high → Begins (natural low high) mark text n behind
 natural_first low high mark n text behind is a b =

@@ -2,7 +2,8 @@
 use Rattle.std.proofs.Common.{◌≡◌, ◌∙◌, ℕ, ◌+◌, ◌-◌, ◌<◌, ◌≤◌, Bool, true, false, cond, List, [], ◌∷◌, ◌++◌, length, map, get_or, take, drop, ap, sym, refl, ◌||◌, append_assoc, eq-or-lt_of_le, inl, inr, arith}
 use Rattle.std.specs.Prelude.{◌==◌}
 use Rattle.std.specs.List.{All, slice_split, onto_first, count_by, position_or_len, filter}
-use Rattle.script_lines.specs.Lines.{is_blank, is_some_field, fields, lines}
+use Rattle.script_lines.specs.Fronts.{is_some_field}
+use Rattle.script_lines.specs.Lines.{is_blank, fields, lines}
 use Rattle.std.proofs.lemmas.List.{get_or-drop, length-drop, length-take-le, get_or-take, take_more, map-append}
 use Rattle.std.proofs.Math.Seq.{take-add}
 use Rattle.std.proofs.lemmas.List.Sums.{position_or_len_is}

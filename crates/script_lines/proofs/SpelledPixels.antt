@@ -1,10 +1,11 @@
 -- The digits of a colour, each by a table, and taken one by one.
-use Rattle.std.proofs.Common.{◌≡◌, ◌==◌, ◌∙◌, ℕ, zero, suc, ◌+◌, ◌-◌, ◌<◌, ◌≤◌, Bool, true, false, if◌then◌else◌, refl, subst, eq-or-lt_of_le, inl, inr, List, [], ◌∷◌, length, get_or, drop, ap, sym, arith}
+use Rattle.std.proofs.Common.{Ok, Err, ◌≡◌, ◌==◌, ◌∙◌, ℕ, zero, suc, ◌+◌, ◌-◌, ◌<◌, ◌≤◌, Bool, true, false, if◌then◌else◌, refl, subst, eq-or-lt_of_le, inl, inr, List, [], ◌∷◌, length, get_or, drop, ap, sym, arith}
 use Rattle.std.proofs.lemmas.Bool.{eqb-true}
 use Rattle.std.proofs.Math.Seq.{drop-cons}
 use Rattle.std.proofs.Math.ListN.{drop_of_length-le}
 use Rattle.script_lines.specs.Colours.{digit_or_more, pixel_by}
-use Rattle.script_lines.specs.Values.{hex_byte, rgba}
+use Rattle.script_lines.specs.declared.cause.Cause.TheVariants.{Number}
+use Rattle.script_lines.specs.Values.{hex_byte, rgb, rgba}
 use Rattle.script_lines.specs.declared.colours.TheConstants.{WORTHS}
 
 -- whether the table has the values of the first n characters from 0 on
@@ -40,3 +41,21 @@ drop_is xs i (suc n) h = drop-cons xs i 0 (omega (arith, h)) ∙ ap (λ l. get_o
 pub eight : (xs : List ℕ) → length xs ≡ 8 → pixel_by (hex_byte (get_or xs 0 0) (get_or xs 1 0)) (hex_byte (get_or xs 2 0) (get_or xs 3 0)) (hex_byte (get_or xs 4 0) (get_or xs 5 0)) (hex_byte (get_or xs 6 0) (get_or xs 7 0)) ≡ rgba xs
 unfolding rgba
 eight xs h = sym (ap rgba (drop_is xs 0 8 (omega (arith, h))))
+
+-- six digits, and those of an opaque alpha
+pub six : (xs : List ℕ) → length xs ≡ 6 → pixel_by (hex_byte (get_or xs 0 0) (get_or xs 1 0)) (hex_byte (get_or xs 2 0) (get_or xs 3 0)) (hex_byte (get_or xs 4 0) (get_or xs 5 0)) (Ok 255) ≡ rgb xs
+unfolding hex_byte rgba rgb
+six xs h = sym (ap rgb (drop_is xs 0 6 (omega (arith, h))))
+
+pub not_six : (xs : List ℕ) → (length xs == 6) ≡ false → rgb xs ≡ Err Number
+unfolding rgba rgb
+not_six [] h = refl
+not_six (a ∷ []) h = refl
+not_six (a ∷ b ∷ []) h = refl
+not_six (a ∷ b ∷ c ∷ []) h = refl
+not_six (a ∷ b ∷ c ∷ d ∷ []) h = refl
+not_six (a ∷ b ∷ c ∷ d ∷ e ∷ []) h = refl
+not_six (a ∷ b ∷ c ∷ d ∷ e ∷ f ∷ []) h = absurd (cc h)
+not_six (a ∷ b ∷ c ∷ d ∷ e ∷ f ∷ g ∷ []) h = refl
+not_six (a ∷ b ∷ c ∷ d ∷ e ∷ f ∷ g ∷ i ∷ []) h = refl
+not_six (a ∷ b ∷ c ∷ d ∷ e ∷ f ∷ g ∷ i ∷ j ∷ xs) h = refl

@@ -1,13 +1,17 @@
 -- Fields one by one: a field at the front of a text, and the byte that ends it.
-use Rattle.std.specs.Prelude.{ℕ, Bool, ◌≡◌, true, List, not, ◌==◌, ◌∷◌, ◌++◌, Result, ◌&&◌, Ok, [], map, Option, None, Some}
+use Rattle.std.specs.Prelude.{ℕ, Bool, ◌≡◌, true, List, length, not, ◌==◌, ◌∷◌, ◌++◌, Result, ◌&&◌, Ok, [], map, Option, None, Some}
 use Rattle.script_lines.specs.declared.cause.Cause.{Cause}
-use Rattle.script_lines.specs.Lines.{is_blank, is_some_field, lines}
+use Rattle.script_lines.specs.Lines.{is_blank, lines}
 use Rattle.std.specs.List.{list_all}
 use Rattle.std.specs.Borrow.{Bor}
 
 -- what a list of references points to
 abbrev pub pointed : List (Bor (List ℕ)) → List (List ℕ)
 pointed refs = map (λ r. r.now) refs
+
+-- whether a piece between blanks is a field
+abbrev pub is_some_field : List ℕ → Bool
+is_some_field bytes = not (length bytes == 0)
 
 -- neither a blank nor a line feed
 abbrev pub is_plain : ℕ → Bool

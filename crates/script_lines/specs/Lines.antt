@@ -1,28 +1,19 @@
 -- The lines of a script and their fields.
-use Rattle.std.specs.Prelude.{ℕ, Bool, false, not, ◌==◌, ◌||◌, List, [], ◌∷◌, length, map, filter}
+use Rattle.std.specs.Prelude.{ℕ, Bool, false, not, ◌==◌, ◌||◌, List, ◌∷◌, length, map, filter}
 use Rattle.std.specs.List.{slice_split}
 
 -- space, tab, carriage return
 abbrev pub is_blank : ℕ → Bool
 is_blank b = (b == 32) || (b == 9) || (b == 13)
 
--- whether a piece between blanks is a field
-abbrev pub is_some_field : List ℕ → Bool
-is_some_field bytes = not (length bytes == 0)
-
 -- the longest rows of bytes without blanks
 abbrev pub fields : List ℕ → List (List ℕ)
-fields line = filter is_some_field (slice_split is_blank line)
-
--- whether the field doesn't begin a comment
-abbrev pub begins_command : List ℕ → Bool
-begins_command [] = false
-begins_command (b ∷ bytes) = not (b == 35)
+fields line = filter (λ piece. not (length piece == 0)) (slice_split is_blank line)
 
 -- whether the line is a command: neither blank nor a comment
 abbrev pub is_command : List (List ℕ) → Bool
-is_command [] = false
-is_command (first ∷ others) = begins_command first
+is_command ((b ∷ bytes) ∷ others) = not (b == 35)
+is_command fields = false
 
 -- the lines between line feeds, each as its fields
 abbrev pub lines : List ℕ → List (List (List ℕ))

@@ -1,5 +1,5 @@
 -- What fields spell, numbers and colours, or the causes for which they spell none.
-use Rattle.std.specs.Prelude.{ℕ, Bool, List, ◌+◌, codes, ◌&&◌, ◌*◌, Result, nat_le, nat_lt, Ok, ◌==◌, Err, [], ◌∷◌, length, ℤ, pos, negsuc, neg_ℤ, int_le, if◌then◌else◌}
+use Rattle.std.specs.Prelude.{ℕ, Bool, List, ◌+◌, codes, ◌&&◌, ◌*◌, Result, nat_le, nat_lt, Ok, ◌==◌, Err, [], ◌∷◌, ◌++◌, length, ℤ, pos, neg_ℤ, nat_abs, int_le, if◌then◌else◌}
 use Rattle.script_lines.specs.declared.cause.Cause.{Cause}
 use Rattle.script_lines.specs.declared.cause.Cause.TheVariants.{UnknownWord, FieldCount, Number, Range, OutOfWorld, UnknownStroke, ClosedStroke, UsedAgain, CanvasMissing, CanvasAgain, TooManyJobs, TooManyExports, StrokeLeft}
 use Rattle.std.specs.Char.{digit_value, is_ascii_digit}
@@ -40,30 +40,15 @@ magnitude bytes = if is_magnitude bytes then Ok (digits_value 10 bytes) else Err
 -- the number that digits spell, a minus sign before them where it is below 0
 unfoldable pub number : List ℕ → Result ℤ Cause
 number [] = Err Number
-number (b ∷ bytes) = if b == 45 then (do
-  n ← magnitude bytes
-  Ok (neg_ℤ (pos n)))
-    else (do
-      n ← magnitude (b ∷ bytes)
-      Ok (pos n))
+number (b ∷ bytes) = if b == 45 then (magnitude bytes >>= λ n. Ok (neg_ℤ (pos n))) else (magnitude (b ∷ bytes) >>= λ n. Ok (pos n))
 
 -- a number of a range
 unfoldable pub number_in : ℤ → ℤ → List ℕ → Result ℤ Cause
-number_in low high bytes = do
-  n ← number bytes
-  if int_le low n && int_le n high then Ok n else Err Range
-
--- the number, where it isn't below 0
-abbrev pub nonnegative : ℤ → Result ℕ Cause
-nonnegative (pos n) = Ok n
-nonnegative (negsuc n) = Err Range
+number_in low high bytes = number bytes >>= λ n. if int_le low n && int_le n high then Ok n else Err Range
 
 -- a number of a range from 0 on
 unfoldable pub natural : ℕ → ℕ → List ℕ → Result ℕ Cause
-natural low high bytes = do
-  z ← number bytes
-  n ← nonnegative z
-  if nat_le low n && nat_le n high then Ok n else Err Range
+natural low high bytes = number_in (pos low) (pos high) bytes >>= λ n. Ok (nat_abs n)
 
 -- the value of a hexadecimal digit, of either case
 abbrev pub hex_digit : ℕ → Result ℕ Cause
@@ -71,19 +56,7 @@ hex_digit b = if nat_lt (digit_value b) 16 then Ok (digit_value b) else Err Numb
 
 -- the byte that two hexadecimal digits spell
 unfoldable pub hex_byte : ℕ → ℕ → Result ℕ Cause
-hex_byte high low = do
-  x ← hex_digit high
-  y ← hex_digit low
-  Ok (16 * x + y)
-
--- six hexadecimal digits: an opaque pixel
-unfoldable pub rgb : List ℕ → Result Rgba Cause
-rgb (a ∷ b ∷ c ∷ d ∷ e ∷ f ∷ []) = do
-  red ← hex_byte a b
-  green ← hex_byte c d
-  blue ← hex_byte e f
-  Ok (if_canonical red green blue 255)
-rgb _ = Err Number
+hex_byte high low = hex_digit high >>= λ x. hex_digit low >>= λ y. Ok (16 * x + y)
 
 -- eight hexadecimal digits: a pixel, clear where the alpha is 0
 unfoldable pub rgba : List ℕ → Result Rgba Cause
@@ -94,3 +67,7 @@ rgba (a ∷ b ∷ c ∷ d ∷ e ∷ f ∷ g ∷ h ∷ []) = do
   alpha ← hex_byte g h
   Ok (if_canonical red green blue alpha)
 rgba _ = Err Number
+
+-- six hexadecimal digits: an opaque pixel
+unfoldable pub rgb : List ℕ → Result Rgba Cause
+rgb bytes = rgba (bytes ++ codes "ff")

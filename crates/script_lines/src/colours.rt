@@ -52,7 +52,7 @@ fn pixel_of(red: u32, green: u32, blue: u32, alpha: u32) -> Result<Pixel, Cause>
 }
 
 /// Six hexadecimal digits: an opaque pixel.
-#[tactic(auto, unfolding(crate::specs::Values::rgb))]
+#[tactic(auto, unfolding(crate::specs::Values::rgb, crate::specs::Values::rgba))]
 pub fn rgb(field: &[u8]) -> Result<Pixel, Cause>
     ensures value { result ≡ rgb_of field.now }
     ensures pixel { IfOk result (λ p. is_pixel p ≡ true) }

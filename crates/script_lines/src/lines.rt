@@ -2,8 +2,8 @@
 
 ghost use Rattle.std.specs.Prelude.{◌≡◌, ◌==◌, ◌||◌, ◌∷◌, [], ◌++◌, IfOk, OnOk};
 ghost use Rattle.std.specs.List.{filter};
-ghost use Rattle.script_lines.specs.Lines.{lines, is_some_field, is_command as starts, is_blank as blank};
-ghost use Rattle.script_lines.specs.Fronts.{pointed, lines_behind};
+ghost use Rattle.script_lines.specs.Lines.{lines, is_command as starts, is_blank as blank};
+ghost use Rattle.script_lines.specs.Fronts.{pointed, is_some_field, lines_behind};
 
 use std::alloc::AllocError;
 

@@ -51,19 +51,15 @@ pub fn number_in(low: i32, high: i32, field: &[u8]) -> Result<i32, Cause>
 }
 
 /// A number from `low` to `high`, neither of them below 0.
-#[tactic(auto, unfolding(crate::specs::Values::natural))]
-pub fn natural(low: u64, high: u64, field: &[u8]) -> Result<u64, Cause>
+#[tactic(auto, unfolding(crate::specs::Values::natural, crate::specs::Values::number_in))]
+pub fn natural(low: u32, high: u32, field: &[u8]) -> Result<u64, Cause>
     ensures value { result ≡ natural_of low high field.now }
     ensures above { IfOk result (λ n. low ≤ n) }
     ensures below { IfOk result (λ n. n ≤ high) }
 {
     let n = number(field)?;
-    if n < 0 {
-        return Err(Cause::Range);
-    }
-    let n = n as u64;
-    if low <= n && n <= high {
-        Ok(n)
+    if low as i64 <= n && n <= high as i64 {
+        Ok(n as u64)
     } else {
         Err(Cause::Range)
     }

@@ -9,7 +9,8 @@ use Rattle.doc_model.specs.Strokes.{Entry, fed, all_fed, entries, is_stroke, is_
 use Rattle.doc_model.specs.Lawful.{may_follow, lawful_after, lawful}
 use Rattle.script_lines.specs.declared.cause.Cause.{Cause}
 use Rattle.script_lines.specs.declared.cause.Cause.TheVariants.{UsedAgain, UnknownStroke, ClosedStroke, TooManyJobs, TooManyExports}
-use Rattle.script_text.specs.Reading.{misfit, not_open, or_else}
+use Rattle.script_text.specs.Reading.{misfit, not_open}
+use Rattle.std.specs.Option.{option_or}
 use Rattle.script_text.specs.Script.{contents}
 use Rattle.script_text.specs.Closed.{is_script, all_closed}
 use Rattle.script_forms.specs.Ranges.{in_range, is_sound, in_limits}
@@ -18,16 +19,16 @@ free : (a : Bool) → (if a then Some UsedAgain else None) ≡ None → not a �
 free true h = absurd (cc (h))
 free false h = refl
 
-live : (a b : Bool) → (if not a then Some UnknownStroke else (if not b then Some ClosedStroke else None)) ≡ None → b ≡ true
-live true true h = refl
+live : (a b : Bool) → (if b then None else if a then Some ClosedStroke else Some UnknownStroke) ≡ None → b ≡ true
+live a true h = refl
 live true false h = absurd (cc (h))
-live false b h = absurd (cc (h))
+live false false h = absurd (cc (h))
 
-first_none : (o p : Option Cause) → or_else o p ≡ None → o ≡ None
+first_none : (o p : Option Cause) → option_or o p ≡ None → o ≡ None
 first_none None p h = refl
 first_none (Some c) p h = absurd (cc (h))
 
-second_none : (o p : Option Cause) → or_else o p ≡ None → p ≡ None
+second_none : (o p : Option Cause) → option_or o p ≡ None → p ≡ None
 second_none None p h = h
 second_none (Some c) p h = absurd (cc (h))
 

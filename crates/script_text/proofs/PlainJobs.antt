@@ -9,12 +9,14 @@ use Rattle.doc_model.specs.Strokes.{entries}
 use Rattle.script_lines.specs.Lines.{is_command}
 use Rattle.script_forms.specs.declared.words.Work.{Work}
 use Rattle.script_forms.specs.declared.words.Word.TheVariants.{Paint}
-use Rattle.script_forms.specs.Words.{work_text, word_of, canvas_text}
+use Rattle.script_forms.specs.Words.{word_of, canvas_text}
+use Rattle.script_forms.specs.Texts.{work_text}
 use Rattle.script_forms.specs.Jobs.{Fields, paint}
 use Rattle.script_forms.specs.Forms.{command_of}
 use Rattle.script_forms.specs.Plain.{IsJobLine}
 use Rattle.script_text.specs.declared.reading.Reading.{Reading}
-use Rattle.script_text.specs.Reading.{canvas_in, command_in, first_canvas, start_by, cause_by, misfit}
+use Rattle.script_text.specs.Reading.{canvas_in, command_in, start_by, cause_by, misfit}
+use Rattle.std.specs.Option.{option_or}
 use Rattle.script_text.specs.Read.{Takes, TakesCommand}
 use Rattle.script_text.proofs.PrintedWords.{words}
 
@@ -33,7 +35,7 @@ unfolding cause_by command_of
 says_job work others c told =
     let w = words (Paint work) in
     record {
-      is_command = w.begins;
+      is_command = w.begins others;
       canvas = rw w.no_canvas refl;
       command = rw (w.no_canvas, w.back, told) refl;
       cause = go w.no_canvas w.back;
@@ -48,11 +50,11 @@ job_said text behind c is = says_job is.work is.others c is.told
 
 pub takes_job : (r new : Reading) (n : ℕ) (f : Fields) (c : Command) → SaysJob f c → TakesCommand r new n (Some c) → Takes r new n f
 takes_job r new n f c says t = record {
-  canvas = t.canvas ∙ (go r.canvas ∙ ap (first_canvas r.canvas) (sym says.canvas));
+  canvas = t.canvas ∙ (go r.canvas ∙ ap (option_or r.canvas) (sym says.canvas));
   draft = t.draft ∙ ap (λ o. r.draft ++ option_to_list o) (sym says.command);
   starts = t.starts ∙ ap (λ o. r.starts.items ++ option_to_list (start_by n o)) (sym says.command);
 }
   where
-    go : (o : Option Canvas) → o ≡ first_canvas o None
+    go : (o : Option Canvas) → o ≡ option_or o None
     go None = refl
     go (Some k) = refl

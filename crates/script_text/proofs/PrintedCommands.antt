@@ -11,10 +11,11 @@ use Rattle.doc_model.specs.declared.tree.Change.{Change}
 use Rattle.doc_model.specs.declared.tree.Change.TheVariants as change
 use Rattle.doc_model.specs.declared.command.Command.{Command}
 use Rattle.doc_model.specs.declared.command.Command.TheVariants as command
+use Rattle.script_lines.specs.Values.{natural}
 use Rattle.script_lines.specs.Colours.{is_byte, is_pixel}
 use Rattle.script_forms.specs.declared.words.Word.TheVariants as word
-use Rattle.script_forms.specs.Words.{op_text, seen_text}
-use Rattle.script_forms.specs.Forms.{command_of, canvas, sides, spot, layer, group, remove, place, look, stroke, one_number}
+use Rattle.script_forms.specs.Texts.{op_text, seen_text}
+use Rattle.script_forms.specs.Forms.{command_of, canvas, sides, spot}
 use Rattle.script_forms.specs.Ranges.{is_id, is_spot, is_number, change_in_range, in_range, is_sound, in_limits}
 use Rattle.script_text.specs.Text.{rgba_text, spot_fields, ground_fields, mark_fields, canvas_fields}
 use Rattle.script_text.proofs.PrintedFields.{rgba_back, rgb_back}
@@ -62,33 +63,32 @@ clear_is p h =
     let a : 0 ≡ p.a = grind (arith, nat_tests) in
     λ i. pixel (r i) (g i) (b i) (a i)
 
-layer_by : (b : Bool) (id parent at : ℕ) (p : Rgba) → same_pixel p clear ≡ b → is_spot id parent at ≡ true → is_pixel p ≡ true → layer (spot_fields id parent at ++ (if b then [] else rgba_text p ∷ [])) ≡ Ok (change.Layer id parent at p)
-unfolding layer
-layer_by true id parent at p e h k = rw (spot_back id parent at h) (ap (λ q. Ok (change.Layer id parent at q)) (clear_is p e))
+layer_by : (b : Bool) (id parent at : ℕ) (p : Rgba) → same_pixel p clear ≡ b → is_spot id parent at ≡ true → is_pixel p ≡ true → command_of word.Layer (spot_fields id parent at ++ (if b then [] else rgba_text p ∷ [])) ≡ Ok (command.Change (change.Layer id parent at p))
+unfolding command_of
+layer_by true id parent at p e h k = rw (spot_back id parent at h) (ap (λ q. Ok (command.Change (change.Layer id parent at q))) (clear_is p e))
 layer_by false id parent at p e h k = rw (spot_back id parent at h, rgba_back p k) refl
 
 default_plain : (b : Bool) (p : Rgba) → list_all is_field (if b then [] else rgba_text p ∷ []) ≡ true
 default_plain true p = refl
 default_plain false p = both _ _ (rgba_field p) refl
 
-group_back : (id parent at : ℕ) → is_spot id parent at ≡ true → group (spot_fields id parent at) ≡ Ok (change.Group id parent at)
-unfolding group
+group_back : (id parent at : ℕ) → is_spot id parent at ≡ true → command_of word.Group (spot_fields id parent at) ≡ Ok (command.Change (change.Group id parent at))
+unfolding command_of
 group_back id parent at h = rw (spot_back id parent at h) refl
 
-place_back : (id parent at : ℕ) → is_spot id parent at ≡ true → place (spot_fields id parent at) ≡ Ok (change.Place id parent at)
-unfolding place
+place_back : (id parent at : ℕ) → is_spot id parent at ≡ true → command_of word.Place (spot_fields id parent at) ≡ Ok (command.Change (change.Place id parent at))
+unfolding command_of
 place_back id parent at h = rw (spot_back id parent at h) refl
 
-remove_back : (id : ℕ) → is_id id ≡ true → remove (decimal id ∷ []) ≡ Ok (change.Remove id)
-unfolding remove
+remove_back : (id : ℕ) → is_id id ≡ true → command_of word.Remove (decimal id ∷ []) ≡ Ok (command.Change (change.Remove id))
+unfolding command_of
 remove_back id h = rw (from_one_back 65535 id (omega arith) h) refl
 
-look_back : (id : ℕ) (l : Look) → is_id id ≡ true → is_byte l.opacity ≡ true → look (decimal id ∷ decimal l.opacity ∷ op_text l.op ∷ seen_text l.visible ∷ []) ≡ Ok (change.Look id l)
-unfolding look
+look_back : (id : ℕ) (l : Look) → is_id id ≡ true → is_byte l.opacity ≡ true → command_of word.Look (decimal id ∷ decimal l.opacity ∷ op_text l.op ∷ seen_text l.visible ∷ []) ≡ Ok (command.Change (change.Look id l))
+unfolding command_of
 look_back id l h k = rw (from_one_back 65535 id (omega arith) h, upto_back 255 l.opacity (omega arith) k, op_back l.op, seen_back l.visible) refl
 
 told_change : (c : Change) → change_in_range c ≡ true → Told (command.Change c)
-unfolding command_of
 told_change (change.Layer id parent at p) h =
     let s = first (is_spot id parent at) (is_pixel p) h in
     record {
@@ -96,28 +96,28 @@ told_change (change.Layer id parent at p) h =
       fields = spot_fields id parent at ++ ground_fields p;
       text = refl;
       plain = spot_plain id parent at (ground_fields p) s (default_plain (same_pixel p clear) p);
-      reads = rw (layer_by (same_pixel p clear) id parent at p refl s (second (is_spot id parent at) (is_pixel p) h)) refl;
+      reads = layer_by (same_pixel p clear) id parent at p refl s (second (is_spot id parent at) (is_pixel p) h);
     }
 told_change (change.Group id parent at) h = record {
   word = word.Group;
   fields = spot_fields id parent at;
   text = refl;
   plain = spot_plain id parent at [] h refl;
-  reads = rw (group_back id parent at h) refl;
+  reads = group_back id parent at h;
 }
 told_change (change.Remove id) h = record {
   word = word.Remove;
   fields = decimal id ∷ [];
   text = refl;
   plain = both _ _ (id_field id h) refl;
-  reads = rw (remove_back id h) refl;
+  reads = remove_back id h;
 }
 told_change (change.Place id parent at) h = record {
   word = word.Place;
   fields = spot_fields id parent at;
   text = refl;
   plain = spot_plain id parent at [] h refl;
-  reads = rw (place_back id parent at h) refl;
+  reads = place_back id parent at h;
 }
 told_change (change.Look id l) h =
     let i = first (is_id id) (is_byte l.opacity) h in
@@ -127,11 +127,11 @@ told_change (change.Look id l) h =
       fields = decimal id ∷ decimal l.opacity ∷ op_text l.op ∷ seen_text l.visible ∷ [];
       text = refl;
       plain = both _ _ (id_field id i) (both _ _ (natural_field 255 l.opacity (omega arith) o) (both _ _ (op_field l.op) (both _ _ (seen_field l.visible) refl)));
-      reads = rw (look_back id l i o) refl;
+      reads = look_back id l i o;
     }
 
-stroke_back : (n on : ℕ) (exclusive : Bool) → is_number n ≡ true → is_id on ≡ true → stroke (decimal n ∷ decimal on ∷ mark_fields exclusive) ≡ Ok (command.Stroke n on exclusive)
-unfolding stroke
+stroke_back : (n on : ℕ) (exclusive : Bool) → is_number n ≡ true → is_id on ≡ true → command_of word.Stroke (decimal n ∷ decimal on ∷ mark_fields exclusive) ≡ Ok (command.Stroke n on exclusive)
+unfolding command_of
 stroke_back n on false h k = rw (upto_back 4294967295 n (omega arith) h, from_one_back 65535 on (omega arith) k) refl
 stroke_back n on true h k = rw (upto_back 4294967295 n (omega arith) h, from_one_back 65535 on (omega arith) k, mark_back) refl
 
@@ -142,8 +142,7 @@ mark_plain true = refl
 number_field : (n : ℕ) → is_number n ≡ true → is_field (decimal n) ≡ true
 number_field n h = natural_field 4294967295 n (omega arith) h
 
-one_back : (n : ℕ) → is_number n ≡ true → one_number (decimal n ∷ []) ≡ Ok n
-unfolding one_number
+one_back : (n : ℕ) → is_number n ≡ true → natural 0 4294967295 (decimal n) ≡ Ok n
 one_back n h = upto_back 4294967295 n (omega arith) h
 
 -- a command in its ranges

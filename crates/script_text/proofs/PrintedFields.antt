@@ -101,7 +101,7 @@ rgba_back p h =
 
 -- an opaque pixel
 pub rgb_back : (p : Rgba) → is_pixel p ≡ true → p.a ≡ 255 → rgb (rgb_text p) ≡ Ok p
-unfolding rgb
+unfolding rgb rgba hex_byte
 rgb_back p h e =
     let bytes = bytes_in p h in
     rw (byte_back p.r bytes.r, byte_back p.g bytes.g, byte_back p.b bytes.b) (ap (λ a. Ok (pixel p.r p.g p.b a)) (sym e))

@@ -22,8 +22,8 @@ use Rattle.script_forms.specs.declared.words.Work.TheVariants.{Fill, Dab, Move, 
 use Rattle.script_forms.specs.declared.words.Word.{Word}
 use Rattle.script_forms.specs.declared.words.Word.TheVariants.{Paint}
 use Rattle.script_forms.specs.declared.jobs.Outline.{Outline}
-use Rattle.script_forms.specs.Jobs.{outline, ink, tip, checked, fill, dab, move_by, blur, job_of, job_fields, paint}
-use Rattle.script_forms.specs.Words.{word_text, kind_text, op_text, edge_text}
+use Rattle.script_forms.specs.Jobs.{outline, ink, tip, checked, job_of, job_fields, paint}
+use Rattle.script_forms.specs.Texts.{word_text, kind_text, op_text, edge_text}
 use Rattle.script_forms.specs.Forms.{command_of}
 use Rattle.script_forms.specs.Ranges.{job_in_range, is_number}
 use Rattle.script_text.specs.Text.{area_fields, ink_fields, job_text_fields, rgba_text, command_text, line}
@@ -109,24 +109,24 @@ ink_plain p op m h = both _ _ (rgba_field p) (both _ _ (op_field op) (both _ _ (
 checked_back : (j : Job) → checks j ≡ true → checked j ≡ Ok j
 checked_back j h = rw h refl
 
-fill_back : (a : Area) (p : Rgba) (op : Op) (m : ℕ) → IsPlaced a → (is_pixel p && is_byte m) ≡ true → checks (job.Fill a p op m) ≡ true → fill (area_fields a ++ ink_fields p op m) ≡ Ok (job.Fill a p op m)
-unfolding fill
+fill_back : (a : Area) (p : Rgba) (op : Op) (m : ℕ) → IsPlaced a → (is_pixel p && is_byte m) ≡ true → checks (job.Fill a p op m) ≡ true → job_of Fill (area_fields a ++ ink_fields p op m) ≡ Ok (job.Fill a p op m)
+unfolding job_of
 fill_back a p op m l r h = rw (outline_back a l, ink_back p op m r) (checked_back (job.Fill a p op m) h)
 
 tip_back : (x y : ℤ) (r : ℕ) (soft : Bool) → is_coordinate x ≡ true → is_coordinate y ≡ true → nat_le r 128 ≡ true → tip (signed_decimal x) (signed_decimal y) (decimal r) (edge_text soft) ≡ Ok (record { x = x; y = y; r = r; soft = soft })
 unfolding tip
 tip_back x y r soft h k l = rw (coordinate_back x h, coordinate_back y k, upto_back 128 r (omega arith) l, edge_back soft) refl
 
-dab_back : (x y : ℤ) (r : ℕ) (soft : Bool) (p : Rgba) (op : Op) (m : ℕ) → is_coordinate x ≡ true → is_coordinate y ≡ true → nat_le r 128 ≡ true → (is_pixel p && is_byte m) ≡ true → checks (job.Dab x y r soft p op m) ≡ true → dab (job_text_fields (job.Dab x y r soft p op m)) ≡ Ok (job.Dab x y r soft p op m)
-unfolding dab
+dab_back : (x y : ℤ) (r : ℕ) (soft : Bool) (p : Rgba) (op : Op) (m : ℕ) → is_coordinate x ≡ true → is_coordinate y ≡ true → nat_le r 128 ≡ true → (is_pixel p && is_byte m) ≡ true → checks (job.Dab x y r soft p op m) ≡ true → job_of Dab (job_text_fields (job.Dab x y r soft p op m)) ≡ Ok (job.Dab x y r soft p op m)
+unfolding job_of
 dab_back x y r soft p op m a b c i h = rw (tip_back x y r soft a b c, ink_back p op m i) (checked_back (job.Dab x y r soft p op m) h)
 
-move_back : (a : Area) (dx dy : ℤ) → IsPlaced a → (int_le (negsuc 32766) dx && int_le dx (pos 32767)) ≡ true → (int_le (negsuc 32766) dy && int_le dy (pos 32767)) ≡ true → checks (job.Move a dx dy) ≡ true → move_by (job_text_fields (job.Move a dx dy)) ≡ Ok (job.Move a dx dy)
-unfolding move_by
+move_back : (a : Area) (dx dy : ℤ) → IsPlaced a → (int_le (negsuc 32766) dx && int_le dx (pos 32767)) ≡ true → (int_le (negsuc 32766) dy && int_le dy (pos 32767)) ≡ true → checks (job.Move a dx dy) ≡ true → job_of Move (job_text_fields (job.Move a dx dy)) ≡ Ok (job.Move a dx dy)
+unfolding job_of
 move_back a dx dy l x y h = rw (outline_back a l, distance_back dx x, distance_back dy y) (checked_back (job.Move a dx dy) h)
 
-blur_back : (a : Area) (r : ℕ) → IsPlaced a → (nat_le 1 r && nat_le r 16) ≡ true → checks (job.Blur a r) ≡ true → blur (job_text_fields (job.Blur a r)) ≡ Ok (job.Blur a r)
-unfolding blur
+blur_back : (a : Area) (r : ℕ) → IsPlaced a → (nat_le 1 r && nat_le r 16) ≡ true → checks (job.Blur a r) ≡ true → job_of Blur (job_text_fields (job.Blur a r)) ≡ Ok (job.Blur a r)
+unfolding job_of
 blur_back a r l k h = rw (outline_back a l, from_one_back 16 r (omega arith) k) (checked_back (job.Blur a r) h)
 
 paint_back : (work : Work) (n : ℕ) (kind : Kind) (others : List (List ℕ)) (j : Job) → is_number n ≡ true → (length others == job_fields work) ≡ true → job_of work others ≡ Ok j → paint work (decimal n ∷ kind_text kind ∷ others) ≡ Ok (Add n kind j)

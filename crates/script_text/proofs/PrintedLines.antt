@@ -4,8 +4,8 @@ use Rattle.std.specs.Prelude.{◌==◌}
 use Rattle.std.specs.List.{list_all, slice_split}
 use Rattle.std.proofs.lemmas.List.{append-nil}
 use Rattle.std.proofs.lemmas.List.Folds.{list_all-append}
-use Rattle.script_lines.specs.Lines.{is_blank, is_some_field, fields, lines}
-use Rattle.script_lines.specs.Fronts.{is_field}
+use Rattle.script_lines.specs.Lines.{is_blank, fields, lines}
+use Rattle.script_lines.specs.Fronts.{is_some_field, is_field}
 use Rattle.script_lines.proofs.FieldLemmas.{first, second, both, cut, whole, no_blanks, no_feeds}
 use Rattle.script_text.specs.Text.{spaced, line}
 

@@ -1,5 +1,5 @@
 -- A printed script reads back.
-use Rattle.std.proofs.Common.{◌≡◌, ℕ, ◌+◌, Bool, true, false, ◌&&◌, Option, Some, None, List, [], ◌∷◌, ◌++◌, refl, ap, ◌∙◌}
+use Rattle.std.proofs.Common.{◌≡◌, ℕ, ◌+◌, Bool, true, false, ◌&&◌, Option, Some, None, List, [], ◌∷◌, ◌++◌, refl, ap, ◌∙◌, if◌then◌else◌}
 use Rattle.std.specs.List.{list_all, flat_map}
 use Rattle.std.proofs.lemmas.List.Elements.{filter_map-append}
 use Rattle.doc_model.specs.declared.canvas.Canvas.{Canvas}
@@ -8,13 +8,16 @@ use Rattle.doc_model.specs.Strokes.{Entry, fed, all_fed, entries}
 use Rattle.doc_model.specs.Lawful.{may_follow, lawful_after, lawful, is_closed_entry}
 use Rattle.script_lines.specs.Lines.{lines}
 use Rattle.script_forms.specs.Jobs.{Fields}
-use Rattle.script_forms.specs.Words.{word_text, canvas_text}
+use Rattle.script_forms.specs.Words.{canvas_text}
+use Rattle.script_forms.specs.Texts.{word_text}
 use Rattle.script_forms.specs.Ranges.{in_range, in_limits, is_sound}
 use Rattle.script_text.specs.declared.reading.Start.{Start}
 use Rattle.script_text.specs.Script.{Contents}
 use Rattle.script_text.specs.Closed.{is_script, all_closed}
-use Rattle.script_text.specs.Reading.{NumberedLine, commands_from, canvas_in, command_in, canvas_of, commands_of, starts_of, cause_by, cause, first_canvas, end_by, left_open, left_fault, fault_after, fault_in, fault, contents_by, unless, script_in, script, misfit}
-use Rattle.script_text.specs.Pieces.{command_lines}
+use Rattle.script_text.specs.Reading.{command_lines, canvas_in, command_in, canvas_of, commands_of, starts_of, cause_by, cause, end_by, left_open, fault_after, fault, script, misfit}
+use Rattle.script_text.specs.Read.{contents_by}
+use Rattle.std.specs.Option.{option_or, is_some}
+use Rattle.script_text.specs.Pieces.{NumberedLine, commands_from}
 use Rattle.script_text.specs.Text.{canvas_fields, command_text, text}
 use Rattle.script_text.specs.Laws.{PrintedReadsBack}
 use Rattle.script_lines.proofs.FieldLemmas.{first, second}
@@ -22,7 +25,7 @@ use Rattle.script_text.proofs.PrintedLines.{line_first}
 use Rattle.script_text.proofs.PrintedWords.{words}
 use Rattle.script_text.proofs.PrintedJobs.{Told}
 use Rattle.script_text.proofs.PrintedCommands.{told, canvas_back, canvas_plain}
-use Rattle.script_text.proofs.Refusals.{misfits, unsound, some_left}
+use Rattle.script_text.proofs.Refusals.{misfits, unsound, some_left, left_fault}
 use Rattle.script_text.proofs.Tables.{entries-append}
 use Rattle.script_text.proofs.Scanning.{canvas_of-append, from_more, goes_on}
 use Rattle.script_text.proofs.Scanning as scan
@@ -69,10 +72,10 @@ cause_told c t canvas before =
     rw (w.no_canvas, w.back, t.reads) refl
 
 cmds_told : (n : ℕ) (c : Command) (t : Told c) (rest : List ℕ) → commands_from n (lines (command_text c ++ rest)) ≡ scan.line n (row t) ∷ commands_from (n + 1) (lines rest)
-cmds_told n c t rest = ap (commands_from n) (line_told c t rest) ∙ from_more n (row t) (lines rest) (words t.word).begins
+cmds_told n c t rest = ap (commands_from n) (line_told c t rest) ∙ from_more n (row t) (lines rest) ((words t.word).begins t.fields)
 
 more_commands : (before : List NumberedLine) (n : ℕ) (c : Command) (t : Told c) → commands_of (before ++ scan.line n (row t) ∷ []) ≡ commands_of before ++ c ∷ []
-more_commands before n c t = filter_map-append (λ (l : NumberedLine). command_in l.fields) before (scan.line n (row t) ∷ []) ∙ ap (λ l. commands_of before ++ l) (rw (command_told c t) refl)
+more_commands before n c t = filter_map-append (λ (l : NumberedLine). command_in l.1) before (scan.line n (row t) ∷ []) ∙ ap (λ l. commands_of before ++ l) (rw (command_told c t) refl)
 
 -- after some lines, those of the other commands have no fault
 record IsBefore (before : List NumberedLine) (c : Canvas) (cs : List Command) : Type 0 where
@@ -81,7 +84,7 @@ record IsBefore (before : List NumberedLine) (c : Canvas) (cs : List Command) : 
 
 before_more : (before : List NumberedLine) (canvas : Canvas) (commands : List Command) (n : ℕ) (c : Command) (t : Told c) → IsBefore before canvas commands → IsBefore (before ++ scan.line n (row t) ∷ []) canvas (commands ++ c ∷ [])
 before_more before canvas commands n c t is = record {
-  canvas = canvas_of-append before (scan.line n (row t)) ∙ ap (λ o. first_canvas o (canvas_in (row t))) is.canvas;
+  canvas = canvas_of-append before (scan.line n (row t)) ∙ ap (λ o. option_or o (canvas_in (row t))) is.canvas;
   commands = more_commands before n c t ∙ ap (λ l. l ++ c ∷ []) is.commands;
 }
 
@@ -146,10 +149,10 @@ unfolding text
 lines_told s h = ap (commands_from 1) (line_first canvas_text (canvas_fields s.canvas) (flat_map command_text s.commands) refl (canvas_plain s.canvas h)) ∙ from_more 1 (canvas_row s.canvas) (lines (flat_map command_text s.commands)) refl
 
 first_before : (c : Canvas) → in_limits c ≡ true → IsBefore (scan.line 1 (canvas_row c) ∷ []) c []
-first_before c h = record { canvas = ap (λ o. first_canvas o None) (canvas_told c h); commands = refl }
+first_before c h = record { canvas = ap (λ o. option_or o None) (canvas_told c h); commands = refl }
 
 no_fault : (s : Contents) → is_script s ≡ true → fault (text s) ≡ None
-unfolding fault fault_in
+unfolding fault
 no_fault s h =
     let p = parts s h in
     let start = scan.line 1 (canvas_row s.canvas) in
@@ -157,13 +160,13 @@ no_fault s h =
     ap (fault_after []) (lines_told s p.limits) ∙ (goes_on [] (others_of s.commands) 1 (canvas_row s.canvas) (canvas_good s.canvas p.limits) ∙ rest)
 
 same : (s : Contents) → is_script s ≡ true → script (text s) ≡ Some s
-unfolding script script_in fault
+unfolding script fault
 same s h =
     let p = parts s h in
     let start = scan.line 1 (canvas_row s.canvas) in
-    let canvas : canvas_of (command_lines (text s)) ≡ Some s.canvas = ap canvas_of (lines_told s p.limits) ∙ ap (λ o. first_canvas o (canvas_of (others_of s.commands))) (canvas_told s.canvas p.limits) in
+    let canvas : canvas_of (command_lines (text s)) ≡ Some s.canvas = ap canvas_of (lines_told s p.limits) ∙ ap (λ o. option_or o (canvas_of (others_of s.commands))) (canvas_told s.canvas p.limits) in
     let commands : commands_of (command_lines (text s)) ≡ s.commands = ap commands_of (lines_told s p.limits) ∙ commands_told [] 2 s.commands p.ranges p.lawful in
-    λ i. unless (no_fault s h i) (contents_by (canvas i) (commands i))
+    λ i. if is_some (no_fault s h i) then None else contents_by (canvas i) (commands i)
 
 pub printed_reads_back : PrintedReadsBack
 printed_reads_back = record { no_fault = no_fault; same = same }

@@ -2,7 +2,7 @@
 use Rattle.std.proofs.Common.{◌≡◌, ℕ, ◌+◌, ◌<◌, suc, zero, Bool, true, false, ◌&&◌, ◌||◌, not, nat_lt, if◌then◌else◌, Option, Some, None, List, [], ◌∷◌, ◌++◌, length, take, get_or, filter, map, refl, sym, ap, ◌∙◌, subst, arith}
 use Rattle.std.specs.Prelude.{◌==◌}
 use Rattle.std.specs.List.{list_any, list_all, filter_map}
-use Rattle.std.specs.Option.{option_to_list}
+use Rattle.std.specs.Option.{option_to_list, option_map}
 use Rattle.std.proofs.lemmas.List.{take_more, map-append}
 use Rattle.std.proofs.lemmas.List.Folds.{list_all_at}
 use Rattle.std.proofs.lemmas.List.Elements.{filter_map-append}
@@ -12,14 +12,15 @@ use Rattle.doc_model.specs.declared.command.Command.TheVariants as command
 use Rattle.doc_model.specs.Strokes.{Entry, Strokes, Changes, Undoes, Redoes, Purges, Exports, fed, all_fed, entries, is_stroke, is_open_stroke, has_room, is_export, is_open as is_open_fate}
 use Rattle.doc_model.specs.Lawful.{is_closed_entry, may_follow, lawful_after, lawful}
 use Rattle.script_lines.specs.declared.cause.Cause.{Cause}
-use Rattle.script_lines.specs.declared.cause.Cause.TheVariants.{UsedAgain, UnknownStroke, ClosedStroke, TooManyJobs, TooManyExports}
+use Rattle.script_lines.specs.declared.cause.Cause.TheVariants.{UsedAgain, UnknownStroke, ClosedStroke, TooManyJobs, TooManyExports, StrokeLeft}
 use Rattle.script_text.specs.declared.reading.Start.{Start}
 use Rattle.script_text.specs.declared.reading.Reading.{Reading}
 use Rattle.script_text.specs.declared.script.ScriptFault.{ScriptFault}
 use Rattle.script_text.specs.Script.{contents}
 use Rattle.script_text.specs.Closed.{is_script, all_closed}
 use Rattle.script_forms.specs.Ranges.{in_range, is_sound, in_limits}
-use Rattle.script_text.specs.Reading.{left_open, left_fault, start_by, misfit, or_else}
+use Rattle.script_text.specs.Reading.{left_open, start_by, misfit}
+use Rattle.std.specs.Option.{option_or}
 use Rattle.script_text.specs.Read.{IsGathered, TakesCommand, started_by}
 
 and_false : (b : Bool) → (b && false) ≡ false
@@ -36,43 +37,13 @@ not_free : (a : Bool) (x : Cause) → (if a then Some UsedAgain else None) ≡ S
 not_free true x h = refl
 not_free false x h = absurd (cc (h))
 
-not_live : (a b : Bool) (x : Cause) → (b ≡ true → a ≡ true) → (if not a then Some UnknownStroke else (if not b then Some ClosedStroke else None)) ≡ Some x → b ≡ false
-not_live true true x up h = absurd (cc (h))
-not_live true false x up h = refl
-not_live false true x up h = absurd (cc (up refl))
-not_live false false x up h = refl
-
-first_true : (a b : Bool) → (a && b) ≡ true → a ≡ true
-first_true true b k = refl
-first_true false b k = k
+not_live : (a b : Bool) (x : Cause) → (if b then None else if a then Some ClosedStroke else Some UnknownStroke) ≡ Some x → b ≡ false
+not_live a true x h = absurd (cc (h))
+not_live a false x h = refl
 
 second_true : (a b : Bool) → (a && b) ≡ true → b ≡ true
 second_true true b k = k
 second_true false b k = absurd (cc (k))
-
-either : (a b : Bool) → (a ≡ true) → (a || b) ≡ true
-either a b k = rw k refl
-
-later : (a b : Bool) → (b ≡ true) → (a || b) ≡ true
-later true b k = refl
-later false b k = k
-
-open_here : (n : ℕ) (e : Entry) → is_open_stroke n e ≡ true → is_stroke n e ≡ true
-open_here n (Strokes s) k = first_true (s.no == n) (is_open_fate s.fate) k
-open_here n (Changes c) k = k
-open_here n Undoes k = k
-open_here n Redoes k = k
-open_here n (Purges keep) k = k
-open_here n Exports k = k
-
-open_more : (n : ℕ) (e : Entry) (es : List Entry) (b : Bool) → is_open_stroke n e ≡ b → (list_any (is_open_stroke n) es ≡ true → list_any (is_stroke n) es ≡ true) → (b || list_any (is_open_stroke n) es) ≡ true → (is_stroke n e || list_any (is_stroke n) es) ≡ true
-open_more n e es true k rest l = either (is_stroke n e) (list_any (is_stroke n) es) (open_here n e k)
-open_more n e es false k rest l = later (is_stroke n e) (list_any (is_stroke n) es) (rest l)
-
--- an open stroke is a stroke
-started : (n : ℕ) (es : List Entry) → list_any (is_open_stroke n) es ≡ true → list_any (is_stroke n) es ≡ true
-started n [] h = h
-started n (e ∷ es) h = open_more n e es (is_open_stroke n e) refl (started n es) h
 
 closed_not : (n : ℕ) (e : Entry) → is_open_stroke n e ≡ true → is_closed_entry e ≡ false
 closed_not n (Strokes s) k = rw (second_true (s.no == n) (is_open_fate s.fate) k) refl
@@ -99,12 +70,10 @@ pub some_left : (es : List Entry) (starts : List Start) (n : ℕ) → left_open 
 some_left es [] n h = absurd (cc (h))
 some_left es (s ∷ starts) n h = left_more es s starts n (list_any (is_open_stroke s.no) es) refl (some_left es starts n) h
 
-add_bad : (s a b r : Bool) (x : Cause) → (b ≡ true → a ≡ true) → or_else (if not a then Some UnknownStroke else (if not b then Some ClosedStroke else None)) (if r then None else Some TooManyJobs) ≡ Some x → (s && (b && r)) ≡ false
-add_bad s true true true x up h = absurd (cc (h))
-add_bad s true true false x up h = and_false s
-add_bad s true false r x up h = and_false s
-add_bad s false true r x up h = absurd (cc (up refl))
-add_bad s false false r x up h = and_false s
+add_bad : (s a b r : Bool) (x : Cause) → option_or (if b then None else if a then Some ClosedStroke else Some UnknownStroke) (if r then None else Some TooManyJobs) ≡ Some x → (s && (b && r)) ≡ false
+add_bad s a true true x h = absurd (cc (h))
+add_bad s a true false x h = and_false s
+add_bad s a false r x h = and_false s
 
 not_space : (a : Bool) (x : Cause) → (if a then None else Some TooManyExports) ≡ Some x → a ≡ false
 not_space true x h = absurd (cc (h))
@@ -115,9 +84,9 @@ pub misfits : (es : List Entry) (c : Command) (x : Cause) → misfit es c ≡ So
 unfolding misfit
 misfits es (command.Change change) x h = absurd (cc (h))
 misfits es (command.Stroke n layer e) x h = not_free (list_any (is_stroke n) es) x h
-misfits es (command.Add n kind j) x h = add_bad (is_sound (command.Add n kind j)) (list_any (is_stroke n) es) (list_any (is_open_stroke n) es) (list_any (has_room n) es) x (started n es) h
-misfits es (command.End n) x h = not_live (list_any (is_stroke n) es) (list_any (is_open_stroke n) es) x (started n es) h
-misfits es (command.Cancel n) x h = not_live (list_any (is_stroke n) es) (list_any (is_open_stroke n) es) x (started n es) h
+misfits es (command.Add n kind j) x h = add_bad (is_sound (command.Add n kind j)) (list_any (is_stroke n) es) (list_any (is_open_stroke n) es) (list_any (has_room n) es) x h
+misfits es (command.End n) x h = not_live (list_any (is_stroke n) es) (list_any (is_open_stroke n) es) x h
+misfits es (command.Cancel n) x h = not_live (list_any (is_stroke n) es) (list_any (is_open_stroke n) es) x h
 misfits es command.Undo x h = absurd (cc (h))
 misfits es command.Redo x h = absurd (cc (h))
 misfits es (command.Purge keep) x h = absurd (cc (h))
@@ -182,6 +151,10 @@ not_closed c cs h = rw h (go (in_limits c && list_all in_range cs) (lawful cs))
   where
     go : (p r : Bool) → (p && (r && false)) ≡ false
     go p r = rw (and_false r) (and_false p)
+
+-- the fault of a stroke that is left open, where one is
+abbrev pub left_fault : Option ℕ → Option ScriptFault
+left_fault o = option_map (λ n. record { line = n; cause = StrokeLeft }) o
 
 left_some : (o : Option ℕ) (f : ScriptFault) → left_fault o ≡ Some f → (n : ℕ) × (o ≡ Some n)
 left_some None f h = absurd (cc (h))

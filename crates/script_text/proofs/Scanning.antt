@@ -1,6 +1,6 @@
 -- Going over the lines of a script, one after another.
 use Rattle.std.proofs.Common.{◌≡◌, ℕ, ◌+◌, ◌<◌, ◌≤◌, suc, true, false, Option, Some, None, Result, Ok, Err, List, [], ◌∷◌, ◌++◌, length, map, filter, refl, sym, ap, ◌∙◌, subst, arith, length-append, append_assoc}
-use Rattle.std.specs.List.{filter_map, slice_split, count_by}
+use Rattle.std.specs.List.{enumerate_from, filter_map, slice_split, count_by}
 use Rattle.std.specs.Prelude.{◌==◌}
 use Rattle.std.specs.Option.{option_to_list}
 use Rattle.std.proofs.lemmas.List.{append-nil}
@@ -19,43 +19,46 @@ use Rattle.script_text.specs.declared.reading.Reading.{Reading}
 use Rattle.script_text.specs.declared.reading.Start.{Start}
 use Rattle.script_forms.specs.Jobs.{Fields}
 use Rattle.script_text.specs.Script.{Contents}
-use Rattle.script_text.specs.Reading.{NumberedLine, numbered, commands_from, commands_among, canvas_in, command_in, first_canvas, canvas_of, commands_of, starts_of, start_by, cause_by, cause, end_by, end_fault, fault_after, fault_in, contents_by, script_in}
+use Rattle.script_text.specs.Reading.{canvas_in, command_in, canvas_of, commands_of, starts_of, start_by, cause_by, cause, end_by, fault_after}
+use Rattle.script_text.specs.Read.{end_fault, contents_by}
+use Rattle.script_text.specs.Pieces.{NumberedLine, commands_from, commands_among, fault_in, script_in}
+use Rattle.std.specs.Option.{option_or}
 use Rattle.script_text.specs.Read.{Takes, IsRefused, Answers, StartsAre, started_by}
 use Rattle.script_text.specs.Pieces.{IsReading, AreRead}
 
 abbrev pub line : ℕ → Fields → NumberedLine
-line n f = record { number = n; fields = f }
+line n f = (n, f)
 
-numbered-append : (n : ℕ) (xs ys : List Fields) → numbered n (xs ++ ys) ≡ numbered n xs ++ numbered (n + length xs) ys
-numbered-append n [] ys = let e : n ≡ n + 0 = omega arith in ap (λ m. numbered m ys) e
-numbered-append n (x ∷ xs) ys = ap (λ l. line n x ∷ l) (numbered-append (suc n) xs ys ∙ ap (λ m. numbered (suc n) xs ++ numbered m ys) (omega arith))
+numbered-append : (n : ℕ) (xs ys : List Fields) → enumerate_from n (xs ++ ys) ≡ enumerate_from n xs ++ enumerate_from (n + length xs) ys
+numbered-append n [] ys = let e : n ≡ n + 0 = omega arith in ap (λ m. enumerate_from m ys) e
+numbered-append n (x ∷ xs) ys = ap (λ l. line n x ∷ l) (numbered-append (n + 1) xs ys ∙ ap (λ m. enumerate_from (n + 1) xs ++ enumerate_from m ys) (omega arith))
 
 from-append : (n : ℕ) (xs ys : List Fields) → commands_from n (xs ++ ys) ≡ commands_from n xs ++ commands_from (n + length xs) ys
-from-append n xs ys = ap (filter (λ l. is_command l.fields)) (numbered-append n xs ys) ∙ filter-append (λ (l : NumberedLine). is_command l.fields) (numbered n xs) (numbered (n + length xs) ys)
+from-append n xs ys = ap (filter (λ l. is_command l.1)) (numbered-append n xs ys) ∙ filter-append (λ (l : NumberedLine). is_command l.1) (enumerate_from n xs) (enumerate_from (n + length xs) ys)
 
 -- one more line, where it is a command
 among_more : (before : List Fields) (n : ℕ) (f : Fields) → n ≡ length before → is_command f ≡ true → commands_among (before ++ f ∷ []) ≡ commands_among before ++ line (n + 1) f ∷ []
 among_more before n f e c = from-append 1 before (f ∷ []) ∙ rw c (ap (λ k. commands_among before ++ line k f ∷ []) (omega arith))
 
 pub from_more : (n : ℕ) (f : Fields) (more : List Fields) → is_command f ≡ true → commands_from n (f ∷ more) ≡ line n f ∷ commands_from (n + 1) more
-from_more n f more c = rw c (ap (λ k. line n f ∷ commands_from k more) (omega arith))
+from_more n f more c = rw c refl
 
 -- where it is none
 among_same : (before : List Fields) (f : Fields) → is_command f ≡ false → commands_among (before ++ f ∷ []) ≡ commands_among before
 among_same before f c = from-append 1 before (f ∷ []) ∙ rw c (append-nil (commands_among before))
 
 from_same : (n : ℕ) (f : Fields) (more : List Fields) → is_command f ≡ false → commands_from n (f ∷ more) ≡ commands_from (n + 1) more
-from_same n f more c = rw c (ap (λ k. commands_from k more) (omega arith))
+from_same n f more c = rw c refl
 
-pub canvas_of-append : (before : List NumberedLine) (l : NumberedLine) → canvas_of (before ++ l ∷ []) ≡ first_canvas (canvas_of before) (canvas_in l.fields)
-canvas_of-append [] l = go (canvas_in l.fields)
+pub canvas_of-append : (before : List NumberedLine) (l : NumberedLine) → canvas_of (before ++ l ∷ []) ≡ option_or (canvas_of before) (canvas_in l.1)
+canvas_of-append [] l = go (canvas_in l.1)
   where
-    go : (o : Option Canvas) → first_canvas o None ≡ first_canvas None o
+    go : (o : Option Canvas) → option_or o None ≡ option_or None o
     go None = refl
     go (Some c) = refl
-canvas_of-append (b ∷ before) l = ap (first_canvas (canvas_in b.fields)) (canvas_of-append before l) ∙ go (canvas_in b.fields)
+canvas_of-append (b ∷ before) l = ap (option_or (canvas_in b.1)) (canvas_of-append before l) ∙ go (canvas_in b.1)
   where
-    go : (o : Option Canvas) → first_canvas o (first_canvas (canvas_of before) (canvas_in l.fields)) ≡ first_canvas (first_canvas o (canvas_of before)) (canvas_in l.fields)
+    go : (o : Option Canvas) → option_or o (option_or (canvas_of before) (canvas_in l.1)) ≡ option_or (option_or o (canvas_of before)) (canvas_in l.1)
     go None = refl
     go (Some c) = refl
 
@@ -65,7 +68,7 @@ one_option (Some x) = refl
 
 reads_more : (r new : Reading) (before : List NumberedLine) (n : ℕ) (f : Fields) → IsReading r before → Takes r new n f → IsReading new (before ++ line n f ∷ [])
 reads_more r new before n f is t = record {
-  canvas = t.canvas ∙ (ap (λ o. first_canvas o (canvas_in f)) is.canvas ∙ sym (canvas_of-append before (line n f)));
+  canvas = t.canvas ∙ (ap (λ o. option_or o (canvas_in f)) is.canvas ∙ sym (canvas_of-append before (line n f)));
   draft = t.draft ∙ (ap (λ l. l ++ option_to_list (command_in f)) is.draft ∙ sym (filter_map-append _ before (line n f ∷ []) ∙ ap (λ l. commands_of before ++ l) (one_option (command_in f))));
   starts = t.starts ∙ (ap (λ l. l ++ option_to_list (start_by n (command_in f))) is.starts ∙ sym (filter_map-append _ before (line n f ∷ []) ∙ ap (λ l. starts_of before ++ l) (one_option (start_by n (command_in f)))));
 }
@@ -91,9 +94,9 @@ ends before = refl
 -- the strokes that lines start are those that their commands start
 pub starts_are : (before : List NumberedLine) → StartsAre (starts_of before) (commands_of before)
 starts_are [] = refl
-starts_are (l ∷ before) = go (command_in l.fields) (starts_are before)
+starts_are (l ∷ before) = go (command_in l.1) (starts_are before)
   where
-    go : (o : Option Command) → StartsAre (starts_of before) (commands_of before) → map (λ (s : Start). s.no) (Rattle.std.specs.List.cons_option (start_by l.number o) (starts_of before)) ≡ filter_map started_by (Rattle.std.specs.List.cons_option o (commands_of before))
+    go : (o : Option Command) → StartsAre (starts_of before) (commands_of before) → map (λ (s : Start). s.no) (Rattle.std.specs.List.cons_option (start_by l.0 o) (starts_of before)) ≡ filter_map started_by (Rattle.std.specs.List.cons_option o (commands_of before))
     go None h = h
     go (Some (command.Stroke n layer x)) h = ap (λ t. n ∷ t) h
     go (Some (command.Change change)) h = h

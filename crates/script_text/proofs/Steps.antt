@@ -1,5 +1,5 @@
 -- Adding a command to a draft.
-use Rattle.std.proofs.Common.{◌≡◌, ℕ, ◌+◌, ◌≤◌, suc, zero, Bool, true, false, ◌||◌, not, nat_lt, nat_le, if◌then◌else◌, Option, Some, None, List, [], ◌∷◌, ◌++◌, length, map, filter, refl, sym, ap, ◌∙◌, subst, arith}
+use Rattle.std.proofs.Common.{◌≡◌, ℕ, ◌+◌, ◌≤◌, suc, zero, Bool, true, false, ◌||◌, nat_lt, nat_le, if◌then◌else◌, Option, Some, None, List, [], ◌∷◌, ◌++◌, length, map, filter, refl, sym, ap, ◌∙◌, subst, arith}
 use Rattle.std.specs.Prelude.{◌==◌}
 use Rattle.std.specs.List.{list_any}
 use Rattle.std.proofs.lemmas.List.Folds.{list_any-append}
@@ -14,7 +14,8 @@ use Rattle.doc_model.specs.Strokes.{Entry, Strokes, Changes, Undoes, Redoes, Pur
 use Rattle.script_lines.specs.declared.cause.Cause.{Cause}
 use Rattle.script_lines.specs.declared.cause.Cause.TheVariants.{UsedAgain, TooManyJobs, TooManyExports}
 use Rattle.script_text.specs.declared.table.Fed.{Fed}
-use Rattle.script_text.specs.Reading.{misfit, not_open, or_else}
+use Rattle.script_text.specs.Reading.{misfit, not_open}
+use Rattle.std.specs.Option.{option_or}
 use Rattle.script_text.specs.Table.{Tells, has_fewer, fewer, next_fed, one_more, closed, start_cause, close_cause, job_cause, stroke_cause, export_cause, exports_after}
 use Rattle.script_text.proofs.Tables.{same_any, none_any, same_filter, job_started, job_open, job_export, job_room, job_other, none_fewer, close_started, close_room, close_export, close_itself, close_other, same_number, lt_more}
 
@@ -38,24 +39,20 @@ start_same es n (Some f) t = rw t.started refl
 
 -- why it can't be closed
 pub close_same : (es : List Entry) (n : ℕ) (found : Option Fed) → Tells es n found → close_cause found ≡ not_open n es
-close_same es n None t = rw t.started refl
-close_same es n (Some f) t = rw (t.started, t.live) (go f.live)
-  where
-    go : (b : Bool) → (if b then None else Some Rattle.script_lines.specs.declared.cause.Cause.TheVariants.ClosedStroke) ≡ (if not b then Some Rattle.script_lines.specs.declared.cause.Cause.TheVariants.ClosedStroke else None)
-    go true = refl
-    go false = refl
+close_same es n None t = rw (t.live, t.started) refl
+close_same es n (Some f) t = rw (t.live, t.started) refl
 
 -- why it can't be given a job
-pub job_same : (es : List Entry) (n : ℕ) (found : Option Fed) → Tells es n found → job_cause found ≡ or_else (not_open n es) (if list_any (has_room n) es then None else Some TooManyJobs)
+pub job_same : (es : List Entry) (n : ℕ) (found : Option Fed) → Tells es n found → job_cause found ≡ option_or (not_open n es) (if list_any (has_room n) es then None else Some TooManyJobs)
 job_same es n found t = go found (same_test (has_room n) (fewer 4096 n) (room_is n) es ∙ t.room 4096) t
   where
-    step : (f : Fed) (b r : Bool) → (if b then (if r then None else Some TooManyJobs) else Some Rattle.script_lines.specs.declared.cause.Cause.TheVariants.ClosedStroke) ≡ or_else (if not b then Some Rattle.script_lines.specs.declared.cause.Cause.TheVariants.ClosedStroke else None) (if r then None else Some TooManyJobs)
+    step : (f : Fed) (b r : Bool) → (if b then (if r then None else Some TooManyJobs) else Some Rattle.script_lines.specs.declared.cause.Cause.TheVariants.ClosedStroke) ≡ option_or (if b then None else Some Rattle.script_lines.specs.declared.cause.Cause.TheVariants.ClosedStroke) (if r then None else Some TooManyJobs)
     step f true r = refl
     step f false r = refl
 
-    go : (found : Option Fed) → list_any (has_room n) es ≡ has_fewer 4096 found → Tells es n found → job_cause found ≡ or_else (not_open n es) (if list_any (has_room n) es then None else Some TooManyJobs)
-    go None r t = rw t.started refl
-    go (Some f) r t = rw (t.started, t.live, r) (step f f.live (nat_lt f.jobs 4096))
+    go : (found : Option Fed) → list_any (has_room n) es ≡ has_fewer 4096 found → Tells es n found → job_cause found ≡ option_or (not_open n es) (if list_any (has_room n) es then None else Some TooManyJobs)
+    go None r t = rw (t.live, t.started) refl
+    go (Some f) r t = rw (t.live, t.started, r) (step f f.live (nat_lt f.jobs 4096))
 
 or_false : (b : Bool) → (b || false) ≡ b
 or_false true = refl
@@ -168,7 +165,7 @@ close_step es n m f shut old t = go (n == m) refl
     }
 
 -- why a command can't be added, by what is kept
-misfit_is : (es : List Entry) (c : Command) (kept : ℕ → Option Fed) (x : ℕ) → ((n : ℕ) → Tells es n (kept n)) → x ≡ length (filter is_export es) → misfit es c ≡ or_else (export_cause x c) (stroke_cause kept c)
+misfit_is : (es : List Entry) (c : Command) (kept : ℕ → Option Fed) (x : ℕ) → ((n : ℕ) → Tells es n (kept n)) → x ≡ length (filter is_export es) → misfit es c ≡ option_or (export_cause x c) (stroke_cause kept c)
 unfolding misfit
 misfit_is es (command.Change change) kept x t h = refl
 misfit_is es (command.Stroke n layer e) kept x t h = sym (start_same es n (kept n) (t n))
@@ -180,7 +177,7 @@ misfit_is es command.Redo kept x t h = refl
 misfit_is es (command.Purge keep) kept x t h = refl
 misfit_is es command.Export kept x t h = rw h (last (nat_lt (length (filter is_export es)) 64))
   where
-    last : (b : Bool) → (if b then None else Some TooManyExports) ≡ or_else (if b then None else Some TooManyExports) None
+    last : (b : Bool) → (if b then None else Some TooManyExports) ≡ option_or (if b then None else Some TooManyExports) None
     last true = refl
     last false = refl
 
@@ -200,7 +197,7 @@ pub step : (es : List Entry) (c : Command) (m : ℕ) (old : Option Fed) → misf
 unfolding misfit
 step es (command.Change change) m old h t = other_more es m old (Changes change) refl refl (λ k. refl) t
 step es (command.Stroke n layer x) m old h t = start_step es n m layer x old (taken_free (list_any (is_stroke n) es) h) t
-step es (command.Add n kind j) m old h t = add_step es n m kind j old (λ e. job_same es m old t ∙ subst (λ a. or_else (not_open a es) (if list_any (has_room a) es then None else Some TooManyJobs) ≡ None) e h) t
+step es (command.Add n kind j) m old h t = add_step es n m kind j old (λ e. job_same es m old t ∙ subst (λ a. option_or (not_open a es) (if list_any (has_room a) es then None else Some TooManyJobs) ≡ None) e h) t
 step es (command.End n) m old h t = close_step es n m Ended refl old t
 step es (command.Cancel n) m old h t = close_step es n m Cancelled refl old t
 step es command.Undo m old h t = other_more es m old Undoes refl refl (λ k. refl) t

@@ -1,6 +1,7 @@
 -- How one line changes what was read.
 use Rattle.std.specs.Prelude.{◌≡◌, ℕ, true, List, ◌++◌, map, Option, Some, None, Result, Ok, Err, IfSome}
-use Rattle.std.specs.Option.{option_to_list}
+use Rattle.std.specs.Option.{option_to_list, option_map, option_and_then}
+use Rattle.std.specs.Result.{result_ok}
 use Rattle.std.specs.List.{filter_map}
 use Rattle.doc_model.specs.declared.command.Command.TheVariants as command
 use Rattle.doc_model.specs.declared.canvas.Canvas.{Canvas}
@@ -11,10 +12,13 @@ use Rattle.script_text.specs.declared.script.ReadRefusal.{ReadRefusal}
 use Rattle.script_text.specs.declared.script.ReadRefusal.TheVariants.{Fault, NoMemory}
 use Rattle.script_text.specs.declared.reading.Reading.{Reading}
 use Rattle.script_text.specs.declared.reading.Start.{Start}
-use Rattle.script_text.specs.Script.{Contents}
+use Rattle.script_text.specs.Script.{Contents, contents}
 use Rattle.script_forms.specs.Ranges.{in_limits}
 use Rattle.script_forms.specs.Jobs.{Fields}
-use Rattle.script_text.specs.Reading.{canvas_in, command_in, first_canvas, start_by}
+use Rattle.script_forms.specs.declared.words.Word.{Word}
+use Rattle.script_forms.specs.Forms.{command_of}
+use Rattle.script_text.specs.Reading.{canvas_in, command_in, start_by, canvas_of, commands_of, starts_of, end_by}
+use Rattle.std.specs.Option.{option_or}
 
 abbrev pub refusal : ℕ → Cause → ReadRefusal
 refusal line cause = Fault (record { line = line; cause = cause })
@@ -33,7 +37,7 @@ pub record TakesCommand (old new : Reading) (line : ℕ) (command : Option Comma
 
 -- what a line says is added
 pub record Takes (old new : Reading) (line : ℕ) (fields : Fields) : Type 0 where
-  pub canvas : new.canvas ≡ first_canvas old.canvas (canvas_in fields)
+  pub canvas : new.canvas ≡ option_or old.canvas (canvas_in fields)
   pub draft : new.draft ≡ old.draft ++ option_to_list (command_in fields)
   pub starts : new.starts.items ≡ old.starts.items ++ option_to_list (start_by line (command_in fields))
 
@@ -61,3 +65,15 @@ pub record IsGathered (r : Reading) (c : Canvas) (commands : List Command) : Typ
   pub canvas : r.canvas ≡ Some c
   pub draft : r.draft ≡ commands
   pub starts : StartsAre r.starts.items commands
+
+-- the command of a word and its fields
+abbrev pub command_by : Option Word → Fields → Option Command
+command_by word others = option_and_then (λ w. result_ok (command_of w others)) word
+
+-- what is wrong where no line is, after these
+abbrev pub end_fault : List (ℕ × Fields) → Option ScriptFault
+end_fault before = end_by (canvas_of before) (commands_of before) (starts_of before)
+
+-- what good lines say
+abbrev pub contents_by : Option Canvas → List Command → Option Contents
+contents_by canvas commands = option_map (λ c. contents c commands) canvas

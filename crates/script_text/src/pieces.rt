@@ -4,7 +4,7 @@ ghost use Rattle.std.specs.Prelude.{◌≡◌, ◌++◌, ◌<◌, [], length, Li
 ghost use Rattle.std.proofs.Props.{props};
 ghost use Rattle.script_forms.specs.Jobs.{Fields};
 ghost use Rattle.script_lines.specs.Lines.{lines};
-ghost use Rattle.script_text.specs.Reading.{fault, fault_in, script, script_in};
+ghost use Rattle.script_text.specs.Reading.{fault, script};
 ghost use Rattle.script_text.specs.Read.{Answers, Fits, StartsAre};
 ghost use Rattle.script_text.specs.declared.script.ScriptFault.{ScriptFault};
 ghost use Rattle.script_text.specs.declared.script.ReadRefusal.TheVariants.{Fault};
@@ -30,7 +30,7 @@ pub struct Reader {
 }
 
 impl Reader {
-    ghost use Rattle.script_text.specs.Pieces.{HasRead, HasRoom};
+    ghost use Rattle.script_text.specs.Pieces.{fault_in, script_in, HasRead, HasRoom};
 
     /// No line, and room for the commands of a script of so many bytes.
     pub fn new(alloc: Global, bytes: usize) -> Result<Reader, NoMemory>

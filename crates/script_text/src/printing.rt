@@ -6,7 +6,7 @@ ghost use Rattle.std.specs.Char.{digit_char};
 ghost use Rattle.doc_model.specs.declared.tree.Change.TheVariants.{Layer, Look as ChangeLook};
 ghost use Rattle.doc_model.specs.declared.job.Job.TheVariants.{Fill, Dab, Move, Blur};
 ghost use Rattle.doc_model.specs.declared.command.Command.TheVariants.{Stroke, Add};
-ghost use Rattle.script_forms.specs.Words.{kind_text as said_kind, op_text as said_op, edge_text as said_edge, seen_text as said_seen};
+ghost use Rattle.script_forms.specs.Texts.{kind_text as said_kind, op_text as said_op, edge_text as said_edge, seen_text as said_seen};
 ghost use Rattle.script_text.specs.Text.{rgb_text, rgba_text, spaced, line, spot_fields, area_fields, ink_fields, ground_fields, mark_fields, job_word as said_job_word, job_text_fields, change_text, command_text, canvas_line, text};
 
 use crate::script::Script;

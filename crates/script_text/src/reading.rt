@@ -7,7 +7,10 @@ ghost use Rattle.doc_model.specs.Strokes.{entries};
 ghost use Rattle.script_forms.specs.Ranges.{in_range, is_sound};
 ghost use Rattle.script_forms.specs.Forms.{canvas as said_canvas};
 ghost use Rattle.script_forms.specs.Plain.{IsJobLine};
-ghost use Rattle.script_text.specs.Reading.{canvas_cause, word_cause, command_cause, cause_by, canvas_in, command_in, command_by, given, first_canvas, start_by, left_open, end_by, contents_by, misfit};
+ghost use Rattle.script_text.specs.Reading.{canvas_cause, word_cause, command_cause, cause_by, canvas_in, command_in, start_by, left_open, end_by, misfit};
+ghost use Rattle.script_text.specs.Read.{command_by, contents_by};
+ghost use Rattle.std.specs.Option.{option_or};
+ghost use Rattle.std.specs.Result.{result_ok};
 ghost use Rattle.script_text.specs.Read.{IsRefused, Fits, StartsAre, Answers, Takes, TakesCommand};
 
 use crate::draft::{Draft, add_last};
@@ -61,7 +64,7 @@ impl Reading {
     fn take_canvas(&mut self, number: u32, others: &[&[u8]]) -> Result<(), ReadRefusal>
         requires { Fits self.old.canvas }
         ensures refused { IsRefused result number (canvas_cause self.old.canvas (pointed others.now)) }
-        ensures canvas { OnOk result (self.new.canvas ≡ given (said_canvas (pointed others.now))) }
+        ensures canvas { OnOk result (self.new.canvas ≡ result_ok (said_canvas (pointed others.now))) }
         ensures draft { OnOk result (self.new.draft ≡ self.old.draft) }
         ensures starts { OnOk result (self.new.starts ≡ self.old.starts) }
         ensures first { OnOk result (self.old.canvas ≡ None) }

@@ -6,9 +6,9 @@ use Rattle.script_text.specs.declared.script.ScriptFault.{ScriptFault}
 use Rattle.script_text.specs.declared.script.ReadRefusal.{ReadRefusal}
 use Rattle.script_text.specs.declared.script.ReadRefusal.TheVariants.{Fault, NoMemory}
 use Rattle.script_text.specs.Script.{Contents}
-use Rattle.script_text.specs.Reading.{fault_in, fault, script_in, script}
+use Rattle.script_text.specs.Reading.{fault, script}
 use Rattle.script_text.specs.Read.{Answers}
-use Rattle.script_text.specs.Pieces.{HasRead, HasRoom}
+use Rattle.script_text.specs.Pieces.{fault_in, script_in, HasRead, HasRoom}
 use Rattle.script_lines.proofs.Pieces.{lines-append}
 use Rattle.script_text.proofs.Scanning.{few_lines}
 use Rattle.strokes_top.specs.declared.intake.Intake.{Intake}
@@ -28,11 +28,11 @@ module _ (i : Intake) (got : List ℕ) (t : HasTaken i got) where
     room_at_end few = (t.whole, t.read, omega (arith, length-append t.whole (lines text), ap length all_with, few_lines got))
 
     pub answered : (result : Result Contents ReadRefusal) → Answers result (fault_in (t.whole ++ lines text)) (script_in (t.whole ++ lines text)) → Answers result (fault got) (script got)
-    unfolding fault script
+    unfolding fault script fault_in script_in
     answered result h = subst (λ ls. Answers result (fault_in ls) (script_in ls)) (sym all_with) h
 
     pub refused : (e : ReadRefusal) → ((f : ScriptFault) (more : List Fields) → e ≡ Fault f → fault_in (t.whole ++ lines text ++ more) ≡ Some f) → Answers (Err e) (fault got) (script got)
-    unfolding fault
+    unfolding fault fault_in
     refused (Fault f) h = ap fault_in (all_with ∙ sym (append-nil (t.whole ++ lines text))) ∙ h f [] refl
     refused NoMemory h = tt
 
@@ -56,5 +56,5 @@ module _ (i : Intake) (got : List ℕ) (t : HasTaken i got) where
     }
 
     pub faulty_in : (f : ScriptFault) (more : List ℕ) → ((others : List Fields) → fault_in (t.whole ++ lines text ++ others) ≡ Some f) → fault (got ++ piece ++ more) ≡ Some f
-    unfolding fault
+    unfolding fault fault_in
     faulty_in f more h = ap fault_in (lines_cut more) ∙ h (lines (behind ++ more))

@@ -8,6 +8,7 @@ use Rattle.doc_model.specs.declared.canvas.Canvas.{Canvas}
 use Rattle.doc_model.specs.declared.command.Outcome.{Outcome}
 use Rattle.doc_model.specs.Strokes.{entries}
 use Rattle.doc_model.proofs.DoneLaws.{one_outcome_an_entry}
+use Rattle.doc_model.specs.Picture.{Frame}
 use Rattle.tile_core.specs.Frames.{Scene}
 use Rattle.ppm_out.specs.Pictures.{frame_bytes}
 use Rattle.ppm_out.specs.Scenes.{colours_of, scene_bytes}
@@ -15,7 +16,12 @@ use Rattle.log_out.specs.Summary.{sheet_of}
 use Rattle.log_out.specs.Log.{log_text, Sheet, sum_text}
 use Rattle.script_text.specs.Script.{Contents, meaning_of}
 use Rattle.solo_run.specs.Shows.{HasSides, Shows}
-use Rattle.strokes_top.specs.Run.{pictures, log, summary, sheet}
+use Rattle.strokes_top.specs.declared.choice.Emit.TheVariants as emit
+use Rattle.strokes_top.specs.Run.{output}
+
+-- a frame with the canvas's columns and rows
+abbrev sheet : Canvas → Frame → Sheet
+sheet canvas frame = record { w = canvas.w; h = canvas.h; frame = frame }
 
 pub one_each : (script : Contents) (scenes : List Scene) (outcomes : List Outcome) → Shows script scenes outcomes → length outcomes ≡ length (entries script.commands)
 one_each script scenes outcomes h =
@@ -37,7 +43,7 @@ sheets_are canvas (s ∷ scenes) h =
     let one : sheet_of s ≡ sheet canvas (colours_of s) = rw (sides.width, sides.height) refl in
     ap₂ (λ (x : Sheet) (l : List Sheet). x ∷ l) one (sheets_are canvas scenes (All-tail (HasSides canvas) s scenes h))
 
-pub pictures_are : (script : Contents) (scenes : List Scene) (outcomes : List Outcome) → Shows script scenes outcomes → flat_map scene_bytes scenes ≡ pictures script
+pub pictures_are : (script : Contents) (scenes : List Scene) (outcomes : List Outcome) → Shows script scenes outcomes → flat_map scene_bytes scenes ≡ output emit.Picture script
 pictures_are script scenes outcomes h = pixmaps_are script.canvas scenes h.sides ∙ ap (flat_map (frame_bytes script.canvas.w script.canvas.h)) h.colours
 
 -- room for a picture of the canvas's sides is room for each frame
@@ -48,10 +54,10 @@ room_each canvas n (s ∷ scenes) h sides =
     let one : 3 * (s.width * s.height) ≤ n = rw (these.width, these.height) h in
     All-cons (λ (f : Scene). 3 * (f.width * f.height) ≤ n) s scenes one (room_each canvas n scenes h (All-tail (HasSides canvas) s scenes sides))
 
-pub log_is : (script : Contents) (scenes : List Scene) (outcomes : List Outcome) → Shows script scenes outcomes → log_text (entries script.commands) outcomes ≡ log script
+pub log_is : (script : Contents) (scenes : List Scene) (outcomes : List Outcome) → Shows script scenes outcomes → log_text (entries script.commands) outcomes ≡ output emit.Log script
 log_is script scenes outcomes h = ap (log_text (entries script.commands)) h.outcomes_are
 
-pub summary_is : (script : Contents) (scenes : List Scene) (outcomes : List Outcome) → Shows script scenes outcomes → sum_text (map sheet_of scenes) outcomes ≡ summary script
+pub summary_is : (script : Contents) (scenes : List Scene) (outcomes : List Outcome) → Shows script scenes outcomes → sum_text (map sheet_of scenes) outcomes ≡ output emit.Sum script
 summary_is script scenes outcomes h = ap₂ sum_text (sheets_are script.canvas scenes h.sides ∙ ap (map (sheet script.canvas)) h.colours) h.outcomes_are
 
 -- all of the same bytes

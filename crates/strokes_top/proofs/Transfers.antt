@@ -7,7 +7,8 @@ use Rattle.io_edge.specs.declared.outside.Failed.{Failed}
 use Rattle.io_edge.specs.Told.{AppendsPrefix}
 use Rattle.script_text.specs.declared.script.ScriptFault.{ScriptFault}
 use Rattle.script_text.specs.Reading.{fault}
-use Rattle.strokes_top.specs.Run.{WasRead, HasFault, ConsumesMore, ConsumesAtMost}
+use Rattle.strokes_top.specs.Run.{WasRead, ConsumesMore, ConsumesAtMost}
+use Rattle.strokes_top.specs.Parts.{HasFault}
 
 -- all of a line is a prefix of it
 pub prefix_of_either : (r : Result (Unit {0}) Failed) (old new : Option (List ℕ)) (line : List ℕ) → OnOk r (Appends old new line) → OnErr r (AppendsPrefix old new line) → AppendsPrefix old new line

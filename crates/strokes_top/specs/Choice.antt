@@ -1,5 +1,7 @@
 -- What the words of a command line ask for.
 use Rattle.std.specs.Prelude.{ℕ, pos, true, Option, Some, None, option_map, if◌then◌else◌, List, [], ◌∷◌, codes}
+use Rattle.std.specs.Option.{option_map_or, option_zip}
+use Rattle.std.specs.Map.{lookup}
 use Rattle.std.specs.Str.{bytes_eq}
 use Rattle.std.specs.Str.Parse.{digits_value, without_leading_plus}
 use Rattle.clap.specs.declared.builder.value_parser.ValueParser.TheVariants as parser
@@ -26,20 +28,16 @@ named = on_top (λ s. record s { no_binary_name = true }) (new_app (codes "strok
 
 -- the command with its options
 abbrev pub command : App
-command = with_rule (with_rule (with_rule named (number_option (codes "workers") 16)) (option (codes "emit"))) (number_option (codes "demo") 4294967295)
+command = with_rule (with_rule (with_rule named (number_option (codes "workers") 16)) (option (codes "emit")))
+    (number_option (codes "demo") 4294967295)
 
 -- what a text names
 abbrev pub emit_named : Text → Option Emit
-emit_named text =
-    if bytes_eq text (codes "picture") then Some Picture
-    else if bytes_eq text (codes "log") then Some Log
-    else if bytes_eq text (codes "sum") then Some Sum
-    else None
+emit_named text = lookup (bytes_eq text) ((codes "picture", Picture) ∷ (codes "log", Log) ∷ (codes "sum", Sum) ∷ [])
 
 -- the picture is written where nothing is named
 abbrev pub emit_of : Option Text → Option Emit
-emit_of None = Some Picture
-emit_of (Some text) = emit_named text
+emit_of text = option_map_or emit_named text (Some Picture)
 
 -- the number of 32 bits that a text spells in decimal digits
 abbrev pub number_of : Text → Option ℕ
@@ -47,16 +45,12 @@ number_of text = if is_unsigned_in 0 4294967295 text then Some (digits_value 10 
 
 -- the number of a generated script, where one is asked for
 abbrev pub demo_of : Option Text → Option (Option ℕ)
-demo_of None = Some None
-demo_of (Some text) = option_map Some (number_of text)
-
-abbrev pub chosen : Option Emit → Option (Option ℕ) → Option Choice
-chosen (Some emit) (Some demo) = Some (record { emit = emit; demo = demo })
-chosen emit demo = None
+demo_of text = option_map_or (λ t. option_map Some (number_of t)) text (Some None)
 
 -- what the values of the options ask for
 abbrev pub choice_by : List Row → Option Choice
-choice_by rows = chosen (emit_of (one_of (codes "emit") rows)) (demo_of (one_of (codes "demo") rows))
+choice_by rows = option_map (λ c. record { emit = c.0; demo = c.1 })
+    (option_zip (emit_of (one_of (codes "emit") rows)) (demo_of (one_of (codes "demo") rows)))
 
 abbrev pub unless_fault : Kinds → Option Choice → Option Choice
 unless_fault [] choice = choice

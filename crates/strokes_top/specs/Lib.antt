@@ -5,3 +5,5 @@ pub mod Output
 pub mod Status
 pub mod Run
 pub mod Ends
+pub mod Parts
+pub mod Codes

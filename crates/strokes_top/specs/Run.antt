@@ -6,39 +6,22 @@ use Rattle.script_text.specs.Reading.{fault, script}
 use Rattle.script_text.specs.declared.script.ScriptFault.{ScriptFault}
 use Rattle.demo_gen.specs.Demo.{demo}
 use Rattle.strokes_top.specs.declared.choice.Emit.{Emit}
-use Rattle.strokes_top.specs.declared.choice.Choice.{Choice}
+use Rattle.std.specs.Option.{option_map_or}
 use Rattle.strokes_top.specs.Choice.{choice}
 use Rattle.std.specs.List.{flat_map}
-use Rattle.doc_model.specs.declared.canvas.Canvas.{Canvas}
-use Rattle.doc_model.specs.Picture.{Frame}
 use Rattle.doc_model.specs.Strokes.{entries}
 use Rattle.ppm_out.specs.Pictures.{frame_bytes}
-use Rattle.log_out.specs.Log.{Sheet, log_text, sum_text}
+use Rattle.log_out.specs.Log.{log_text, sum_text}
 use Rattle.strokes_top.specs.declared.choice.Emit.TheVariants.{Picture, Log, Sum}
 use Rattle.doc_model.specs.Meaning.{some_refused}
 use Rattle.io_edge.specs.Told.{AppendsPrefix}
 
--- a frame with the canvas's columns and rows
-abbrev pub sheet : Canvas → Frame → Sheet
-sheet canvas frame = record { w = canvas.w; h = canvas.h; frame = frame }
-
--- the frames that the script's exports mean, as pixmaps one after another
-abbrev pub pictures : Contents → List ℕ
-pictures s = flat_map (frame_bytes s.canvas.w s.canvas.h) (meaning_of s).frames
-
--- a line for each of its entries
-abbrev pub log : Contents → List ℕ
-log s = log_text (entries s.commands) (meaning_of s).outcomes
-
--- how its entries ended, and a line for each frame
-abbrev pub summary : Contents → List ℕ
-summary s = sum_text (map (sheet s.canvas) (meaning_of s).frames) (meaning_of s).outcomes
-
--- what is written of a script
+-- what is written of a script: the frames that its exports mean, as pixmaps one after another; a line for each of its entries; or how they
+-- ended, and a line for each frame
 abbrev pub output : Emit → Contents → List ℕ
-output Picture s = pictures s
-output Log s = log s
-output Sum s = summary s
+output Picture s = flat_map (frame_bytes s.canvas.w s.canvas.h) (meaning_of s).frames
+output Log s = log_text (entries s.commands) (meaning_of s).outcomes
+output Sum s = sum_text (map (λ f. record { w = s.canvas.w; h = s.canvas.h; frame = f }) (meaning_of s).frames) (meaning_of s).outcomes
 
 -- all of it was written, and whether some entry was refused
 pub record IsOutput (refusals : Bool) (before after : Option (List ℕ)) (emit : Emit) (s : Contents) : Type 0 where
@@ -53,38 +36,22 @@ IsBegun before after emit s = AppendsPrefix before after (output emit s)
 abbrev pub WasRead : Option (List ℕ) → Option (List ℕ) → (List ℕ → Type 0) → Type 0
 WasRead before after P = (bytes : List ℕ) × Consumes before after bytes × IsAtEnd after × P bytes
 
--- these bytes are a script without a fault, which has P
-abbrev pub IsGood : (Contents → Type 0) → List ℕ → Type 0
-IsGood P bytes = (fault bytes ≡ None) × IsSomeAnd (script bytes) P
-
--- the first fault of these bytes is that line and cause
-abbrev pub HasFault : ScriptFault → List ℕ → Type 0
-HasFault f bytes = fault bytes ≡ Some f
-
--- the generated script of the number has P, or that of the source's bytes where there is no number
+-- the generated script of the number has P, or, where there is no number, the source's bytes are a script without a fault, which has P
 abbrev pub IsOf : (Contents → Type 0) → Option ℕ → Option (List ℕ) → Option (List ℕ) → Type 0
 IsOf P (Some number) before after = P (demo number)
-IsOf P None before after = WasRead before after (IsGood P)
+IsOf P None before after = WasRead before after (λ bytes. (fault bytes ≡ None) × IsSomeAnd (script bytes) P)
 
 -- the command takes the words, and for what they ask for P holds of the script
 abbrev pub IsAnswered : (Emit → Contents → Type 0) → List (List ℕ) → Option (List ℕ) → Option (List ℕ) → Type 0
 IsAnswered P words before after = IsSomeAnd (choice words) (λ c. IsOf (P c.emit) c.demo before after)
 
--- no script is generated, and that of the source's bytes is refused with that line and cause
-abbrev pub IsRefused : ScriptFault → Option ℕ → Option (List ℕ) → Option (List ℕ) → Type 0
-IsRefused f number before after = (number ≡ None) × WasRead before after (HasFault f)
-
--- the command takes the words, and the script is refused with that line and cause
+-- the command takes the words, no script is generated, and the first fault of the source's bytes is that line and cause
 abbrev pub IsFaulty : ScriptFault → List (List ℕ) → Option (List ℕ) → Option (List ℕ) → Type 0
-IsFaulty f words before after = IsSomeAnd (choice words) (λ c. IsRefused f c.demo before after)
-
-abbrev pub has_number : Option Choice → Bool
-has_number None = false
-has_number (Some c) = is_some c.demo
+IsFaulty f words before after = IsSomeAnd (choice words) (λ c. (c.demo ≡ None) × WasRead before after (λ bytes. fault bytes ≡ Some f))
 
 -- the words ask for a generated script
 abbrev pub asks_for_demo : List (List ℕ) → Bool
-asks_for_demo words = has_number (choice words)
+asks_for_demo words = option_map_or (λ c. is_some c.demo) (choice words) false
 
 -- more than limit of the known bytes were taken, but no more than a piece behind the limit
 abbrev pub ConsumesMore : ℕ → ℕ → Option (List ℕ) → Option (List ℕ) → Type 0

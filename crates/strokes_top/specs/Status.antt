@@ -1,31 +1,19 @@
--- The code of a status, and the line that tells it.
+-- The line that tells a status, and what it says of the output.
 use Rattle.std.specs.Prelude.{ℕ, Bool, true, false, List, [], ◌++◌, codes}
 use Rattle.std.specs.Fmt.{decimal}
 use Rattle.strokes_top.specs.declared.status.Status.{Status}
 use Rattle.strokes_top.specs.declared.status.Status.TheVariants.{Done, DoneWithRefusals, Usage, Script, ReadFault, WriteFault, NoMemory, TooLong}
 use Rattle.script_lines.specs.Values.{text}
 
--- the exit code
-abbrev pub code_of : Status → ℕ
-code_of Done = 0
-code_of DoneWithRefusals = 1
-code_of Usage = 2
-code_of (Script line cause) = 3
-code_of ReadFault = 4
-code_of WriteFault = 5
-code_of NoMemory = 6
-code_of TooLong = 7
-
 -- the line on the error sink
 abbrev pub told_by : Status → List ℕ
-told_by Done = []
-told_by DoneWithRefusals = []
 told_by Usage = codes "strokes: usage: strokes [--workers N] [--emit picture|log|sum] [--demo NUMBER]\n"
 told_by (Script line cause) = codes "strokes: line " ++ decimal line ++ (codes ": " ++ text cause ++ codes "\n")
 told_by ReadFault = codes "strokes: reading failed\n"
 told_by WriteFault = codes "strokes: writing failed\n"
 told_by NoMemory = codes "strokes: out of memory\n"
 told_by TooLong = codes "strokes: script is longer than 1048576 bytes\n"
+told_by s = []
 
 -- whether the whole output was written
 abbrev pub is_done : Status → Bool

@@ -3,7 +3,8 @@
 ghost use Rattle.std.specs.Prelude.{◌≡◌, ◌≢◌, ◌≤◌, ℕ, true, Err, IfOk, OnErr, IfErr, IsErrOf, is_some};
 ghost use Rattle.io_edge.specs.Told.{Rose};
 ghost use Rattle.script_lines.specs.declared.cause.Cause.{Cause};
-ghost use Rattle.strokes_top.specs.Run.{WasRead, IsGood, HasFault, IsOf, IsRefused, ConsumesMore, ConsumesAtMost};
+ghost use Rattle.strokes_top.specs.Run.{WasRead, IsOf, ConsumesMore, ConsumesAtMost};
+ghost use Rattle.strokes_top.specs.Parts.{IsGood, HasFault, IsRefused};
 ghost use Rattle.strokes_top.specs.Ends.{is_of_script};
 
 use crate::intake::Intake;

@@ -27,7 +27,7 @@ pub enum Status {
 }
 
 impl Status {
-    ghost use Rattle.strokes_top.specs.Status.{code_of};
+    ghost use Rattle.strokes_top.specs.Codes.{code_of};
 
     /// That of a script with that fault.
     pub(crate) fn of_fault(fault: ScriptFault) -> Status

@@ -1,8 +1,8 @@
 use Rattle.std.proofs.Common.{rules, ◌≡◌, ◌==◌, ◌||◌, ◌∙◌, ◌+◌, ◌<◌, ◌≤◌, ◌∷◌, [], ◌++◌, true, false, length, get_or, take, map, ap, sym, subst, arith}
 use Rattle.std.proofs.lemmas.List.{take_all}
 use Rattle.std.specs.List.{filter}
-use Rattle.script_lines.specs.Lines.{fields, lines, is_some_field, is_blank}
-use Rattle.script_lines.specs.Fronts.{pointed}
+use Rattle.script_lines.specs.Lines.{fields, lines, is_blank}
+use Rattle.script_lines.specs.Fronts.{is_some_field, pointed}
 use Rattle.script_lines.proofs.Pieces.{NonePasses, IsDone, piece, none_more, first_piece, only_piece, line_done, piece_done, left_holds, or_false_left, or_false_right}
 use Rattle.script_lines.proofs.lines.next_fields.Goals as goal
 use Rattle.script_lines.proofs.lines.next_fields.Goals.{then-ends_piece+in_ok-add_piece+else-byte-eq10, else-ends_piece}

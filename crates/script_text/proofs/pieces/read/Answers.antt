@@ -1,7 +1,8 @@
 use Rattle.std.proofs.Common.{rules, ◌≡◌, ℕ, List, [], ◌++◌, ◌∙◌, sym, ap, refl, subst, Some, Err, arith}
 use Rattle.std.proofs.lemmas.List.{append-nil}
 use Rattle.script_lines.specs.Lines.{lines}
-use Rattle.script_text.specs.Reading.{fault_in, script_in, fault, script}
+use Rattle.script_text.specs.Reading.{fault, script}
+use Rattle.script_text.specs.Pieces.{fault_in, script_in}
 use Rattle.script_text.specs.Read.{Answers}
 use Rattle.script_text.specs.declared.script.ScriptFault.{ScriptFault}
 use Rattle.script_text.specs.declared.script.ReadRefusal.{ReadRefusal}
@@ -18,7 +19,7 @@ refused_whole ls (Fault f) h = ap fault_in (sym (append-nil ls)) ∙ h f refl
 refused_whole ls NoMemory h = tt
 
 pub returns-in_err-feed : goal.returns-in_err-feed
-unfolding fault script
+unfolding fault script fault_in script_in
 returns-in_err-feed c =
     let ls = lines c.args.bytes.now in
     let e = c.in_err-feed.field-0.0 in
@@ -26,5 +27,5 @@ returns-in_err-feed c =
     subst (λ x. Answers x (fault_in ls) (script_in ls)) (sym err) (refused_whole ls e (λ f is. c.in_err-feed.ensures.fault [] [] f c.in_ok-new.ensures (ap Err is)))
 
 pub returns : goal.returns
-unfolding fault script
+unfolding fault script fault_in script_in
 returns c = c.finish.ensures (lines c.args.bytes.now) (c.in_ok-feed.ensures.ok [] c.in_ok-new.ensures)

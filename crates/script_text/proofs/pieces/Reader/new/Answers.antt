@@ -1,5 +1,5 @@
 use Rattle.std.proofs.Common.{refl}
-use Rattle.script_text.specs.Reading.{fault_in}
+use Rattle.script_text.specs.Pieces.{fault_in}
 use Rattle.script_text.proofs.pieces.Reader.new.Goals as goal
 
 pub returns : goal.returns

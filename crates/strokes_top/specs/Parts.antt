@@ -1,0 +1,18 @@
+-- Parts of what is told of a source.
+use Rattle.std.specs.Prelude.{◌≡◌, ℕ, List, Option, Some, None, IsSomeAnd}
+use Rattle.script_text.specs.declared.script.ScriptFault.{ScriptFault}
+use Rattle.script_text.specs.Script.{Contents}
+use Rattle.script_text.specs.Reading.{fault, script}
+use Rattle.strokes_top.specs.Run.{WasRead}
+
+-- these bytes are a script without a fault, which has P
+abbrev pub IsGood : (Contents → Type 0) → List ℕ → Type 0
+IsGood P bytes = (fault bytes ≡ None) × IsSomeAnd (script bytes) P
+
+-- the first fault of these bytes is that line and cause
+abbrev pub HasFault : ScriptFault → List ℕ → Type 0
+HasFault f bytes = fault bytes ≡ Some f
+
+-- no script is generated, and that of the source's bytes is refused with that line and cause
+abbrev pub IsRefused : ScriptFault → Option ℕ → Option (List ℕ) → Option (List ℕ) → Type 0
+IsRefused f number before after = (number ≡ None) × WasRead before after (HasFault f)
