@@ -19,7 +19,7 @@ const BLOCKS: u32 = 12;
 /// # Errors
 /// `NoMemory`.
 pub fn drawn_script(alloc: Global, seed: u64) -> Result<Option<Script>, NoMemory> {
-    let mut draws = Draws { state: seed };
+    let mut draws = Draws::new(seed);
     let canvas = Canvas {
         w: 70,
         h: 3,
@@ -40,13 +40,18 @@ pub fn drawn_script(alloc: Global, seed: u64) -> Result<Option<Script>, NoMemory
 
 /// A generator of numbers that are the same on every machine.
 #[derive(Drop)]
-struct Draws {
+pub struct Draws {
     state: u64,
 }
 
 impl Draws {
+    /// The generator of that seed.
+    pub fn new(seed: u64) -> Draws {
+        Draws { state: seed }
+    }
+
     /// A number below n.
-    fn below(&mut self, n: u32) -> u32
+    pub fn below(&mut self, n: u32) -> u32
         requires { 1 ≤ n }
         ensures { result < n }
     {
@@ -61,7 +66,7 @@ impl Draws {
     }
 
     /// Whether one of n was drawn.
-    fn once_in(&mut self, n: u32) -> bool
+    pub fn once_in(&mut self, n: u32) -> bool
         requires { 1 ≤ n }
     {
         self.below(n) == 0

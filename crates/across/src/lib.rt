@@ -11,5 +11,5 @@ mod plain;
 mod spots;
 mod telling;
 
-pub use drawn::drawn_script;
+pub use drawn::{Draws, drawn_script};
 pub use plain::{Told, plain_frames};

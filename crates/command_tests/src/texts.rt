@@ -238,9 +238,15 @@ fn summaries(rt: HostRuntime) -> Result<(), Fail> {
 fn usage(rt: HostRuntime) -> Result<(), Fail> {
     for words in [
         "--workers 17",
-        "--help",
-        "--emit trace",
+        "--workers -1",
+        "--workers",
         "--demo 4294967296",
+        "--demo one",
+        "--emit trace",
+        "--emit log --emit log",
+        "--help",
+        "-h",
+        "--loud",
         "log",
     ] {
         let got = ran(&rt, rt.alloc(), words, b"canvas 1 1\nexport\n")?;
@@ -273,17 +279,7 @@ fn faults_of_streams(rt: HostRuntime) -> Result<(), Fail> {
         out,
         sink_of(alloc, 128)?,
     )?;
-    assert_eq!(rt; got.code, 5);
-    assert!(rt; b"P6\n1 1\n255\n\xff\xff\xff".starts_with(&got.out));
-    assert_eq!(rt; got.err.as_slice(), b"strokes: writing failed\n".as_slice());
-    Ok(())
-}
-
-#[test]
-fn too_long(rt: HostRuntime) -> Result<(), Fail> {
-    let script = repeated(rt.alloc(), b"", &[(1_048_577, b"#")])?;
-    let got = ran(&rt, rt.alloc(), "", &script)?;
-    assert!(rt; got.is(7, b"", b"strokes: script is longer than 1048576 bytes\n"));
+    assert!(rt; got.is(5, b"P6\n", b"strokes: writing failed\n"));
     Ok(())
 }
 
@@ -292,7 +288,6 @@ fn too_long(rt: HostRuntime) -> Result<(), Fail> {
 fn out_of_memory(rt: HostRuntime) -> Result<(), Fail> {
     let mut err = sink_of(rt.alloc(), 128)?;
     let status = report(rt.alloc(), &mut err, Status::NoMemory);
-    assert_eq!(rt; status, Status::NoMemory);
     assert_eq!(rt; status.code(), 6);
     assert_eq!(rt; err.bytes(), b"strokes: out of memory\n".as_slice());
     Ok(())

@@ -1,4 +1,4 @@
-//! Tests of scripts, from their text to what they paint: texts, pictures and logs worked out from
+//! Tests of scripts, from their text to what they paint: texts and pictures worked out from
 //! outside. They stand above the crates that they test, so that each of those is proved once.
 #![tactic(auto)]
 
@@ -8,8 +8,6 @@ mod compared;
 mod fixtures;
 #[cfg(test)]
 mod generated;
-#[cfg(test)]
-mod logs;
 #[cfg(test)]
 mod painted;
 #[cfg(test)]

@@ -1,0 +1,11 @@
+pub mod Newest
+pub mod Noted
+pub mod Parts
+pub mod Tied
+pub mod After
+pub mod Enabled
+pub mod Counting
+pub mod Choices
+pub mod Cached
+pub mod Settles
+pub mod Painted

@@ -1,0 +1,47 @@
+-- What shots show of the rectangles that a job reads.
+use Rattle.std.proofs.Common.{◌≡◌, true, ◌&&◌, List, [], ◌∷◌, sym, ap, ◌∙◌, refl, inl, inr}
+use Rattle.std.specs.List.{list_any, list_all}
+use Rattle.geom_core.specs.Areas.{Area, Point, holds, lies_in}
+use Rattle.geom_core.specs.Overlaps.{any_holds}
+use Rattle.geom_core.proofs.Tests.{and_left, and_right, both_true, or_cases, taken}
+use Rattle.tile_core.specs.Shots.{Sight, sight_at, SameShots}
+use Rattle.doc_model.specs.Layers.{at, plain}
+use Rattle.doc_model.specs.Laws.{SameOn}
+use Rattle.doc_model.proofs.LayerLaws.{at-painted, default-painted}
+use Rattle.job_core.specs.Paints.{layer_of}
+use Rattle.job_core.proofs.Values.{seen_at}
+
+-- the shot's layer has the shot's default pixel
+default-layer_of : (s : Sight) → (layer_of s).default_pixel ≡ s.default_pixel
+unfolding layer_of plain
+default-layer_of s = default-painted s.rects (λ _. true) (sight_at s) (plain s.default_pixel)
+
+-- on the shot's own rectangles the layer has the shot's pixels
+own_seen : (s : Sight) (p : Point) → any_holds s.rects p ≡ true → at (layer_of s) p ≡ sight_at s p
+unfolding layer_of
+own_seen s p h = at-painted s.rects (λ _. true) (sight_at s) (plain s.default_pixel) p ∙ taken (any_holds s.rects p && true) (sight_at s p) (at (plain s.default_pixel) p) (both_true _ _ h refl)
+
+-- and on all that they cover
+covered_seen : (s : Sight) (rects : List Area) (p : Point) → list_all (λ (a : Area). list_any (lies_in a) s.rects) rects ≡ true → any_holds rects p ≡ true → at (layer_of s) p ≡ sight_at s p
+covered_seen s [] p l h = cc
+covered_seen s (a ∷ rest) p l h = elim (or_cases (holds a p) (any_holds rest p) h) [
+  | inl e ↦ seen_at s a p (and_left _ _ l) e
+  | inr e ↦ covered_seen s rest p (and_right _ _ l) e
+]
+
+-- a shot that covers the rectangles, and one of them
+module _ (rects : List Area) (s kept : Sight) (whole : kept.rects ≡ rects) (covers : list_all (λ (a : Area). list_any (lies_in a) s.rects) rects ≡ true) where
+  kept_seen : (p : Point) → any_holds rects p ≡ true → at (layer_of kept) p ≡ sight_at kept p
+  kept_seen p h = own_seen kept p (ap (λ rs. any_holds rs p) whole ∙ h)
+
+  pub same_layers : SameShots rects s kept → SameOn rects (layer_of s) (layer_of kept)
+  same_layers same = record {
+    default_pixel = default-layer_of s ∙ same.default_pixel ∙ sym (default-layer_of kept);
+    pixels = λ p h. covered_seen s rects p covers h ∙ same.pixels p h ∙ sym (kept_seen p h);
+  }
+
+  pub same_sights : SameOn rects (layer_of s) (layer_of kept) → SameShots rects s kept
+  same_sights same = record {
+    default_pixel = sym (default-layer_of s) ∙ same.default_pixel ∙ default-layer_of kept;
+    pixels = λ p h. sym (covered_seen s rects p covers h) ∙ same.pixels p h ∙ kept_seen p h;
+  }
