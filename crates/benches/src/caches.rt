@@ -25,26 +25,15 @@ const ORIGIN: TileKey = TileKey { row: 0, col: 0 };
 enum Work {
     /// 16 KiB are copied into a new allocation.
     Copy,
-    /// 32 rows of 32 pixels are copied from a tile to a tile.
-    RowCopies,
     /// A whole tile is published.
     Whole,
-    /// 32 by 32 pixels are published into a tile that nobody shares.
-    Alone,
-    /// The same into a tile that somebody shares, as a walk at work does, which is let go then.
+    /// 32 by 32 pixels are published into a tile that somebody shares, as a walk at work does, which is let go then.
     Shared,
     /// A clear picture is published over a whole tile.
     Clear,
 }
 
-const WORKS: [Work; 6] = [
-    Work::Copy,
-    Work::RowCopies,
-    Work::Whole,
-    Work::Alone,
-    Work::Shared,
-    Work::Clear,
-];
+const WORKS: [Work; 4] = [Work::Copy, Work::Whole, Work::Shared, Work::Clear];
 
 /// What the works are done with.
 #[derive(Drop)]
@@ -54,7 +43,6 @@ struct Things {
     walked: Given,
     clear: Given,
     part: Rect,
-    pixels: Vec<Pixel>,
 }
 
 /// A picture of a walk, and the root's cache.
@@ -67,7 +55,6 @@ fn made(alloc: Global) -> Result<Things, NoMemory> {
         tile,
         clear: Given::Plain(Pixel::CLEAR),
         part: part(),
-        pixels: vec![in alloc; Pixel::CLEAR; 4096]?,
     })
 }
 
@@ -85,17 +72,6 @@ fn publish(caches: &mut Caches, rect: &Rect, given: &Given) -> Result<u32, NoMem
         caches.put(0, rect, ORIGIN, given)?;
     }
     Ok(0)
-}
-
-/// Copies the rows of the part from the tile.
-fn copy_rows(pixels: &mut [Pixel], tile: &Tile) -> u32 {
-    if pixels.len() == 4096 {
-        for row in 8..40usize {
-            let at = 64 * row + 8;
-            pixels[at..at + 32].copy_from_slice(&tile.pixels()[at..at + 32]);
-        }
-    }
-    begins_with(pixels)
 }
 
 /// 1 where the first pixel is clear.
@@ -124,9 +100,7 @@ fn once(alloc: Global, things: &mut Things, work: Work) -> Result<u32, NoMemory>
             let pixels = Vec::from_slice(alloc, things.tile.pixels())?;
             Ok(begins_with(&pixels))
         }
-        Work::RowCopies => Ok(copy_rows(&mut things.pixels, &things.tile)),
         Work::Whole => publish(&mut things.caches, &ORIGIN.rect(), &things.walked),
-        Work::Alone => publish(&mut things.caches, &things.part, &things.walked),
         Work::Shared => publish_shared(things),
         Work::Clear => publish(&mut things.caches, &ORIGIN.rect(), &things.clear),
     }
@@ -161,8 +135,8 @@ fn many(alloc: Global, things: &mut Things, work: Work) -> Result<u32, NoMemory>
 }
 
 /// The least times of all works.
-fn least_times(clock: &impl Clock, alloc: Global, things: &mut Things) -> io::Result<[u64; 6]> {
-    let mut least = [u64::MAX; 6];
+fn least_times(clock: &impl Clock, alloc: Global, things: &mut Things) -> io::Result<[u64; 4]> {
+    let mut least = [u64::MAX; 4];
     for _round in 0..ROUNDS {
         for i in 0..WORKS.len() {
             least[i] = least[i].min(round(clock, alloc, things, WORKS[i])?);
@@ -176,16 +150,9 @@ pub fn measure(rt: &(impl Print + Clock), alloc: Global) -> io::Result<()> {
     let Ok(mut things) = made(alloc) else {
         return println!(rt; "benches: no memory");
     };
-    let [copy, rows, whole, alone, shared, clear] = least_times(rt, alloc, &mut things)?;
+    let [copy, whole, shared, clear] = least_times(rt, alloc, &mut things)?;
     println!(rt; "times a copy of 16 KiB into a new allocation:")?;
     print_ratio(rt, "put of a whole tile", whole, copy)?;
     print_ratio(rt, "put of a clear picture on a whole tile", clear, copy)?;
-    print_ratio(rt, "put of 32 by 32 pixels on a shared tile", shared, copy)?;
-    println!(rt; "times 32 rows of 32 pixels copied from a tile:")?;
-    print_ratio(
-        rt,
-        "put of 32 by 32 pixels on a tile of its own",
-        alone,
-        rows,
-    )
+    print_ratio(rt, "put of 32 by 32 pixels on a shared tile", shared, copy)
 }

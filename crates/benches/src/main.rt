@@ -2,13 +2,9 @@
 #![tactic(auto)]
 
 mod caches;
-mod frames;
 mod mementos;
 mod rows;
 mod stopwatch;
-mod strokes;
-mod tiles;
-mod trees;
 mod updates;
 mod walks;
 
@@ -19,12 +15,8 @@ use std::{env, io};
 /// What the program says to one who names nothing to measure.
 const USAGE: &str = "benches: pass one of these words, or all
 caches
-frames
 mementos
 rows
-strokes
-tiles
-trees
 updates
 walks";
 
@@ -34,23 +26,11 @@ fn measure(rt: &(impl Print + Clock), alloc: Global, word: &str) -> io::Result<(
     if all || word == "caches" {
         caches::measure(rt, alloc)?;
     }
-    if all || word == "frames" {
-        frames::measure(rt, alloc)?;
-    }
     if all || word == "mementos" {
         mementos::measure(rt, alloc)?;
     }
     if all || word == "rows" {
         rows::measure(rt)?;
-    }
-    if all || word == "strokes" {
-        strokes::measure(rt, alloc)?;
-    }
-    if all || word == "tiles" {
-        tiles::measure(rt, alloc)?;
-    }
-    if all || word == "trees" {
-        trees::measure(rt, alloc)?;
     }
     if all || word == "updates" {
         updates::measure(rt)?;

@@ -40,10 +40,6 @@ enum Work {
     Colour,
     /// `lay_masked`.
     Masked,
-    /// `lay_colour`, a pixel a call.
-    Singles,
-    /// `lay_masked`, a pixel a call.
-    MaskedSingles,
 }
 
 /// Rows of sources, and the rows that they are laid on.
@@ -105,22 +101,6 @@ fn lay_pixels(op: Op, sources: &[Pixel], backdrop: &mut [Pixel]) {
     }
 }
 
-/// Lays the colour on each pixel by a call of its own.
-#[inline(never)]
-fn lay_singles(op: Op, colour: Pixel, backdrop: &mut [Pixel]) {
-    for i in 0..backdrop.len() {
-        lay_colour(op, colour, 255, &mut backdrop[i..i + 1]);
-    }
-}
-
-/// The same with a mask.
-#[inline(never)]
-fn lay_masked_singles(op: Op, colour: Pixel, mask: &[u8], backdrop: &mut [Pixel]) {
-    for i in 0..backdrop.len().min(mask.len()) {
-        lay_masked(op, colour, &mask[i..i + 1], &mut backdrop[i..i + 1]);
-    }
-}
-
 /// Lays one row.
 #[inline(never)]
 fn lay(work: Work, rows: &Rows, sources: &[Pixel; WIDTH], backdrop: &mut [Pixel; WIDTH]) {
@@ -129,8 +109,6 @@ fn lay(work: Work, rows: &Rows, sources: &[Pixel; WIDTH], backdrop: &mut [Pixel;
         Work::Sources => lay_sources(rows.op, sources, 255, backdrop),
         Work::Colour => lay_colour(rows.op, sources[0], 255, backdrop),
         Work::Masked => lay_masked(rows.op, sources[0], &rows.mask, backdrop),
-        Work::Singles => lay_singles(rows.op, sources[0], backdrop),
-        Work::MaskedSingles => lay_masked_singles(rows.op, sources[0], &rows.mask, backdrop),
     }
 }
 
@@ -183,8 +161,6 @@ fn measure_on(
     print_pixel(rt, "sources", Work::Sources, &rows)?;
     print_pixel(rt, "colour", Work::Colour, &rows)?;
     print_pixel(rt, "mask", Work::Masked, &rows)?;
-    print_pixel(rt, "one colour", Work::Singles, &rows)?;
-    print_pixel(rt, "one mask", Work::MaskedSingles, &rows)?;
     println!(rt; "")
 }
 

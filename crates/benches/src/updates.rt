@@ -21,31 +21,16 @@ const CALLS: u32 = 2_000;
 enum Work {
     /// A pass over 64 plain places that looks for a walk and a cell and doesn't stop.
     Pass,
-    /// `Updates::add` of a point in the cell of the one before.
-    Again,
     /// `Updates::add` of a point of another cell than the one before.
     ByTurns,
-    /// `Updates::add` of a point of a walk without a patch, where patches of all groups cover all.
-    Covered,
     /// `Updates::take_at` of the last patch, and `Updates::add` of a rectangle in two cells for which there is no place.
     Anew,
 }
 
-const WORKS: [Work; 5] = [
-    Work::Pass,
-    Work::Again,
-    Work::ByTurns,
-    Work::Covered,
-    Work::Anew,
-];
+const WORKS: [Work; 3] = [Work::Pass, Work::ByTurns, Work::Anew];
 
 /// The names of the works after the pass, in their order.
-const NAMES: [&str; 4] = [
-    "add into the cell of the one before",
-    "add into another cell",
-    "add where all groups cover all",
-    "add that begins anew",
-];
+const NAMES: [&str; 2] = ["add into another cell", "add that begins anew"];
 
 /// A place as plain as can be: the walk, and the corner of its rectangle.
 #[derive(Clone, Copy)]
@@ -127,12 +112,10 @@ fn passed(plain: &[Place; 64], walk: u16, left: u32, top: u32) -> u32 {
 
 /// Does a work once. What comes back keeps the work from being left out.
 fn once(things: &mut Things, work: Work, i: u32) -> u32 {
-    let (first, turn, pair) = (things.points[0], things.points[i as usize % 4], things.pair);
+    let (turn, pair) = (things.points[i as usize % 4], things.pair);
     match work {
         Work::Pass => passed(&things.plain, 0, i % 2048, i % 1999),
-        Work::Again => added(&mut things.root, Walk::Up(0), first),
         Work::ByTurns => added(&mut things.root, Walk::Up(0), turn),
-        Work::Covered => added(&mut things.all, Walk::Up(3), turn),
         Work::Anew => {
             if things.all.len() == 64 {
                 let _last = things.all.take_at(63);
@@ -159,8 +142,8 @@ fn round(clock: &impl Clock, things: &mut Things, work: Work) -> io::Result<u64>
 }
 
 /// The least times of all works.
-fn least_times(clock: &impl Clock, things: &mut Things) -> io::Result<[u64; 5]> {
-    let mut least = [u64::MAX; 5];
+fn least_times(clock: &impl Clock, things: &mut Things) -> io::Result<[u64; 3]> {
+    let mut least = [u64::MAX; 3];
     for _round in 0..ROUNDS {
         for i in 0..WORKS.len() {
             least[i] = least[i].min(round(clock, things, WORKS[i])?);

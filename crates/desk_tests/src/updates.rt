@@ -60,45 +60,23 @@ fn all_on_cells(rt: &impl Abort, updates: &Updates) -> bool {
     same
 }
 
+/// Whether the patches are those of the walk with these corners and sides.
+fn has_parts(rt: &impl Abort, updates: &Updates, walk: Walk, parts: [(i32, i32, u32, u32); 4]) {
+    assert_eq!(rt; updates.len(), 4);
+    for i in 0..4 {
+        let (x, y, w, h) = parts[i];
+        let rect = rect(rt, x, y, w, h);
+        assert!(rt; patch(rt, updates, i) == Patch { walk, rect });
+    }
+}
+
 #[test]
 fn full_list_begins_anew(rt: HostRuntime) {
     let mut updates = one_in_each_cell(&rt);
-    assert_eq!(rt; updates.len(), 64);
     updates.add(Walk::Up(0), rect(&rt, 5, 5, 1, 1));
-    assert_eq!(rt; updates.len(), 64);
-    let walk = Walk::Up(0);
-    let corner = rect(&rt, 0, 0, 6, 6);
+    let (walk, corner) = (Walk::Up(0), rect(&rt, 0, 0, 6, 6));
     assert!(rt; patch(&rt, &updates, 0) == Patch { walk, rect: corner });
-    let updates = begun_anew(&rt);
-    assert!(rt; all_on_cells(&rt, &updates));
-    let last = rect(&rt, 1792, 1792, 1, 1);
-    assert!(rt; patch(&rt, &updates, 63).rect == last);
-}
-
-#[test]
-fn what_all_groups_cover_changes_nothing(rt: HostRuntime) {
-    let mut updates = begun_anew(&rt);
-    updates.add(Walk::Up(7), rect(&rt, 100, 100, 900, 900));
-    updates.refresh(rect(&rt, 1000, 1000, 793, 793));
-    updates.add(Walk::All, rect(&rt, 1792, 1792, 1, 1));
-    updates.add(Walk::Up(7), rect(&rt, 0, 0, 1793, 1793));
-    assert!(rt; all_on_cells(&rt, &updates));
-    updates.add(Walk::Up(7), rect(&rt, 1793, 0, 1, 1));
-    assert_eq!(rt; updates.len(), 64);
-    let whole = rect(&rt, 1792, 0, 2, 256);
-    assert!(rt; patch(&rt, &updates, 7).rect == whole);
-}
-
-#[test]
-fn place_that_is_taken_out_is_free(rt: HostRuntime) {
-    let mut updates = begun_anew(&rt);
-    assert!(rt; 1 < updates.len());
-    let _first = updates.take_at(0);
-    updates.add(Walk::Up(3), rect(&rt, 5, 5, 1, 1));
-    assert_eq!(rt; updates.len(), 64);
-    let walk = Walk::Up(3);
-    let corner = rect(&rt, 5, 5, 1, 1);
-    assert!(rt; patch(&rt, &updates, 63) == Patch { walk, rect: corner });
+    assert!(rt; all_on_cells(&rt, &begun_anew(&rt)));
 }
 
 #[test]
@@ -112,7 +90,6 @@ fn running_walkers_are_avoided(rt: HostRuntime) {
     let walk = Walk::All;
     let last = rect(&rt, 1792, 1792, 1, 1);
     assert!(rt; updates.take(&running[..63]) == Some(Patch { walk, rect: last }));
-    assert_eq!(rt; updates.len(), 63);
 }
 
 #[test]
@@ -120,29 +97,15 @@ fn parts_join_in_order(rt: HostRuntime) {
     let mut updates = nothing(&rt);
     updates.add(Walk::Up(1), rect(&rt, 300, 10, 10, 10));
     updates.add(Walk::Up(1), rect(&rt, -20, 0, 400, 300));
-    assert_eq!(rt; updates.len(), 4);
-    let table = [
+    let parts = [
         (256, 0, 124, 256),
         (0, 0, 256, 256),
         (0, 256, 256, 44),
         (256, 256, 124, 44),
     ];
-    let walk = Walk::Up(1);
-    for i in 0..4 {
-        let (x, y, w, h) = table[i];
-        let part = rect(&rt, x, y, w, h);
-        assert!(rt;
-            patch(&rt, &updates, i) == Patch { walk, rect: part },
-            "patch {i}"
-        );
-    }
+    has_parts(&rt, &updates, Walk::Up(1), parts);
     let corner = [rect(&rt, 200, 200, 60, 10)];
     assert!(rt; updates.peek(&corner) == Some(patch(&rt, &updates, 2)));
-    assert!(rt; updates.len() == 4);
-    let second = rect(&rt, 0, 0, 256, 256);
-    assert!(rt; updates.take_at(1) == Patch { walk, rect: second });
-    let third = rect(&rt, 0, 256, 256, 44);
-    assert!(rt; patch(&rt, &updates, 1) == Patch { walk, rect: third });
 }
 
 #[test]
@@ -150,24 +113,14 @@ fn refresh_covers_what_waited(rt: HostRuntime) {
     let mut updates = nothing(&rt);
     updates.add(Walk::Up(1), rect(&rt, 300, 10, 10, 10));
     updates.refresh(rect(&rt, 5000, 5000, 1, 1));
-    assert_eq!(rt; updates.len(), 1, "nothing of it is left");
     updates.refresh(rect(&rt, 500, 250, 20, 10));
-    let table = [
+    let parts = [
         (300, 10, 212, 246),
         (512, 10, 8, 246),
         (300, 256, 212, 4),
         (512, 256, 8, 4),
     ];
-    let walk = Walk::All;
-    assert_eq!(rt; updates.len(), 4);
-    for i in 0..4 {
-        let (x, y, w, h) = table[i];
-        let part = rect(&rt, x, y, w, h);
-        assert!(rt;
-            patch(&rt, &updates, i) == Patch { walk, rect: part },
-            "patch {i}"
-        );
-    }
+    has_parts(&rt, &updates, Walk::All, parts);
 }
 
 /// Takes what may pass from thread to thread.

@@ -24,20 +24,23 @@ fn red_dot(alloc: Global, part: Rect) -> Result<Shot, NoMemory> {
 #[test]
 fn a_red_dot(rt: HostRuntime) -> Result<(), Fail> {
     let alloc = rt.alloc();
-    let ninth = Pixel::new(255, 0, 0, 28);
+    let (ninth, clear) = (Pixel::new(255, 0, 0, 28), Pixel::CLEAR);
     let part = rect(&rt, 0, 0, 5, 3);
     let shot = red_dot(alloc, part)?;
-    let block = blur_block(alloc, &shot, ORIGIN, &part, 1)?;
-    crosses(&block);
-    assert_eq!(rt; block.at(0, 0), ninth);
-    assert_eq!(rt; block.at(2, 1), ninth);
-    assert_eq!(rt; block.at(3, 0), Pixel::CLEAR);
-    assert_eq!(rt; block.at(1, 2), Pixel::CLEAR);
-    let block = blur_block(alloc, &shot, ORIGIN, &part, 2)?;
-    assert_eq!(rt; block.at(3, 2), Pixel::new(255, 0, 0, 10));
-    assert_eq!(rt; block.at(4, 0), Pixel::CLEAR);
-    let block = blur_block(alloc, &shot, ORIGIN, &part, 16)?;
-    assert_eq!(rt; block.at(1, 0), Pixel::CLEAR);
+    for (r, x, y, want) in [
+        (1, 0, 0, ninth),
+        (1, 2, 1, ninth),
+        (1, 3, 0, clear),
+        (1, 1, 2, clear),
+        (2, 3, 2, Pixel::new(255, 0, 0, 10)),
+        (2, 4, 0, clear),
+        (16, 1, 0, clear),
+    ] {
+        assert!(rt; 1 <= r && r <= 16 && part.holds(x, y));
+        let block = blur_block(alloc, &shot, ORIGIN, &part, r)?;
+        crosses(&block);
+        assert_eq!(rt; block.at(x, y), want);
+    }
     Ok(())
 }
 

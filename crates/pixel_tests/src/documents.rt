@@ -1,7 +1,7 @@
-//! Jobs, outcomes and canvases worked out by hand.
+//! What jobs read and write, and their limits, worked out by hand.
 
 use crate::fixtures::rect;
-use doc_model::{Canvas, Job, Outcome, TreeFault};
+use doc_model::Job;
 use geom_core::Rect;
 use pixel_core::{Op, Pixel};
 
@@ -67,18 +67,21 @@ fn reads_and_writes(rt: HostRuntime) {
         op: Op::Over,
         strength: 255,
     };
-    assert!(rt; looks_at(&fill, &[small], &[small]));
     let square = rect(&rt, 3, 4, 5, 5);
-    assert!(rt; looks_at(&dab(5, 6, 2), &[square], &[square]));
+    let grown = rect(&rt, 8, 18, 7, 8);
     let both = [small, rect(&rt, -90, 27, 3, 4)];
-    assert!(rt; looks_at(&moving(small, -100, 7), &both, &both));
-    assert!(rt;
-        looks_at(
-            &Job::Blur { rect: small, r: 2 },
-            &[rect(&rt, 8, 18, 7, 8)],
-            &[small]
-        )
-    );
+    for (job, reads, writes) in [
+        (fill, [small].as_slice(), [small].as_slice()),
+        (dab(5, 6, 2), [square].as_slice(), [square].as_slice()),
+        (moving(small, -100, 7), both.as_slice(), both.as_slice()),
+        (
+            Job::Blur { rect: small, r: 2 },
+            [grown].as_slice(),
+            [small].as_slice(),
+        ),
+    ] {
+        assert!(rt; looks_at(&job, reads, writes));
+    }
 }
 
 #[test]
@@ -113,37 +116,4 @@ fn limits(rt: HostRuntime) {
     for (job, within) in rows {
         assert_eq!(rt; job.is_within_limits(), within);
     }
-}
-
-#[test]
-fn refusals(rt: HostRuntime) {
-    let rows = [
-        (Outcome::Done, false),
-        (Outcome::Cancelled, false),
-        (
-            Outcome::Overlap {
-                first: 1,
-                second: 3,
-            },
-            true,
-        ),
-        (Outcome::NoLayer(8), true),
-        (Outcome::NotPaint(1), true),
-        (Outcome::Tree(TreeFault::BadPlace(2)), true),
-        (Outcome::NothingToUndo, true),
-        (Outcome::NothingToRedo, true),
-    ];
-    for (outcome, refused) in rows {
-        assert_eq!(rt; outcome.refused(), refused);
-    }
-}
-
-#[test]
-fn shown(rt: HostRuntime) {
-    let canvas = Canvas {
-        w: 800,
-        h: 2048,
-        paper: Pixel::new(255, 255, 255, 255),
-    };
-    assert_eq!(rt; canvas.rect(), rect(&rt, 0, 0, 800, 2048));
 }

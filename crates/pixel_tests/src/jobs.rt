@@ -1,4 +1,4 @@
-//! Jobs painted on their first tile, and that each job's call can succeed.
+//! Jobs painted on their first tile from a shot and in place, and that each job's call can succeed.
 
 ghost use Rattle.std.specs.Prelude.{◌≡◌, ◌↔◌, ◌<◌, true, All, IsTrue};
 ghost use Rattle.std.specs.List.{list_any, list_all};
@@ -22,7 +22,7 @@ const RED: [u8; 4] = [255, 0, 0, 255];
 
 const BLUE: [u8; 4] = [0, 0, 255, 255];
 
-/// The pixel of the shot where nothing was painted.
+/// The pixel where nothing was painted.
 const GROUND: [u8; 4] = [1, 2, 3, 77];
 
 fn pixel(bytes: [u8; 4]) -> Pixel {
@@ -39,35 +39,34 @@ fn filling(rect: Rect, bytes: [u8; 4], strength: u8) -> Job {
     }
 }
 
-fn dab(x: i32, y: i32, r: u8, soft: bool) -> Job {
+/// A dab of radius 1.
+fn dab(x: i32, y: i32, soft: bool, bytes: [u8; 4]) -> Job {
     Job::Dab {
         x,
         y,
-        r,
+        r: 1,
         soft,
-        colour: pixel(RED),
+        colour: pixel(bytes),
         op: Op::Over,
         strength: 255,
     }
 }
 
-/// A tile with a red pixel at a place, and the ground elsewhere.
-fn red_tile(alloc: Global, place: usize) -> Result<Tile, NoMemory>
-    requires { place < 4096 }
-{
+/// A tile with a red pixel at (1, 1), and the ground elsewhere.
+fn red_spot(alloc: Global) -> Result<Tile, NoMemory> {
     let mut pixels = vec![in alloc; pixel(GROUND); 4096]?;
-    pixels[place] = pixel(RED);
+    pixels[65] = pixel(RED);
     Tile::from_pixels(alloc, pixels)
 }
 
-/// A shot of the world. It has a red pixel at (0, 0), and its ground elsewhere.
-fn red_corner(rt: &impl Abort, alloc: Global) -> Result<Shot, NoMemory> {
+/// A shot of the world with that tile.
+fn red_shot(rt: &impl Abort, alloc: Global) -> Result<Shot, NoMemory> {
     let mut shot = Shot::new(
         alloc,
         &[rect(rt, -16384, -16384, 32768, 32768)],
         pixel(GROUND),
     )?;
-    shot.put(ORIGIN, &red_tile(alloc, 0)?)?;
+    shot.put(ORIGIN, &red_spot(alloc)?)?;
     Ok(shot)
 }
 
@@ -105,121 +104,15 @@ fn painted<'a>(
     paint_tile(alloc, job, shot, key)
 }
 
-/// The pixel of the block with that index at a point, or the clear pixel where it isn't there.
-fn pixel_of(painted: &Painted, i: usize, x: i32, y: i32) -> [u8; 4] {
-    if i >= painted.block_count() || !painted.block(i).rect().holds(x, y) {
-        return [0, 0, 0, 0];
-    }
-    painted.block(i).at(x, y).bytes()
-}
-
-/// The pixels that a job leaves, each in the block with an index, at a point.
-type Wanted = (usize, i32, i32, [u8; 4]);
-
-fn leaves(
-    rt: &impl Abort,
-    alloc: Global,
-    job: Job,
-    blocks: &[Rect],
-    wanted: &[Wanted],
-) -> Result<(), NoMemory> {
-    let shot = red_corner(rt, alloc)?;
-    let work = painted(rt, alloc, &job, &shot)?;
-    assert_eq!(rt; work.key(), ORIGIN);
-    assert_eq!(rt; *work.job(), job);
-    assert_eq!(rt; work.shot().ground(), pixel(GROUND));
-    assert_eq!(rt; work.block_count(), blocks.len(), "{job:?}");
+/// The tile with the red spot once the job's blocks are laid on it.
+fn laid_from_a_shot(rt: &impl Abort, alloc: Global, job: &Job) -> Result<Tile, NoMemory> {
+    let shot = red_shot(rt, alloc)?;
+    let work = painted(rt, alloc, job, &shot)?;
+    let mut tile = red_spot(alloc)?;
     for i in 0..work.block_count() {
-        assert_eq!(rt; work.block(i).rect(), blocks[i], "{job:?}");
+        tile = tile.with_region(alloc, work.block(i))?;
     }
-    for (i, x, y, want) in wanted {
-        assert_eq!(rt; pixel_of(&work, *i, *x, *y), *want, "{job:?} at {x} {y}");
-    }
-    Ok(())
-}
-
-#[test]
-fn fills(rt: HostRuntime) -> Result<(), Fail> {
-    let alloc = rt.alloc();
-    let one = rect(&rt, 0, 0, 1, 1);
-    leaves(
-        &rt,
-        alloc,
-        filling(one, BLUE, 255),
-        &[one],
-        &[(0, 0, 0, BLUE)],
-    )?;
-    let clipped = rect(&rt, 0, 0, 64, 1);
-    leaves(
-        &rt,
-        alloc,
-        filling(rect(&rt, 0, 0, 65, 1), [0, 0, 255, 128], 255),
-        &[clipped],
-        &[(0, 0, 0, [127, 0, 128, 255])],
-    )?;
-    Ok(())
-}
-
-#[test]
-fn moves(rt: HostRuntime) -> Result<(), Fail> {
-    let alloc = rt.alloc();
-    let one = rect(&rt, 0, 0, 1, 1);
-    let apart = Job::Move {
-        rect: one,
-        dx: 2,
-        dy: 0,
-    };
-    leaves(
-        &rt,
-        alloc,
-        apart,
-        &[rect(&rt, 2, 0, 1, 1), one],
-        &[(0, 2, 0, RED), (1, 0, 0, GROUND)],
-    )?;
-    let overlapping = Job::Move {
-        rect: rect(&rt, 0, 0, 65, 1),
-        dx: 1,
-        dy: 0,
-    };
-    leaves(
-        &rt,
-        alloc,
-        overlapping,
-        &[rect(&rt, 1, 0, 63, 1), rect(&rt, 0, 0, 64, 1)],
-        &[
-            (0, 1, 0, RED),
-            (0, 2, 0, GROUND),
-            (1, 0, 0, GROUND),
-            (1, 1, 0, RED),
-            (1, 2, 0, GROUND),
-        ],
-    )?;
-    Ok(())
-}
-
-#[test]
-fn dabs(rt: HostRuntime) -> Result<(), Fail> {
-    let alloc = rt.alloc();
-    let square = rect(&rt, 1, 1, 3, 3);
-    leaves(
-        &rt,
-        alloc,
-        dab(2, 2, 1, false),
-        &[square],
-        &[(0, 1, 1, GROUND), (0, 2, 1, RED), (0, 1, 2, RED)],
-    )?;
-    let shot = Shot::new(
-        alloc,
-        &[rect(&rt, -16384, -16384, 32768, 32768)],
-        Pixel::CLEAR,
-    )?;
-    let job = dab(1, 1, 1, true);
-    let work = painted(&rt, alloc, &job, &shot)?;
-    for (x, y, alpha) in [(1, 1, 255), (0, 1, 127), (1, 2, 127), (2, 2, 0)] {
-        let [_, _, _, a] = pixel_of(&work, 0, x, y);
-        assert_eq!(rt; a, alpha, "{x} {y}");
-    }
-    Ok(())
+    Ok(tile)
 }
 
 /// The job's work in its first tile.
@@ -232,63 +125,71 @@ fn work<'a>(rt: &impl Abort, entry: &'a (Kind, Job)) -> PointWork<'a> {
     PointWork::new(slice::from_ref(entry), ORIGIN)
 }
 
-/// Lays the job in place on a tile with a red corner, and looks at some of its pixels.
-fn leaves_in_place(
-    rt: &impl Abort,
-    alloc: Global,
-    job: Job,
-    wanted: &[(u8, u8, [u8; 4])],
-) -> Result<(), NoMemory> {
-    let mut tile = red_tile(alloc, 0)?;
+/// The tile with the red spot once the job was laid on it in place.
+fn laid_in_place(rt: &impl Abort, alloc: Global, job: Job) -> Result<Tile, NoMemory> {
+    let mut tile = red_spot(alloc)?;
     assert!(rt; tile.lay_alone(&work(rt, &(Kind::Seq, job))));
+    Ok(tile)
+}
+
+/// Pixels by column and row.
+type Wanted = [(u8, u8, [u8; 4]); 3];
+
+fn shows(rt: &impl Abort, tile: &Tile, wanted: Wanted) {
     for (col, row, want) in wanted {
-        assert!(rt; *col < 64 && *row < 64);
-        assert_eq!(rt;
-            tile.pixel(*col, *row).bytes(),
-            *want,
-            "{job:?} at {col} {row}"
-        );
+        assert!(rt; col < 64 && row < 64);
+        assert_eq!(rt; tile.pixel(col, row).bytes(), want);
+    }
+}
+
+#[test]
+fn moves(rt: HostRuntime) -> Result<(), Fail> {
+    let alloc = rt.alloc();
+    for (w, dx, wanted) in [
+        (1, 2, [(1, 1, GROUND), (2, 1, GROUND), (3, 1, RED)]),
+        (64, 1, [(1, 1, GROUND), (2, 1, RED), (3, 1, GROUND)]),
+    ] {
+        let rect = rect(&rt, 1, 1, w, 1);
+        let job = Job::Move { rect, dx, dy: 0 };
+        shows(&rt, &laid_from_a_shot(&rt, alloc, &job)?, wanted);
     }
     Ok(())
 }
 
 #[test]
-fn in_place(rt: HostRuntime) -> Result<(), Fail> {
+fn fills_and_dabs(rt: HostRuntime) -> Result<(), Fail> {
     let alloc = rt.alloc();
-    leaves_in_place(
-        &rt,
-        alloc,
-        filling(rect(&rt, 0, 0, 1, 1), BLUE, 255),
-        &[(0, 0, BLUE), (1, 0, GROUND), (0, 1, GROUND)],
-    )?;
-    leaves_in_place(
-        &rt,
-        alloc,
-        filling(rect(&rt, 0, 0, 65, 2), [0, 0, 255, 128], 255),
-        &[(0, 0, [127, 0, 128, 255]), (0, 2, GROUND)],
-    )?;
-    leaves_in_place(
-        &rt,
-        alloc,
-        dab(2, 2, 1, false),
-        &[(1, 1, GROUND), (2, 1, RED), (3, 3, GROUND)],
-    )?;
+    let faint = [0, 0, 255, 128];
+    for (job, wanted) in [
+        (
+            filling(rect(&rt, 1, 1, 1, 1), BLUE, 255),
+            [(1, 1, BLUE), (2, 1, GROUND), (1, 2, GROUND)],
+        ),
+        (
+            filling(rect(&rt, 0, 1, 65, 1), faint, 255),
+            [(1, 1, [127, 0, 128, 255]), (1, 0, GROUND), (1, 2, GROUND)],
+        ),
+        (
+            dab(4, 4, false, RED),
+            [(3, 3, GROUND), (4, 3, RED), (3, 4, RED)],
+        ),
+        (
+            dab(1, 2, true, BLUE),
+            [(1, 2, BLUE), (1, 1, [128, 0, 127, 255]), (0, 1, GROUND)],
+        ),
+    ] {
+        shows(&rt, &laid_from_a_shot(&rt, alloc, &job)?, wanted);
+        shows(&rt, &laid_in_place(&rt, alloc, job)?, wanted);
+    }
     Ok(())
 }
 
 #[test]
 fn plain_tiles(rt: HostRuntime) -> Result<(), Fail> {
-    let alloc = rt.alloc();
-    let spotted = red_tile(alloc, 77)?;
     let whole = (Kind::Seq, filling(rect(&rt, 0, 0, 64, 65), BLUE, 255));
-    assert!(rt; work(&rt, &whole).plain_on_ground(pixel(GROUND)) == Some(pixel(BLUE)));
-    assert!(rt; work(&rt, &whole).plain_on(&spotted) == Some(pixel(BLUE)));
-    let faint = (Kind::Seq, filling(rect(&rt, 0, 0, 64, 65), BLUE, 0));
-    let plain = Tile::plain(alloc, pixel(GROUND))?;
-    assert!(rt; work(&rt, &faint).plain_on(&plain) == Some(pixel(GROUND)));
-    assert!(rt; work(&rt, &faint).plain_on(&spotted).is_none());
-    let part = (Kind::Seq, filling(rect(&rt, 0, 0, 63, 64), BLUE, 255));
-    assert!(rt; work(&rt, &part).plain_on_ground(pixel(GROUND)).is_none());
+    let work = work(&rt, &whole);
+    assert!(rt; work.plain_on_ground(pixel(GROUND)) == Some(pixel(BLUE)));
+    assert!(rt; work.plain_on(&red_spot(rt.alloc())?) == Some(pixel(BLUE)));
     Ok(())
 }
 
@@ -313,42 +214,26 @@ fn run<'a>(rt: &impl Abort, jobs: &'a [(Kind, Job)]) -> Option<PointWork<'a>> {
     PointWork::run(jobs)
 }
 
+/// The first three write within the first tile, the fourth in the next.
 #[test]
-fn runs(rt: HostRuntime) -> Result<(), Fail> {
-    let alloc = rt.alloc();
-    let green = [0, 255, 0, 128];
+fn a_run_within_one_tile(rt: HostRuntime) -> Result<(), Fail> {
     let jobs = [
         (Kind::Seq, filling(rect(&rt, 0, 0, 2, 1), BLUE, 255)),
-        (Kind::Con, filling(rect(&rt, 1, 0, 1, 1), green, 255)),
-        (Kind::Seq, dab(5, 5, 1, false)),
-        (Kind::Seq, filling(rect(&rt, 64, 0, 1, 1), BLUE, 255)),
-        (Kind::Seq, filling(rect(&rt, 63, 0, 2, 1), BLUE, 255)),
         (
-            Kind::Seq,
-            Job::Blur {
-                rect: rect(&rt, 0, 0, 1, 1),
-                r: 1,
-            },
+            Kind::Con,
+            filling(rect(&rt, 1, 0, 1, 1), [0, 255, 0, 128], 255),
         ),
+        (Kind::Seq, dab(5, 5, false, RED)),
+        (Kind::Seq, filling(rect(&rt, 64, 0, 1, 1), BLUE, 255)),
     ];
-    let all = &jobs[..];
-    let Some(front) = run(&rt, all) else {
-        return Err("no run".into());
-    };
+    let front = run(&rt, &jobs).expect(&rt, "a run");
     assert_eq!(rt; front.job_count(), 3);
-    assert_eq!(rt; front.key(), ORIGIN);
-    let mut tile = red_tile(alloc, 0)?;
+    let mut tile = red_spot(rt.alloc())?;
     assert!(rt; tile.lay_alone(&front));
-    for (col, row, want) in [(0, 0, BLUE), (1, 0, [0, 128, 127, 255]), (5, 5, RED)] {
-        assert_eq!(rt; tile.pixel(col, row).bytes(), want, "{col} {row}");
-    }
-    let Some(next) = run(&rt, &all[3..]) else {
-        return Err("no run".into());
-    };
-    assert_eq!(rt; next.job_count(), 1);
-    assert_eq!(rt; next.key(), TileKey { row: 0, col: 1 });
-    assert!(rt; run(&rt, &all[4..]).is_none());
-    assert!(rt; run(&rt, &all[5..]).is_none());
-    assert!(rt; run(&rt, &all[6..]).is_none());
+    shows(
+        &rt,
+        &tile,
+        [(0, 0, BLUE), (1, 0, [0, 128, 127, 255]), (5, 5, RED)],
+    );
     Ok(())
 }

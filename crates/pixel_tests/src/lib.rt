@@ -5,8 +5,6 @@
 #[cfg(test)]
 mod blurs;
 #[cfg(test)]
-mod composed_rows;
-#[cfg(test)]
 mod documents;
 #[cfg(test)]
 mod fixtures;

@@ -21,18 +21,23 @@ fn masks(rt: HostRuntime) {
         (128, false, 128, 0, 255),
     ] {
         assert!(rt; r <= 128 && dx.unsigned_abs() <= 128 && dy.unsigned_abs() <= 128);
-        assert_eq!(rt; mask(r, soft, dx, dy), want, "{r} {soft} {dx} {dy}");
+        assert_eq!(rt; mask(r, soft, dx, dy), want);
     }
 }
 
 #[test]
 fn chords(rt: HostRuntime) {
-    assert_eq!(rt; chord_in_row(2, -2, 1, 5), Chord { first: 1, end: 4 });
-    assert_eq!(rt; chord_in_row(2, -2, -2, 5), Chord { first: 2, end: 3 });
-    assert_eq!(rt; chord_in_row(2, -2, 3, 5), Chord { first: 0, end: 0 });
-    assert_eq!(rt; chord_in_row(2, 0, 0, 9), Chord { first: 0, end: 3 });
-    assert_eq!(rt; chord_in_row(2, 3, 0, 9), Chord { first: 0, end: 0 });
-    assert_eq!(rt; chord_in_row(2, -8, 0, 3), Chord { first: 3, end: 3 });
+    for (dx, dy, len, first, end) in [
+        (-2i16, 1i16, 5usize, 1, 4),
+        (-2, -2, 5, 2, 3),
+        (-2, 3, 5, 0, 0),
+        (0, 0, 9, 0, 3),
+        (3, 0, 9, 0, 0),
+        (-8, 0, 3, 3, 3),
+    ] {
+        assert!(rt; dx.unsigned_abs() <= 128 && dy.unsigned_abs() <= 128 && len < 10);
+        assert_eq!(rt; chord_in_row(2, dx, dy, len), Chord { first, end });
+    }
 }
 
 #[test]

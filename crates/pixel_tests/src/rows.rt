@@ -1,7 +1,7 @@
 //! Rows against pixels that are composed one by one.
 
 use pixel_core::{Op, Pixel, compose};
-use pixel_rows::{lay_colour, lay_masked, lay_sources};
+use pixel_rows::{compose_row, lay_colour, lay_masked, lay_sources};
 
 /// The longest row that is tried.
 const LONGEST: usize = 100;
@@ -22,16 +22,26 @@ enum Kind {
     Blocks,
     /// Channels whose means lie halfway between two numbers.
     Halves,
+    /// Channels at the ends and in the middle of what a byte holds.
+    Ends,
 }
 
-const KINDS: [Kind; 6] = [
+/// The ends and the middle of what a byte holds.
+const BYTES: [u8; 6] = [0, 1, 127, 128, 254, 255];
+
+const KINDS: [Kind; 7] = [
     Kind::Mixed,
     Kind::Opaque,
     Kind::Clear,
     Kind::Plain,
     Kind::Blocks,
     Kind::Halves,
+    Kind::Ends,
 ];
+
+fn end(b: u8) -> u8 {
+    BYTES[b as usize % 6]
+}
 
 /// The pixel at a place of such a row.
 fn pixel_at(kind: Kind, seed: u32, i: usize) -> Pixel {
@@ -48,6 +58,7 @@ fn pixel_at(kind: Kind, seed: u32, i: usize) -> Pixel {
             _ => Pixel::new(r, g, b, 255),
         },
         Kind::Halves => Pixel::new(r & 254, g | 1, b, if seed % 2 == 0 { 30 } else { 34 }),
+        Kind::Ends => Pixel::new(end(r), end(g), 255 - end(r), end(b)),
     }
 }
 
@@ -92,7 +103,7 @@ fn wrong_of(
     wrong
 }
 
-/// How many pixels the three functions get wrong.
+/// How many pixels the four functions get wrong.
 fn wrongs(op: Op, above: Kind, below: Kind, len: usize, strength: u8) -> u32 {
     let len = len.min(LONGEST);
     let (sources, old, mask) = (row_of(above, 6), row_of(below, 7), mask_of(11));
@@ -113,7 +124,13 @@ fn wrongs(op: Op, above: Kind, below: Kind, len: usize, strength: u8) -> u32 {
     let mut laid = old;
     lay_masked(op, colour, &mask[..len], &mut laid[..len]);
     let by_mask = wrong_of(op, &[colour; LONGEST], &mask, &old, &laid, len);
-    by_sources.saturating_add(by_colour).saturating_add(by_mask)
+    let mut laid = old;
+    compose_row(op, &sources[..len], &mut laid[..len], &mask[..len]);
+    let by_row = wrong_of(op, &sources, &mask, &old, &laid, len);
+    by_sources
+        .saturating_add(by_colour)
+        .saturating_add(by_mask)
+        .saturating_add(by_row)
 }
 
 /// The same for rows of all kinds and lengths.
@@ -151,5 +168,8 @@ fn lays_rows(rt: HostRuntime) {
     assert_eq!(rt; row, [d, s, laid]);
     let mut row = [d, Pixel::CLEAR, d];
     lay_sources(Op::Over, &[Pixel::CLEAR, s, s], 255, &mut row);
+    assert_eq!(rt; row, [d, s, laid]);
+    let mut row = [d, Pixel::CLEAR, d];
+    compose_row(Op::Over, &[s; 3], &mut row, &[0, 255, 255]);
     assert_eq!(rt; row, [d, s, laid]);
 }

@@ -20,35 +20,19 @@ fn a_block_on_a_shared_tile(rt: HostRuntime) -> Result<(), Fail> {
     let alloc = rt.alloc();
     let red = opaque(255, 0, 0);
     let tile = Tile::clear(alloc)?;
-    assert!(rt; tile.is_plain(Pixel::CLEAR));
     let shared = tile.share()?;
-    let one = rect(&rt, 0, 0, 1, 1);
-    let mut block = Block::new(alloc, ORIGIN, one)?;
-    assert_eq!(rt; block.at(0, 0), Pixel::CLEAR);
+    let mut block = Block::new(alloc, ORIGIN, rect(&rt, 0, 0, 1, 1))?;
     block.set(0, 0, red);
     let written = tile.with_region(alloc, &block)?;
-    assert_eq!(rt; written.pixel(0, 0), red);
-    assert_eq!(rt; written.pixel(1, 0), Pixel::CLEAR);
-    assert_eq!(rt; tile.pixel(0, 0), Pixel::CLEAR);
-    assert_eq!(rt; shared.pixel(0, 0), Pixel::CLEAR);
+    for (tile, want) in [
+        (&written, red),
+        (&tile, Pixel::CLEAR),
+        (&shared, Pixel::CLEAR),
+    ] {
+        assert_eq!(rt; tile.pixel(0, 0), want);
+    }
     crosses(&block);
     crosses(&written);
-    Ok(())
-}
-
-#[test]
-fn whole_tiles(rt: HostRuntime) -> Result<(), Fail> {
-    let alloc = rt.alloc();
-    let red = opaque(255, 0, 0);
-    let plain = Tile::plain(alloc, red)?;
-    assert!(rt; plain.is_plain(red));
-    assert!(rt; !plain.is_plain(Pixel::CLEAR));
-    let below = TileKey { row: -1, col: 2 };
-    let mut block = Block::new(alloc, below, below.rect())?;
-    block.set(130, -2, opaque(0, 0, 255));
-    let written = plain.with_region(alloc, &block)?;
-    assert_eq!(rt; written.pixel(2, 62), opaque(0, 0, 255));
-    assert_eq!(rt; written.pixel(3, 62), Pixel::CLEAR);
     Ok(())
 }
 
@@ -61,9 +45,6 @@ fn a_shot(rt: HostRuntime) -> Result<(), Fail> {
     let mut shot = Shot::new(alloc, &[left], ground)?;
     shot.put(ORIGIN, &Tile::plain(alloc, red)?)?;
     crosses(&shot);
-    assert_eq!(rt; shot.ground(), ground);
-    assert_eq!(rt; shot.at(-1, 0), ground);
-    assert_eq!(rt; shot.at(0, 0), red);
     assert_eq!(rt;
         shot.pixels_on(alloc, &left)?.as_slice(),
         [ground, ground, red, red].as_slice()
@@ -73,9 +54,6 @@ fn a_shot(rt: HostRuntime) -> Result<(), Fail> {
         shot.read(alloc, ORIGIN, &right)?.as_slice(),
         [red, red].as_slice()
     );
-    assert!(rt; shot.tile(ORIGIN).is_some());
-    assert!(rt; shot.covers(&right));
-    assert!(rt; !shot.covers(&ORIGIN.rect()));
     Ok(())
 }
 
@@ -83,8 +61,6 @@ fn a_shot(rt: HostRuntime) -> Result<(), Fail> {
 fn a_frame(rt: HostRuntime) -> Result<(), Fail> {
     let alloc = rt.alloc();
     let mut frame = Frame::new(alloc, 1, 1, opaque(0x33, 0x66, 0x99))?;
-    assert_eq!(rt; (frame.width(), frame.height()), (1, 1));
-    assert_eq!(rt; frame.at(0, 0), [0x33, 0x66, 0x99]);
     frame.put(ORIGIN, &Tile::plain(alloc, Pixel::new(255, 0, 0, 128))?)?;
     crosses(&frame);
     let mut row = [7; 4];
@@ -96,12 +72,11 @@ fn a_frame(rt: HostRuntime) -> Result<(), Fail> {
 #[test]
 fn marked_tiles(rt: HostRuntime) {
     let mut marks = Marks::none();
-    marks.mark(SECOND);
-    assert!(rt; marks.has(SECOND));
-    assert!(rt; !marks.has(ORIGIN));
     let outside = TileKey { row: 0, col: -1 };
-    marks.mark(outside);
-    assert!(rt; !marks.has(outside));
+    for (key, marked) in [(SECOND, true), (outside, false)] {
+        marks.mark(key);
+        assert_eq!(rt; marks.has(key), marked);
+    }
 }
 
 /// Two tiles side by side, 65 by 1 points: the left one is given, and the paper shows on the right.
@@ -147,17 +122,21 @@ fn a_film_of_two_frames(rt: HostRuntime) -> Result<(), Fail> {
 #[test]
 fn damage_grows_in_its_tiles(rt: HostRuntime) {
     let mut damage = Damage::none();
-    damage.add(&rect(&rt, 60, 10, 10, 5));
-    assert!(rt; damage.part(ORIGIN) == Some(rect(&rt, 60, 10, 4, 5)));
-    assert!(rt; damage.part(SECOND) == Some(rect(&rt, 64, 10, 6, 5)));
-    damage.add(&rect(&rt, 72, 30, 1, 1));
-    damage.add(&rect(&rt, -10, -10, 5, 5));
-    assert!(rt; damage.part(ORIGIN) == Some(rect(&rt, 60, 10, 4, 5)));
-    assert!(rt; damage.part(SECOND) == Some(rect(&rt, 64, 10, 9, 21)));
-    assert!(rt; damage.part(TileKey { row: -1, col: -1 }).is_none());
-    let marks = damage.tiles();
-    assert!(rt; marks.has(ORIGIN) && marks.has(SECOND));
-    assert!(rt; !marks.has(TileKey { row: 1, col: 0 }));
+    for added in [
+        rect(&rt, 60, 10, 10, 5),
+        rect(&rt, 72, 30, 1, 1),
+        rect(&rt, -10, -10, 5, 5),
+    ] {
+        damage.add(&added);
+    }
+    for (key, part) in [
+        (ORIGIN, Some(rect(&rt, 60, 10, 4, 5))),
+        (SECOND, Some(rect(&rt, 64, 10, 9, 21))),
+        (TileKey { row: -1, col: -1 }, None),
+    ] {
+        assert!(rt; damage.part(key) == part);
+        assert_eq!(rt; damage.tiles().has(key), part.is_some());
+    }
     let last = TileKey { row: 31, col: 31 };
     assert!(rt; Damage::all().part(last) == Some(rect(&rt, 1984, 1984, 64, 64)));
 }

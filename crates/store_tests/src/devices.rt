@@ -16,20 +16,16 @@ fn a_block_on_a_device(rt: HostRuntime) -> Result<(), Fail> {
     let alloc = rt.alloc();
     let mut device = Device::new(alloc, Pixel::CLEAR);
     device.ready(ORIGIN)?;
-    assert_eq!(rt; device.at(0, 0), Pixel::CLEAR);
-    assert!(rt; device.extent().is_none());
     let one = rect(&rt, 0, 0, 1, 1);
     let mut block = Block::new(alloc, ORIGIN, one)?;
     block.set(0, 0, red());
     device.write_region(alloc, &block)?;
-    assert_eq!(rt; device.at(0, 0), red());
-    assert_eq!(rt; device.at(1, 0), Pixel::CLEAR);
-    assert_eq!(rt; device.at(-1, 0), Pixel::CLEAR);
     assert!(rt; device.extent() == Some(ORIGIN.rect()));
     let two = rect(&rt, 0, 0, 2, 1);
     let shot = device.grab(alloc, &[two])?;
     assert_eq!(rt; shot.at(0, 0), red());
     assert_eq!(rt; shot.at(1, 0), Pixel::CLEAR);
+    crosses(&device);
     Ok(())
 }
 
@@ -40,9 +36,7 @@ fn a_block_in_place(rt: HostRuntime) -> Result<(), Fail> {
     let one = rect(&rt, 0, 0, 1, 1);
     let mut block = Block::new(alloc, ORIGIN, one)?;
     block.set(0, 0, red());
-    assert!(rt; !device.lay_alone(ORIGIN, &block));
     device.ready(ORIGIN)?;
-    assert!(rt; !device.lay_alone(ORIGIN, &block));
     if device.has(ORIGIN) {
         device.set_tile(ORIGIN, Tile::clear(alloc)?);
     }
@@ -51,7 +45,6 @@ fn a_block_in_place(rt: HostRuntime) -> Result<(), Fail> {
     drop(shot);
     assert!(rt; device.lay_alone(ORIGIN, &block));
     assert_eq!(rt; device.at(0, 0), red());
-    assert_eq!(rt; device.at(1, 0), Pixel::CLEAR);
     Ok(())
 }
 
@@ -92,26 +85,5 @@ fn a_tile_back_and_forth(rt: HostRuntime) -> Result<(), Fail> {
     let (without, with) = back_and_forth::<Brand>(&mut device, Blank::new(1));
     assert_eq!(rt; without, Pixel::CLEAR);
     assert_eq!(rt; with, red());
-    Ok(())
-}
-
-#[test]
-fn a_shot_and_untouched_points(rt: HostRuntime) -> Result<(), Fail> {
-    let alloc = rt.alloc();
-    let ground = Pixel::new(1, 2, 3, 77);
-    let mut device = Device::new(alloc, ground);
-    assert_eq!(rt; device.at(-16384, 16383), ground);
-    device.ready(ORIGIN)?;
-    let corner = rect(&rt, 63, 63, 1, 1);
-    let shot = device.grab(alloc, &[corner])?;
-    if device.has(ORIGIN) {
-        device.set_tile(ORIGIN, Tile::plain(alloc, red())?);
-    }
-    assert_eq!(rt; device.at(63, 63), red());
-    assert_eq!(rt; device.at(64, 63), ground);
-    assert_eq!(rt; shot.at(63, 63), ground);
-    let later = device.grab(alloc, &[corner])?;
-    assert_eq!(rt; later.at(63, 63), red());
-    crosses(&device);
     Ok(())
 }

@@ -51,11 +51,9 @@ fn frames_one_after_another(rt: HostRuntime) -> Result<(), Fail> {
     let mut store = Store::new(alloc)?;
     let part = rect(&rt, 60, 60, 35, 8);
     let paper = second_frame(alloc, &store, &canvas, &part)?;
-    assert_eq!(rt; paper.at(60, 60), [255, 255, 255]);
     assert_eq!(rt; paper.at(99, 69), [255, 255, 255]);
     assert!(rt; add_red(&mut store, alloc));
     let painted = second_frame(alloc, &store, &canvas, &part)?;
     assert_eq!(rt; painted.at(60, 60), [255, 0, 0]);
-    assert_eq!(rt; painted.at(99, 69), [255, 0, 0]);
     Ok(())
 }
