@@ -6,3 +6,4 @@ pub mod Exported
 pub mod SettlingRuns
 pub mod FreeSlots
 pub mod OwnTiles
+pub mod Committing

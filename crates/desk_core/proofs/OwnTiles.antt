@@ -37,7 +37,7 @@ use Rattle.desk_parts.proofs.Laying.{takes_is, IsLaidAt, laid_at}
 use Rattle.desk_parts.proofs.KeyTests.{all_on}
 use Rattle.desk_parts.proofs.Walking.{MayWalkPublish, walk_publish_step, walk_publish_keeps}
 use Rattle.desk_work.specs.LaidTiles.{Laid, laid, laid_as, LaysEach, LaysSome}
-use Rattle.desk_work.proofs.Seen.{own_seen}
+use Rattle.whole_tiles.proofs.Seen.{own_seen}
 use Rattle.desk_core.specs.OwnWork.{WalkLacks}
 use Rattle.desk_core.proofs.SettlingRuns.{goes_on}
 

@@ -20,7 +20,7 @@ use Rattle.desk_parts.specs.Choices.{IsIdle, DoesAtOnce, is_done_at_once}
 use Rattle.desk_parts.specs.Settles.{Settles, GoesOn}
 
 -- events and then others
-run_then : (es fs : List Event) (a b c : State) → Run a es b → Run b fs c → Run a (es ++ fs) c
+pub run_then : (es fs : List Event) (a b c : State) → Run a es b → Run b fs c → Run a (es ++ fs) c
 run_then [] fs a b c one two = subst (λ s. Run s fs c) one two
 run_then (e ∷ es) fs a b c one two = (one.0, one.1, run_then es fs one.0 b c one.2 two)
 

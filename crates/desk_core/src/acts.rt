@@ -63,12 +63,8 @@ impl Desk {
     {
         match self.store.change(self.alloc, change) {
             Ok(_) => {
-                renew(
-                    &self.store,
-                    &mut self.caches,
-                    &mut self.updates,
-                    self.canvas,
-                );
+                let canvas = self.canvas;
+                renew(&self.store, &mut self.caches, &mut self.updates, canvas);
                 self.queue.pop(Outcome::Done);
                 Ok(())
             }

@@ -1,21 +1,21 @@
 //! The desk.
 
-ghost use Rattle.std.specs.Prelude.{◌≡◌, ◌≤◌, ◌<◌, ◌-◌, ◌^◌, true, OnOk, OnErr, IfOk, Ok, Some, None, false, slice_get, [], ◌∷◌, ◌++◌, length, vec_len, vec_capacity};
+ghost use Rattle.std.specs.Prelude.{◌≡◌, ◌≤◌, ◌<◌, ◌-◌, ◌^◌, true, OnOk, OnErr, IfOk, Ok, Some, None, false, slice_get, length};
 ghost use Rattle.doc_model.specs.Canvases.{IsOfLimits};
 ghost use Rattle.doc_model.specs.Lawful.{may_follow};
 ghost use Rattle.doc_model.specs.Strokes.{entries};
-ghost use Rattle.machine_model.specs.State.{new_state};
+ghost use Rattle.machine_model.specs.State.{new_state, Painter, Walker, Paints, Walks};
 ghost use Rattle.machine_model.specs.Event.{Feed, Publish, End, WalkEnd};
 ghost use Rattle.machine_model.specs.Step.{Step};
 ghost use Rattle.desk_core.specs.declared.answers.Published.TheVariants as answers;
 ghost use Rattle.desk_core.specs.declared.answers.Ended.TheVariants as ended;
 ghost use Rattle.desk_parts.specs.Enabled.{Enabled, Takes, IsEnd, MayEnd};
-ghost use Rattle.machine_model.specs.State.{Painter, Walker, Paints, Walks};
 
 use crate::answers::{Ended, Published, SlotId};
+use command_log::CommandLog;
 use desk_parts::Work;
 use desk_steps::Store;
-use desk_work::{is_composed, is_painted, lay, takes_painted};
+use desk_work::{is_composed, is_painted, lay, takes_painted, widen_all};
 use doc_model::{Canvas, Command};
 use entry_queue::Queue;
 use geom_core::NoMemory;
@@ -33,7 +33,7 @@ use update_queue::Updates;
 pub struct Desk {
     pub(crate) alloc: Global,
     pub(crate) canvas: Canvas,
-    pub(crate) fed: Vec<Command>,
+    pub(crate) fed: CommandLog,
     pub(crate) queue: Queue,
     pub(crate) store: Store,
     pub(crate) caches: Caches,
@@ -76,7 +76,7 @@ impl Desk {
         Ok(Desk {
             alloc,
             canvas,
-            fed: Vec::new(alloc),
+            fed: CommandLog::new(alloc),
             queue: Queue::new(alloc),
             store,
             caches,
@@ -98,10 +98,17 @@ impl Desk {
         ensures ok { OnOk result (Step self.old (Feed command.now) self.new) }
         ensures err { OnErr result (self.new ≡ self.old) }
     {
-        self.fed.reserve(1)?;
+        self.fed.make_room()?;
         self.queue.push(command)?;
-        push_reserved(&mut self.fed, *command);
+        self.fed.push(*command);
         Ok(())
+    }
+
+    /// Whether the command may follow those that were fed, which `feed` asks of it. One look-up, no memory.
+    pub fn lawful(&self, command: &Command) -> bool
+        ensures { result ≡ may_follow (entries self.now.fed) command.now }
+    {
+        self.fed.may_follow(command)
     }
 
     /// Lays a tile that was painted of the job in a slot on the layer of the stroke under way. `Nothing`
@@ -139,6 +146,26 @@ impl Desk {
             return Ended::Done;
         }
         Ended::Nothing
+    }
+
+    /// Ends the job in a slot whose tiles are all published. No memory.
+    pub(crate) fn end_job(&mut self, place: u8)
+        requires { Enabled self.old (End place) }
+        ensures { Step self.old (End place) self.new }
+    {
+        let group = self.group_of(self.head_layer());
+        let Some(Work::Paint(painter)) = self.slots.clear(place) else {
+            unreachable!()
+        };
+        widen_all(&mut self.updates, group, &painter.job);
+    }
+
+    /// Ends the walk in a slot whose tiles are all published. No memory.
+    pub(crate) fn end_walk(&mut self, place: u8)
+        requires { Enabled self.old (WalkEnd place) }
+        ensures { Step self.old (WalkEnd place) self.new }
+    {
+        let _walk = self.slots.clear(place);
     }
 
     /// Whether the walk with that serial is at work in the slot, and all its tiles are published.
@@ -194,16 +221,5 @@ impl Desk {
             Some(Work::Walk(_)) => unreachable!(),
             None => unreachable!(),
         }
-    }
-}
-
-/// Adds a value for which there is room.
-fn push_reserved<T: Copy>(items: &mut Vec<T>, value: T)
-    requires { vec_len items.old < vec_capacity items.old }
-    ensures { items.new.items ≡ items.old.items ++ value ∷ [] }
-{
-    match items.push(value) {
-        Ok(()) => {}
-        Err(_) => unreachable!(),
     }
 }

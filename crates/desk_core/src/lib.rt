@@ -3,9 +3,10 @@
 
 mod acts;
 mod answers;
+mod asks;
 mod choices;
+mod commits;
 mod desk;
-mod job_ends;
 mod job_starts;
 mod laws;
 mod looks;

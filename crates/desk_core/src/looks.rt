@@ -75,7 +75,7 @@ impl Desk {
     pub fn fed(&self) -> &[Command]
         ensures { result.now ≡ self.now.fed }
     {
-        &self.fed
+        self.fed.commands()
     }
 
     /// The canvas that it was made for.

@@ -95,13 +95,8 @@ impl Desk {
         requires { IsGroupOf self.now.present patch.now.walk }
         ensures { IfOk result (λ r. r ≡ readings patch.now (walk_shot self.now patch.now)) }
     {
-        gather(
-            self.alloc,
-            self.store.tree(),
-            &self.store,
-            &self.caches,
-            *patch,
-        )
+        let tree = self.store.tree();
+        gather(self.alloc, tree, &self.store, &self.caches, *patch)
     }
 
     /// Lays the picture of a group on a tile, as the walk in a slot composed it, on the group's cache.

@@ -7,3 +7,4 @@ pub mod Arranged
 pub mod Exchanged
 pub mod Archived
 pub mod Painted
+pub mod WholeTiles

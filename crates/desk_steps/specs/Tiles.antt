@@ -15,6 +15,7 @@ use Rattle.doc_model.specs.Shots.{in_tile}
 use Rattle.job_core.specs.Paints as paints
 use Rattle.job_core.specs.Paints.{Paint, Stuff, Makes}
 use Rattle.job_core.specs.Points.{Spot, all_painted_in}
+use Rattle.whole_tiles.specs.Wholes.{Entire}
 use Rattle.paint_device.specs.Seen.{layer_of}
 use Rattle.paint_device.specs.Sheets.{Sheet, sheet_at}
 
@@ -29,6 +30,10 @@ IsLaidFrom made s t = (w : Paint) → Makes w made → IsLaid w.job (paints.laye
 -- the tile has what point operations that are painted there make of the sheet's own layer
 abbrev pub IsPaintedOn : Spot → Sheet → Pixels → Type 0
 IsPaintedOn w s t = (p : Point) → in_tile w.key p ≡ true → pixel_at t p ≡ at (all_painted_in w.jobs w.key (layer_of s)) p
+
+-- the tile has the new tile's pixels where the job writes, and the sheet's elsewhere
+abbrev pub IsWholeOn : Entire → Sheet → Pixels → Type 0
+IsWholeOn x s t = (p : Point) → in_tile x.key p ≡ true → pixel_at t p ≡ cond (any_holds (writes x.job) p) (pixel_at x.tile p) (sheet_at s p)
 
 -- the shot has the layer's pixels in the whole of each tile that the rectangles meet
 abbrev pub ShowsTiles : List Area → Layer → Sight → Type 0

@@ -2,7 +2,7 @@
 
 ghost use Rattle.std.specs.Prelude.{◌≡◌, ◌+◌, true, None, Some, Ok, Err, is_some, IfOk, OnOk, OnErr, IfSome, IfNone};
 ghost use Rattle.std.specs.FinSet as set;
-ghost use Rattle.doc_model.specs.Layers.{plain};
+ghost use Rattle.doc_model.specs.Layers.{Layer, plain};
 ghost use Rattle.doc_model.specs.Shots.{published};
 ghost use Rattle.doc_model.specs.Forest.{none, content};
 ghost use Rattle.doc_model.specs.Adjusting.{adjusted};
@@ -12,6 +12,7 @@ ghost use Rattle.doc_model.specs.declared.tree.TreeFault.{TreeFault};
 ghost use Rattle.job_core.specs.Paints as paints;
 ghost use Rattle.job_core.specs.Paints.{Paint, Makes};
 ghost use Rattle.job_core.specs.Points.{all_painted_in};
+ghost use Rattle.whole_tiles.specs.Wholes.{Shows};
 ghost use Rattle.paint_device.specs.Seen.{layer_of};
 ghost use Rattle.desk_steps.specs.declared.reach.TreeRefusal.TheVariants as refusal;
 ghost use Rattle.desk_steps.specs.Archives.{shape};
@@ -20,6 +21,7 @@ ghost use Rattle.desk_steps.specs.Founds.{ExchangesTiles, GivesBack, StandIn, pa
 ghost use Rattle.desk_steps.specs.Slots.{ChangesDevice, HasDevices, device_in, standing};
 
 use crate::arrangement::{Arrangement, exchange_devices, slots_of};
+use crate::exchanging::put_whole;
 use crate::laying::lay;
 use crate::painting::paint;
 use crate::reach::TreeRefusal;
@@ -34,6 +36,7 @@ use std::mem;
 use std::sync::ledger::Ledger;
 use tile_core::Tile;
 use tree_core::Tree;
+use whole_tiles::Whole;
 
 /// A tree, and a slot for each id that was a paint layer: with the device of a paint layer of the tree,
 /// and else with None.
@@ -108,6 +111,26 @@ impl Document {
     {
         let _key = made.key();
         lay_under(alloc, &mut self.slots, id, found, made)
+    }
+
+    /// What a job leaves in a tile, made whole, comes onto a paint layer, and what stood there before the
+    /// stroke is noted.
+    pub fn put_whole(
+        &mut self,
+        alloc: Global,
+        id: u16,
+        found: &mut Revision<Tile>,
+        whole: &Whole,
+    ) -> Result<(), NoMemory>
+        requires layer { is_some (device_in self.old.slots id) ≡ true }
+        requires there { StandIn found.old (device_in self.old.slots id) }
+        ensures ok { (shot : Layer) → Shows whole.now.needs whole.now.base shot → OnOk result (doc_in self.new ≡ adjusted id (published whole.now.job shot whole.now.key) (doc_in self.old)) }
+        ensures keys { OnOk result (keys_in found.new ≡ set.insert (keys_in found.old) whole.now.key) }
+        ensures back { Regains id found.old found.new self.old self.new }
+        ensures err { OnErr result (doc_in self.new ≡ doc_in self.old) }
+        ensures no_note { OnErr result (found.new ≡ found.old) }
+    {
+        put_whole_under(alloc, &mut self.slots, id, found, whole)
     }
 
     /// Paints point operations in one tile of a paint layer, and notes what stood in the tile before
@@ -209,6 +232,31 @@ fn lay_under(
     match devices.get_mut(&id) {
         Some(slot) => match slot {
             Some(device) => lay(alloc, device, found, made),
+            None => unreachable!(),
+        },
+        None => unreachable!(),
+    }
+}
+
+/// What a job leaves in a tile, made whole, comes onto the device under an id that is there.
+fn put_whole_under(
+    alloc: Global,
+    devices: &mut BTreeMap<u16, Option<Device>>,
+    id: u16,
+    found: &mut Revision<Tile>,
+    whole: &Whole,
+) -> Result<(), NoMemory>
+    requires layer { is_some (device_in devices.old id) ≡ true }
+    requires there { StandIn found.old (device_in devices.old id) }
+    ensures ok { (shot : Layer) → Shows whole.now.needs whole.now.base shot → OnOk result (ChangesDevice devices.old devices.new id (λ old new. layer_of new ≡ published whole.now.job shot whole.now.key (layer_of old))) }
+    ensures keys { OnOk result (keys_in found.new ≡ set.insert (keys_in found.old) whole.now.key) }
+    ensures back { ChangesDevice devices.old devices.new id (GivesBack found.old found.new) }
+    ensures err { OnErr result (ChangesDevice devices.old devices.new id (λ old new. layer_of new ≡ layer_of old)) }
+    ensures no_note { OnErr result (found.new ≡ found.old) }
+{
+    match devices.get_mut(&id) {
+        Some(slot) => match slot {
+            Some(device) => put_whole(alloc, device, found, whole),
             None => unreachable!(),
         },
         None => unreachable!(),

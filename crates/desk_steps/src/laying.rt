@@ -140,7 +140,7 @@ fn laid(alloc: Global, device: &Device, made: &Made) -> Result<Tile, NoMemory>
 }
 
 /// The tile under the key, or one of the default pixel. What is there is shared, not copied.
-fn tile_under(alloc: Global, device: &Device, key: TileKey) -> Result<Tile, NoMemory>
+pub fn tile_under(alloc: Global, device: &Device, key: TileKey) -> Result<Tile, NoMemory>
     ensures { IfOk result (λ t. (p : Point) → in_tile key p ≡ true → pixel_at t p ≡ sheet_at device.now p) }
 {
     match device.tile(key) {

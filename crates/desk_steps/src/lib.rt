@@ -4,6 +4,7 @@
 mod arrangement;
 mod document;
 mod entry;
+mod exchanging;
 mod laying;
 mod painting;
 mod reach;

@@ -13,6 +13,7 @@ ghost use Rattle.doc_model.specs.declared.tree.TreeFault.{TreeFault};
 ghost use Rattle.machine_model.specs.Effects.{layer_in};
 ghost use Rattle.paint_device.specs.Seen as seen;
 ghost use Rattle.job_core.specs.Paints.{Paint, Makes, IsMade, layer_of};
+ghost use Rattle.whole_tiles.specs.Wholes.{IsEntire, IsOf};
 ghost use Rattle.desk_steps.specs.declared.reach.Reach.TheVariants as tells;
 ghost use Rattle.desk_steps.specs.declared.reach.TreeRefusal.TheVariants as refusal;
 ghost use Rattle.desk_steps.specs.declared.reach.Begun.TheVariants.{Ready, NoLayer, NotPaint};
@@ -35,6 +36,7 @@ use std::marker::Model;
 use std::sync::ledger::Ledger;
 use tile_core::{Shot, Tile};
 use tree_core::Tree;
+use whole_tiles::Whole;
 
 /// A document of layers and groups, what can be undone and redone, and the stroke under way.
 ///
@@ -146,6 +148,22 @@ impl Store {
         let _key = made.key();
         match &mut self.way {
             Some(way) => self.doc.put(alloc, way.id, &mut way.found, made),
+            None => unreachable!(),
+        }
+    }
+
+    /// The same of a tile that was made whole. Where the layer has still the pixels that the tile was
+    /// made from, the new tile takes the old one's place and no pixel is copied; else only what the job
+    /// writes is laid, on a copy of the layer's tile.
+    pub fn put_whole(&mut self, alloc: Global, whole: &Whole) -> Result<(), NoMemory>
+        requires { is_some self.old.way ≡ true }
+        ensures ok { (w : Paint) → IsOf w whole.now → OnOk result (self.new ≡ with_put self.old.way w self.old) }
+        ensures err { OnErr result (self.new ≡ self.old) }
+        ensures known { IsEntire whole.now }
+    {
+        let _key = whole.key();
+        match &mut self.way {
+            Some(way) => self.doc.put_whole(alloc, way.id, &mut way.found, whole),
             None => unreachable!(),
         }
     }

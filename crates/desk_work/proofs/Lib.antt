@@ -4,4 +4,4 @@ pub mod CacheFrames
 pub mod SlotPoints
 pub mod GroupsLaid
 pub mod ShotsRead
-pub mod Seen
+pub mod Lackings

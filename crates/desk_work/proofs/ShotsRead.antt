@@ -7,32 +7,19 @@ use Rattle.geom_core.proofs.Tests.{and_left, and_right, both_true, or_cases, tak
 use Rattle.tile_core.specs.Shots.{Sight, sight_at, SameShots}
 use Rattle.doc_model.specs.Layers.{at, plain}
 use Rattle.doc_model.specs.Laws.{SameOn}
-use Rattle.doc_model.proofs.LayerLaws.{at-painted, default-painted}
+use Rattle.doc_model.proofs.LayerLaws.{at-painted}
 use Rattle.job_core.specs.Paints.{layer_of}
-use Rattle.job_core.proofs.Values.{seen_at}
-
--- the shot's layer has the shot's default pixel
-default-layer_of : (s : Sight) → (layer_of s).default_pixel ≡ s.default_pixel
-unfolding layer_of plain
-default-layer_of s = default-painted s.rects (λ _. true) (sight_at s) (plain s.default_pixel)
+use Rattle.whole_tiles.proofs.Seen.{default-layer_of, covered_seen}
 
 -- on the shot's own rectangles the layer has the shot's pixels
-own_seen : (s : Sight) (p : Point) → any_holds s.rects p ≡ true → at (layer_of s) p ≡ sight_at s p
+pub own_pixels : (s : Sight) (p : Point) → any_holds s.rects p ≡ true → at (layer_of s) p ≡ sight_at s p
 unfolding layer_of
-own_seen s p h = at-painted s.rects (λ _. true) (sight_at s) (plain s.default_pixel) p ∙ taken (any_holds s.rects p && true) (sight_at s p) (at (plain s.default_pixel) p) (both_true _ _ h refl)
-
--- and on all that they cover
-covered_seen : (s : Sight) (rects : List Area) (p : Point) → list_all (λ (a : Area). list_any (lies_in a) s.rects) rects ≡ true → any_holds rects p ≡ true → at (layer_of s) p ≡ sight_at s p
-covered_seen s [] p l h = cc
-covered_seen s (a ∷ rest) p l h = elim (or_cases (holds a p) (any_holds rest p) h) [
-  | inl e ↦ seen_at s a p (and_left _ _ l) e
-  | inr e ↦ covered_seen s rest p (and_right _ _ l) e
-]
+own_pixels s p h = at-painted s.rects (λ _. true) (sight_at s) (plain s.default_pixel) p ∙ taken (any_holds s.rects p && true) (sight_at s p) (at (plain s.default_pixel) p) (both_true _ _ h refl)
 
 -- a shot that covers the rectangles, and one of them
 module _ (rects : List Area) (s kept : Sight) (whole : kept.rects ≡ rects) (covers : list_all (λ (a : Area). list_any (lies_in a) s.rects) rects ≡ true) where
   kept_seen : (p : Point) → any_holds rects p ≡ true → at (layer_of kept) p ≡ sight_at kept p
-  kept_seen p h = own_seen kept p (ap (λ rs. any_holds rs p) whole ∙ h)
+  kept_seen p h = own_pixels kept p (ap (λ rs. any_holds rs p) whole ∙ h)
 
   pub same_layers : SameShots rects s kept → SameOn rects (layer_of s) (layer_of kept)
   same_layers same = record {

@@ -1,1 +1,2 @@
 pub mod LaidTiles
+pub mod Lacking

@@ -10,6 +10,7 @@ mod remaining;
 mod renewing;
 mod slot_tests;
 mod walking;
+mod wholes;
 
 pub use exports::frame_of_cache;
 pub use job_ends::{is_painted, widen, widen_all};
@@ -20,3 +21,4 @@ pub use remaining::{next_pair, next_tile};
 pub use renewing::{move_by, renew};
 pub use slot_tests::{is_blocked, some_painter, some_walker};
 pub use walking::{is_composed, is_tile_of, lay_composed, takes_composed};
+pub use wholes::{are_lacking, exchange_own};

@@ -53,7 +53,7 @@ fn covers_all(shot: &Shot, rects: &[Rect]) -> bool
 }
 
 /// Whether the job writes in the tile.
-fn writes_in(job: &Job, key: TileKey) -> bool
+pub fn writes_in(job: &Job, key: TileKey) -> bool
     requires checked { checks job.now ≡ true }
     requires limits { within_limits job.now ≡ true }
     requires world { IsWorldKey key }

@@ -1,15 +1,16 @@
 -- Commands that may follow others.
-use Rattle.std.proofs.Common.{◌≡◌, Bool, true, false, ◌&&◌, not, nat_lt, if◌then◌else◌, Option, Some, None, List, [], ◌∷◌, ◌++◌, length, filter, refl, ap, ◌∙◌}
+use Rattle.std.proofs.Common.{◌≡◌, Bool, true, false, ◌&&◌, not, nat_lt, if◌then◌else◌, Option, Some, None, List, [], ◌∷◌, ◌++◌, length, filter, refl, ◌∙◌}
 use Rattle.std.specs.List.{list_any, list_all}
 use Rattle.std.proofs.lemmas.List.Folds.{list_all-append}
 use Rattle.doc_model.specs.declared.command.Command.{Command}
 use Rattle.doc_model.specs.declared.command.Command.TheVariants as command
 use Rattle.doc_model.specs.declared.canvas.Canvas.{Canvas}
-use Rattle.doc_model.specs.Strokes.{Entry, fed, all_fed, entries, is_stroke, is_open_stroke, has_room, is_export}
-use Rattle.doc_model.specs.Lawful.{may_follow, lawful_after, lawful}
-use Rattle.script_lines.specs.declared.cause.Cause.{Cause}
-use Rattle.script_lines.specs.declared.cause.Cause.TheVariants.{UsedAgain, UnknownStroke, ClosedStroke, TooManyJobs, TooManyExports}
-use Rattle.script_text.specs.Reading.{misfit, not_open}
+use Rattle.doc_model.specs.Strokes.{Entry, entries, is_stroke, is_open_stroke, has_room, is_export}
+use Rattle.doc_model.specs.Lawful.{may_follow, lawful}
+use Rattle.doc_model.proofs.Feeding.{lawful_last}
+use Rattle.command_log.specs.declared.refusal.Misfit.{Misfit}
+use Rattle.command_log.specs.declared.refusal.Misfit.TheVariants.{UsedAgain, UnknownStroke, ClosedStroke, TooManyJobs, TooManyExports}
+use Rattle.command_log.specs.Misfits.{misfit_of, not_open}
 use Rattle.std.specs.Option.{option_or}
 use Rattle.script_text.specs.Script.{contents}
 use Rattle.script_text.specs.Closed.{is_script, all_closed}
@@ -24,11 +25,11 @@ live a true h = refl
 live true false h = absurd (cc (h))
 live false false h = absurd (cc (h))
 
-first_none : (o p : Option Cause) → option_or o p ≡ None → o ≡ None
+first_none : (o p : Option Misfit) → option_or o p ≡ None → o ≡ None
 first_none None p h = refl
 first_none (Some c) p h = absurd (cc (h))
 
-second_none : (o p : Option Cause) → option_or o p ≡ None → p ≡ None
+second_none : (o p : Option Misfit) → option_or o p ≡ None → p ≡ None
 second_none None p h = h
 second_none (Some c) p h = absurd (cc (h))
 
@@ -44,8 +45,8 @@ all_three : (a b c : Bool) → a ≡ true → b ≡ true → c ≡ true → (a &
 all_three a b c h k l = rw (h, k, l) refl
 
 -- a command that fits may follow
-pub follows : (es : List Entry) (c : Command) → misfit es c ≡ None → is_sound c ≡ true → may_follow es c ≡ true
-unfolding misfit
+pub follows : (es : List Entry) (c : Command) → misfit_of es c ≡ None → is_sound c ≡ true → may_follow es c ≡ true
+unfolding misfit_of
 follows es (command.Change change) h s = refl
 follows es (command.Stroke n layer x) h s = free (list_any (is_stroke n) es) h
 follows es (command.Add n kind j) h s = all_three _ (list_any (is_open_stroke n) es) (list_any (has_room n) es) s (live (list_any (is_stroke n) es) (list_any (is_open_stroke n) es) (first_none _ _ h)) (room (list_any (has_room n) es) (second_none (not_open n es) _ h))
@@ -56,20 +57,8 @@ follows es command.Redo h s = refl
 follows es (command.Purge keep) h s = refl
 follows es command.Export h s = space (nat_lt (length (filter is_export es)) 64) h
 
-and_assoc : (a b c : Bool) → (a && (b && c)) ≡ ((a && b) && c)
-and_assoc true b c = refl
-and_assoc false b c = refl
-
-and_true : (a : Bool) → (a && true) ≡ a
-and_true true = refl
-and_true false = refl
-
-pub lawful_after-append : (es : List Entry) (cs : List Command) (c : Command) → lawful_after es (cs ++ c ∷ []) ≡ (lawful_after es cs && may_follow (all_fed es cs) c)
-lawful_after-append es [] c = and_true (may_follow es c)
-lawful_after-append es (d ∷ cs) c = ap (λ b. may_follow es d && b) (lawful_after-append (fed es d) cs c) ∙ and_assoc (may_follow es d) (lawful_after (fed es d) cs) (may_follow (all_fed (fed es d) cs) c)
-
-pub lawful_more : (cs : List Command) (c : Command) → lawful cs ≡ true → misfit (entries cs) c ≡ None → is_sound c ≡ true → lawful (cs ++ c ∷ []) ≡ true
-lawful_more cs c l f s = lawful_after-append [] cs c ∙ rw (l, follows (entries cs) c f s) refl
+pub lawful_more : (cs : List Command) (c : Command) → lawful cs ≡ true → misfit_of (entries cs) c ≡ None → is_sound c ≡ true → lawful (cs ++ c ∷ []) ≡ true
+lawful_more cs c l f s = lawful_last cs c l (follows (entries cs) c f s)
 
 pub ranges_more : (cs : List Command) (c : Command) → list_all in_range cs ≡ true → in_range c ≡ true → list_all in_range (cs ++ c ∷ []) ≡ true
 ranges_more cs c h k = list_all-append in_range cs (c ∷ []) ∙ rw (h, k) refl

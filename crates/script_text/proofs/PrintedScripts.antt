@@ -14,9 +14,9 @@ use Rattle.script_forms.specs.Ranges.{in_range, in_limits, is_sound}
 use Rattle.script_text.specs.declared.reading.Start.{Start}
 use Rattle.script_text.specs.Script.{Contents}
 use Rattle.script_text.specs.Closed.{is_script, all_closed}
-use Rattle.script_text.specs.Reading.{command_lines, canvas_in, command_in, canvas_of, commands_of, starts_of, cause_by, cause, end_by, left_open, fault_after, fault, script, misfit}
+use Rattle.script_text.specs.Reading.{command_lines, canvas_in, command_in, canvas_of, commands_of, starts_of, cause_by, cause, end_by, left_open, fault_after, fault, script, cause_of, misfit}
 use Rattle.script_text.specs.Read.{contents_by}
-use Rattle.std.specs.Option.{option_or, is_some}
+use Rattle.std.specs.Option.{option_or, option_map, is_some}
 use Rattle.script_text.specs.Pieces.{NumberedLine, commands_from}
 use Rattle.script_text.specs.Text.{canvas_fields, command_text, text}
 use Rattle.script_text.specs.Laws.{PrintedReadsBack}
@@ -25,8 +25,9 @@ use Rattle.script_text.proofs.PrintedLines.{line_first}
 use Rattle.script_text.proofs.PrintedWords.{words}
 use Rattle.script_text.proofs.PrintedJobs.{Told}
 use Rattle.script_text.proofs.PrintedCommands.{told, canvas_back, canvas_plain}
-use Rattle.script_text.proofs.Refusals.{misfits, unsound, some_left, left_fault}
-use Rattle.script_text.proofs.Tables.{entries-append}
+use Rattle.script_text.proofs.Refusals.{unsound, some_left, left_fault}
+use Rattle.doc_model.proofs.Feeding.{entries_last}
+use Rattle.command_log.proofs.Following.{fits as log_fits}
 use Rattle.script_text.proofs.Scanning.{canvas_of-append, from_more, goes_on}
 use Rattle.script_text.proofs.Scanning as scan
 
@@ -43,7 +44,8 @@ sound_where es c h = go (is_sound c) refl
     go false e = let f = unsound es c e in absurd (cc (h, f))
 
 fits : (es : List Entry) (c : Command) → may_follow es c ≡ true → misfit es c ≡ None
-fits es c h = none_where (misfit es c) (may_follow es c) h (misfits es c)
+unfolding misfit
+fits es c h = ap (option_map cause_of) (log_fits es c h)
 
 none_left : (es : List Entry) (starts : List Start) → list_all is_closed_entry es ≡ true → left_open es starts ≡ None
 none_left es starts h = none_where (left_open es starts) (list_all is_closed_entry es) h (some_left es starts)
@@ -100,8 +102,8 @@ no_fault_after before canvas commands n (c ∷ cs) is r l h =
     let others = commands_from (n + 1) (lines (flat_map command_text cs)) in
     let good : cause before (row t) ≡ None = (λ i. cause_by (is.canvas i) (is.commands i) (row t)) ∙ (cause_told c t canvas commands ∙ fits (entries commands) c may) in
     let rest = no_fault_after (before ++ scan.line n (row t) ∷ []) canvas (commands ++ c ∷ []) (n + 1) cs (before_more before canvas commands n c t is) (second (in_range c) (list_all in_range cs) r)
-    (ap (λ es. lawful_after es cs) (entries-append commands c) ∙ second (may_follow (entries commands) c) (lawful_after (fed (entries commands) c) cs) l)
-    (ap (λ es. list_all is_closed_entry (all_fed es cs)) (entries-append commands c) ∙ h) in
+    (ap (λ es. lawful_after es cs) (entries_last commands c) ∙ second (may_follow (entries commands) c) (lawful_after (fed (entries commands) c) cs) l)
+    (ap (λ es. list_all is_closed_entry (all_fed es cs)) (entries_last commands c) ∙ h) in
     ap (fault_after before) (cmds_told n c t (flat_map command_text cs)) ∙ (goes_on before others n (row t) good ∙ rest)
 
 commands_told : (es : List Entry) (n : ℕ) (cs : List Command) → list_all in_range cs ≡ true → lawful_after es cs ≡ true → commands_of (commands_from n (lines (flat_map command_text cs))) ≡ cs

@@ -1,5 +1,5 @@
 -- Commands that are no script.
-use Rattle.std.proofs.Common.{◌≡◌, ℕ, ◌+◌, ◌<◌, suc, zero, Bool, true, false, ◌&&◌, ◌||◌, not, nat_lt, if◌then◌else◌, Option, Some, None, List, [], ◌∷◌, ◌++◌, length, take, get_or, filter, map, refl, sym, ap, ◌∙◌, subst, arith}
+use Rattle.std.proofs.Common.{◌≡◌, ℕ, ◌+◌, ◌<◌, suc, zero, Bool, true, false, ◌&&◌, ◌||◌, if◌then◌else◌, Option, Some, None, List, [], ◌∷◌, ◌++◌, length, take, get_or, map, refl, sym, ap, ◌∙◌, subst, arith}
 use Rattle.std.specs.Prelude.{◌==◌}
 use Rattle.std.specs.List.{list_any, list_all, filter_map}
 use Rattle.std.specs.Option.{option_to_list, option_map}
@@ -9,37 +9,28 @@ use Rattle.std.proofs.lemmas.List.Elements.{filter_map-append}
 use Rattle.doc_model.specs.declared.canvas.Canvas.{Canvas}
 use Rattle.doc_model.specs.declared.command.Command.{Command}
 use Rattle.doc_model.specs.declared.command.Command.TheVariants as command
-use Rattle.doc_model.specs.Strokes.{Entry, Strokes, Changes, Undoes, Redoes, Purges, Exports, fed, all_fed, entries, is_stroke, is_open_stroke, has_room, is_export, is_open as is_open_fate}
+use Rattle.doc_model.specs.Strokes.{Entry, Strokes, Changes, Undoes, Redoes, Purges, Exports, fed, all_fed, entries, is_open_stroke, is_open as is_open_fate}
 use Rattle.doc_model.specs.Lawful.{is_closed_entry, may_follow, lawful_after, lawful}
 use Rattle.script_lines.specs.declared.cause.Cause.{Cause}
-use Rattle.script_lines.specs.declared.cause.Cause.TheVariants.{UsedAgain, UnknownStroke, ClosedStroke, TooManyJobs, TooManyExports, StrokeLeft}
+use Rattle.script_lines.specs.declared.cause.Cause.TheVariants.{StrokeLeft}
 use Rattle.script_text.specs.declared.reading.Start.{Start}
 use Rattle.script_text.specs.declared.reading.Reading.{Reading}
 use Rattle.script_text.specs.declared.script.ScriptFault.{ScriptFault}
 use Rattle.script_text.specs.Script.{contents}
 use Rattle.script_text.specs.Closed.{is_script, all_closed}
 use Rattle.script_forms.specs.Ranges.{in_range, is_sound, in_limits}
-use Rattle.script_text.specs.Reading.{left_open, start_by, misfit}
-use Rattle.std.specs.Option.{option_or}
+use Rattle.script_text.specs.Reading.{left_open, start_by, cause_of, misfit}
+use Rattle.command_log.specs.declared.refusal.Misfit.{Misfit}
+use Rattle.command_log.specs.Misfits.{misfit_of}
+use Rattle.command_log.proofs.Tables.{and_false}
+use Rattle.command_log.proofs.Following.{misfits as log_misfits}
 use Rattle.script_text.specs.Read.{IsGathered, TakesCommand, started_by}
-
-and_false : (b : Bool) → (b && false) ≡ false
-and_false true = refl
-and_false false = refl
 
 -- a command that may not follow those before it
 pub lawful_at : (es : List Entry) (cs : List Command) (i : ℕ) (c : Command) → i < length cs → c ≡ get_or cs i c → may_follow (all_fed es (take i cs)) c ≡ false → lawful_after es cs ≡ false
 lawful_at es [] i c h e f = absurd (omega arith)
 lawful_at es (d ∷ cs) zero c h e f = rw (subst (λ k. may_follow es k ≡ false) e f) refl
 lawful_at es (d ∷ cs) (suc i) c h e f = rw (lawful_at (fed es d) cs i c (omega arith) e f) (and_false (may_follow es d))
-
-not_free : (a : Bool) (x : Cause) → (if a then Some UsedAgain else None) ≡ Some x → not a ≡ false
-not_free true x h = refl
-not_free false x h = absurd (cc (h))
-
-not_live : (a b : Bool) (x : Cause) → (if b then None else if a then Some ClosedStroke else Some UnknownStroke) ≡ Some x → b ≡ false
-not_live a true x h = absurd (cc (h))
-not_live a false x h = refl
 
 second_true : (a b : Bool) → (a && b) ≡ true → b ≡ true
 second_true true b k = k
@@ -70,27 +61,14 @@ pub some_left : (es : List Entry) (starts : List Start) (n : ℕ) → left_open 
 some_left es [] n h = absurd (cc (h))
 some_left es (s ∷ starts) n h = left_more es s starts n (list_any (is_open_stroke s.no) es) refl (some_left es starts n) h
 
-add_bad : (s a b r : Bool) (x : Cause) → option_or (if b then None else if a then Some ClosedStroke else Some UnknownStroke) (if r then None else Some TooManyJobs) ≡ Some x → (s && (b && r)) ≡ false
-add_bad s a true true x h = absurd (cc (h))
-add_bad s a true false x h = and_false s
-add_bad s a false r x h = and_false s
-
-not_space : (a : Bool) (x : Cause) → (if a then None else Some TooManyExports) ≡ Some x → a ≡ false
-not_space true x h = absurd (cc (h))
-not_space false x h = refl
-
 -- a command that doesn't fit
 pub misfits : (es : List Entry) (c : Command) (x : Cause) → misfit es c ≡ Some x → may_follow es c ≡ false
 unfolding misfit
-misfits es (command.Change change) x h = absurd (cc (h))
-misfits es (command.Stroke n layer e) x h = not_free (list_any (is_stroke n) es) x h
-misfits es (command.Add n kind j) x h = add_bad (is_sound (command.Add n kind j)) (list_any (is_stroke n) es) (list_any (is_open_stroke n) es) (list_any (has_room n) es) x h
-misfits es (command.End n) x h = not_live (list_any (is_stroke n) es) (list_any (is_open_stroke n) es) x h
-misfits es (command.Cancel n) x h = not_live (list_any (is_stroke n) es) (list_any (is_open_stroke n) es) x h
-misfits es command.Undo x h = absurd (cc (h))
-misfits es command.Redo x h = absurd (cc (h))
-misfits es (command.Purge keep) x h = absurd (cc (h))
-misfits es command.Export x h = not_space (nat_lt (length (filter is_export es)) 64) x h
+misfits es c x h = go (misfit_of es c) refl h
+  where
+    go : (o : Option Misfit) → misfit_of es c ≡ o → option_map cause_of o ≡ Some x → may_follow es c ≡ false
+    go None e k = absurd (cc (k))
+    go (Some m) e k = log_misfits es c m e
 
 -- a job that doesn't meet the limits
 pub unsound : (es : List Entry) (c : Command) → is_sound c ≡ false → may_follow es c ≡ false

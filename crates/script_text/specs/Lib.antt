@@ -2,7 +2,6 @@ pub mod Script
 pub mod Reading
 pub mod Read
 pub mod Pieces
-pub mod Table
 pub mod Draft
 pub mod Text
 pub mod Laws

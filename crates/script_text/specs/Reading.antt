@@ -1,5 +1,5 @@
 -- What the bytes of a script say, or its first fault.
-use Rattle.std.specs.Prelude.{ℕ, nat_lt, if◌then◌else◌, Option, Some, None, Result, Ok, Err, length, List, [], ◌∷◌, ◌++◌, filter}
+use Rattle.std.specs.Prelude.{ℕ, if◌then◌else◌, Option, Some, None, Result, Ok, Err, List, [], ◌∷◌, ◌++◌, filter}
 use Rattle.std.specs.List.{list_any, filter_map, enumerate_from}
 use Rattle.std.specs.Option.{is_some, option_or, option_map, option_and_then}
 use Rattle.std.specs.Result.{result_ok, result_err}
@@ -7,7 +7,10 @@ use Rattle.std.specs.Str.{bytes_eq}
 use Rattle.doc_model.specs.declared.canvas.Canvas.{Canvas}
 use Rattle.doc_model.specs.declared.command.Command.{Command}
 use Rattle.doc_model.specs.declared.command.Command.TheVariants as command
-use Rattle.doc_model.specs.Strokes.{Entry, is_open_stroke, is_stroke, entries, has_room, is_export}
+use Rattle.command_log.specs.declared.refusal.Misfit.{Misfit}
+use Rattle.command_log.specs.declared.refusal.Misfit.TheVariants as misfits
+use Rattle.command_log.specs.Misfits.{misfit_of}
+use Rattle.doc_model.specs.Strokes.{Entry, is_open_stroke, entries}
 use Rattle.script_lines.specs.declared.cause.Cause.{Cause}
 use Rattle.script_lines.specs.declared.cause.Cause.TheVariants.{UnknownWord, UsedAgain, CanvasMissing, UnknownStroke, CanvasAgain, ClosedStroke, StrokeLeft, TooManyJobs, TooManyExports}
 use Rattle.script_lines.specs.Lines.{lines, is_command}
@@ -42,18 +45,17 @@ canvas_of (line ∷ others) = option_or (canvas_in line.1) (canvas_of others)
 abbrev pub commands_of : List (ℕ × Fields) → List Command
 commands_of before = filter_map (λ l. command_in l.1) before
 
--- why no stroke with that number takes jobs or is closed
-abbrev pub not_open : ℕ → List Entry → Option Cause
-not_open n es = if list_any (is_open_stroke n) es then None else if list_any (is_stroke n) es then Some ClosedStroke else Some UnknownStroke
+-- what is wrong with a line whose command may not follow
+abbrev pub cause_of : Misfit → Cause
+cause_of misfits.UsedAgain = UsedAgain
+cause_of misfits.UnknownStroke = UnknownStroke
+cause_of misfits.ClosedStroke = ClosedStroke
+cause_of misfits.TooManyJobs = TooManyJobs
+cause_of misfits.TooManyExports = TooManyExports
 
 -- why the command can't follow those that made these entries
 unfoldable pub misfit : List Entry → Command → Option Cause
-misfit es (command.Stroke n layer exclusive) = if list_any (is_stroke n) es then Some UsedAgain else None
-misfit es (command.Add n kind job) = option_or (not_open n es) (if list_any (has_room n) es then None else Some TooManyJobs)
-misfit es (command.End n) = not_open n es
-misfit es (command.Cancel n) = not_open n es
-misfit es command.Export = if nat_lt (length (filter is_export es)) 64 then None else Some TooManyExports
-misfit es c = None
+misfit es c = option_map cause_of (misfit_of es c)
 
 -- what is wrong with a canvas line, where there was that canvas or none
 abbrev pub canvas_cause : Option Canvas → Fields → Option Cause

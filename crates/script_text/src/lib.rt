@@ -8,7 +8,6 @@ mod pieces;
 mod printing;
 mod reading;
 mod script;
-mod table;
 
 pub use laws::printed_reads_back;
 pub use pieces::{Reader, read};

@@ -1,4 +1,4 @@
-use Rattle.desk_work.proofs.Seen.{own_seen}
+use Rattle.whole_tiles.proofs.Seen.{own_seen}
 use Rattle.desk_work.proofs.own_work.paint_own.Goals as goal
 
 pub paint_tile-requires-clause-seen : goal.paint_tile-requires-clause-seen

@@ -1,0 +1,4 @@
+pub mod Log
+pub mod Misfits
+pub mod Table
+pub mod Told

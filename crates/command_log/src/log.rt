@@ -1,0 +1,198 @@
+//! Commands in order, and what has to be known of them to take one more.
+
+ghost use Rattle.std.specs.Prelude.{◌≡◌, [], ◌∷◌, ◌++◌, ◌&&◌, Err, IfOk, OnOk, OnErr, ◌<◌, ◌≤◌, true, false, vec_len, vec_capacity};
+ghost use Rattle.std.specs.List.{list_any};
+ghost use Rattle.doc_model.specs.Strokes.{entries, is_open_stroke, has_room};
+ghost use Rattle.doc_model.specs.Lawful.{may_follow};
+ghost use Rattle.command_log.specs.declared.refusal.Refusal.TheVariants as refusal;
+ghost use Rattle.command_log.specs.Misfits.{misfit_of, Refuses};
+ghost use Rattle.command_log.specs.Table.{Tells, export_misfit as said_export, exports_after as count_after};
+
+use crate::refusal::{Misfit, Refusal};
+use crate::table::{Fed, Table};
+use doc_model::Command;
+use geom_core::NoMemory;
+use std::alloc::Global;
+use std::marker::Model;
+
+/// How many exports there are at most.
+const MOST_EXPORTS: u32 = 64;
+
+/// The commands taken so far, with what is known of their strokes and exports. Whether one more may
+/// follow takes one look-up.
+#[derive(Drop)]
+pub struct CommandLog {
+    commands: Vec<Command>,
+    strokes: Table,
+    exports: u32,
+}
+
+impl Model for CommandLog {
+    ghost use Rattle.std.specs.Prelude.{◌&&◌, not, nat_lt, is_some, vec_len, vec_capacity};
+    ghost use Rattle.command_log.specs.Log.{Log, log, log_code};
+
+    ghost Value = { Log };
+
+    ghost coded = { log_code };
+
+    ghost use Rattle.command_log.specs.Told.{IsTold};
+
+    ghost view = { λ l. log l.commands.items (nat_lt (vec_len l.commands) (vec_capacity l.commands) && not (is_some l.strokes.newest)) };
+
+    ghost invariant = { IsTold };
+}
+
+/// Why it can't be added to that many exports.
+fn export_misfit(exports: u32, command: &Command) -> Option<Misfit>
+    ensures { result ≡ said_export exports command.now }
+{
+    match command {
+        Command::Export if exports >= MOST_EXPORTS => Some(Misfit::TooManyExports),
+        _ => None,
+    }
+}
+
+/// How many exports there are after the command.
+fn exports_after(exports: u32, command: &Command) -> u32
+    requires { exports ≤ 64 }
+    ensures { result ≡ count_after exports command.now }
+{
+    match command {
+        Command::Export => exports + 1,
+        _ => exports,
+    }
+}
+
+impl CommandLog {
+    /// No commands.
+    pub fn new(alloc: Global) -> Self
+        ensures { result.items ≡ [] }
+    {
+        CommandLog {
+            commands: Vec::new(alloc),
+            strokes: Table::new(alloc),
+            exports: 0,
+        }
+    }
+
+    /// No commands, and place for so many.
+    pub fn with_capacity(alloc: Global, capacity: usize) -> Result<Self, NoMemory>
+        ensures { IfOk result (λ l. l.items ≡ []) }
+    {
+        Ok(CommandLog {
+            commands: Vec::with_capacity(alloc, capacity)?,
+            strokes: Table::new(alloc),
+            exports: 0,
+        })
+    }
+
+    /// The commands, in order.
+    pub fn commands(&self) -> &[Command]
+        ensures { result.now ≡ self.now.items }
+    {
+        &self.commands
+    }
+
+    /// The commands, and no more.
+    pub fn into_commands(self) -> Vec<Command>
+        ensures { result.items ≡ self.items }
+    {
+        self.commands
+    }
+
+    /// What is kept of the stroke with that number.
+    fn find(&self, no: u32) -> Option<Fed>
+        ensures { Tells (entries self.now.items) no result }
+    {
+        self.strokes.get(no)
+    }
+
+    /// Whether a stroke with that number is open.
+    pub fn is_open(&self, no: u32) -> bool
+        ensures { result ≡ list_any (is_open_stroke no) (entries self.now.items) }
+    {
+        match self.find(no) {
+            None => false,
+            Some(fed) => fed.is_live(),
+        }
+    }
+
+    /// Whether a stroke with that number is open, and has fewer jobs than it may have.
+    fn takes_job(&self, no: u32) -> bool
+        ensures { result ≡ (list_any (is_open_stroke no) (entries self.now.items) && list_any (has_room no) (entries self.now.items)) }
+    {
+        match self.find(no) {
+            None => false,
+            Some(fed) => fed.is_live() && fed.has_room(),
+        }
+    }
+
+    /// Whether the command may follow those that were taken: its job meets the limits and lies in the
+    /// world, its stroke is open or new as it has to be, and there are few enough jobs and exports.
+    pub fn may_follow(&self, command: &Command) -> bool
+        ensures { result ≡ may_follow (entries self.now.items) command.now }
+    {
+        match command {
+            Command::Stroke { no, .. } => self.find(*no).is_none(),
+            Command::Add { no, job, .. } => {
+                job.check().is_ok() && job.is_within_limits() && self.takes_job(*no)
+            }
+            Command::End { no } | Command::Cancel { no } => self.is_open(*no),
+            Command::Export => self.exports < MOST_EXPORTS,
+            _ => true,
+        }
+    }
+
+    /// Makes room for one more command.
+    ///
+    /// # Errors
+    /// `NoMemory`; the commands stay.
+    pub fn make_room(&mut self) -> Result<(), NoMemory>
+        ensures items { self.new.items ≡ self.old.items }
+        ensures room { OnOk result (self.new.room ≡ true) }
+    {
+        self.commands.reserve(1)?;
+        self.strokes.put_back()
+    }
+
+    /// Takes a command that may follow, where there is room for it.
+    pub fn push(&mut self, command: Command)
+        requires room { self.old.room ≡ true }
+        requires lawful { may_follow (entries self.old.items) command ≡ true }
+        ensures { self.new.items ≡ self.old.items ++ command ∷ [] }
+    {
+        match self.add(command) {
+            Ok(()) => {}
+            Err(_) => unreachable!(),
+        }
+    }
+
+    /// Takes a command, unless it may not follow for another cause than its job's own limits.
+    ///
+    /// # Errors
+    /// `Misfit` where it may not follow; `NoMemory` where there was no room. The commands stay.
+    #[inline(always)]
+    pub fn add(&mut self, command: Command) -> Result<(), Refusal>
+        ensures refused { Refuses result (misfit_of (entries self.old.items) command) }
+        ensures taken { OnOk result (self.new.items ≡ self.old.items ++ command ∷ []) }
+        ensures same { OnErr result (self.new.items ≡ self.old.items) }
+        ensures full { result ≡ Err refusal.NoMemory → self.old.room ≡ false }
+    {
+        if let Some(misfit) = export_misfit(self.exports, &command) {
+            return Err(Refusal::Misfit(misfit));
+        }
+        self.commands.reserve(1)?;
+        self.strokes.take(&command)?;
+        self.exports = exports_after(self.exports, &command);
+        put_last(&mut self.commands, command);
+        Ok(())
+    }
+}
+
+/// Adds an item at the end, where there is room for it.
+fn put_last<T: Copy>(items: &mut Vec<T>, item: T)
+    requires { vec_len items.old < vec_capacity items.old }
+    ensures { items.new.items ≡ items.old.items ++ item ∷ [] }
+{
+    items.push_reserved(item);
+}

@@ -1,0 +1,93 @@
+//! A tile that was made whole takes the place of the one that stands on a device.
+
+ghost use Rattle.std.specs.Prelude.{◌≡◌, true, cond, Some, IfOk, OnOk, OnErr};
+ghost use Rattle.std.specs.FinSet as set;
+ghost use Rattle.geom_core.specs.Areas.{holds, Point};
+ghost use Rattle.geom_core.specs.Grid.{IsWorldKey};
+ghost use Rattle.tile_core.specs.Pixels.{pixel_at};
+ghost use Rattle.tile_core.specs.Shots.{sight_at};
+ghost use Rattle.doc_model.specs.Layers.{Layer};
+ghost use Rattle.doc_model.specs.Shots.{published, in_tile};
+ghost use Rattle.whole_tiles.specs.Wholes.{Shows};
+ghost use Rattle.paint_device.specs.Seen.{layer_of};
+ghost use Rattle.paint_device.specs.Sheets.{sheet_at};
+ghost use Rattle.memento_core.specs.Revisions.{keys_in};
+ghost use Rattle.desk_steps.specs.Founds.{GivesBack, StandIn};
+ghost use Rattle.desk_steps.specs.Tiles.{IsWholeOn};
+
+use crate::laying::{set_under, tile_under};
+use geom_core::{NoMemory, Rect, TileKey};
+use memento_core::Revision;
+use paint_device::Device;
+use std::alloc::Global;
+use tile_core::{Block, Shot, Tile};
+use whole_tiles::Whole;
+
+/// What a job leaves in a tile, made whole, comes onto the device, and what stood there before the
+/// stroke is noted. Where there is no memory no pixel has changed, and nothing was noted.
+pub fn put_whole(
+    alloc: Global,
+    device: &mut Device,
+    found: &mut Revision<Tile>,
+    whole: &Whole,
+) -> Result<(), NoMemory>
+    requires { StandIn found.old (Some device.old) }
+    ensures ok { (shot : Layer) → Shows whole.now.needs whole.now.base shot → OnOk result (layer_of device.new ≡ published whole.now.job shot whole.now.key (layer_of device.old)) }
+    ensures keys { OnOk result (keys_in found.new ≡ set.insert (keys_in found.old) whole.now.key) }
+    ensures back { GivesBack found.old found.new device.old device.new }
+    ensures err { OnErr result (layer_of device.new ≡ layer_of device.old) }
+    ensures no_note { OnErr result (found.new ≡ found.old) }
+{
+    let tile = tile_with(alloc, device, whole)?;
+    set_under(device, found, whole.key(), tile)
+}
+
+/// The tile that is to stand under the key: the new one itself, shared, where the device has still the
+/// pixels that it was made from, and else the device's own with what the job writes.
+fn tile_with(alloc: Global, device: &Device, whole: &Whole) -> Result<Tile, NoMemory>
+    ensures { IfOk result (IsWholeOn whole.now device.now) }
+{
+    if stands_as(device, whole.base(), whole.key()) {
+        whole.tile().share()
+    } else {
+        merged(alloc, device, whole)
+    }
+}
+
+/// Whether the device has the base's pixels in the tile, as far as it is seen at once.
+fn stands_as(device: &Device, base: &Shot, key: TileKey) -> bool
+    requires { IsWorldKey key }
+    ensures { result ≡ true → (p : Point) → in_tile key p ≡ true → sheet_at device.now p ≡ sight_at base.now p }
+{
+    match (device.tile(key), base.tile(key)) {
+        (Some(now), Some(before)) => now.same_in(before, key, &key.rect()),
+        (None, None) => device.ground() == base.ground(),
+        _ => false,
+    }
+}
+
+/// The device's tile with the new tile's pixels on what the job writes.
+fn merged(alloc: Global, device: &Device, whole: &Whole) -> Result<Tile, NoMemory>
+    ensures { IfOk result (IsWholeOn whole.now device.now) }
+{
+    let mut tile = tile_under(alloc, device, whole.key())?;
+    let writes = whole.job().writes();
+    for rect in writes.as_slice() {
+        tile = with_part(alloc, tile, whole, rect)?;
+    }
+    Ok(tile)
+}
+
+/// A tile with the new tile's pixels on what it has of a rectangle.
+fn with_part(alloc: Global, tile: Tile, whole: &Whole, rect: &Rect) -> Result<Tile, NoMemory>
+    ensures { IfOk result (λ t. (p : Point) → in_tile whole.now.key p ≡ true → pixel_at t p ≡ cond (holds rect.now p) (pixel_at whole.now.tile p) (pixel_at tile p)) }
+{
+    let key = whole.key();
+    match rect.clip(&key.rect()) {
+        Some(part) => {
+            let pixels = whole.tile().part(alloc, key, &part)?;
+            tile.with_region(alloc, &Block::from_pixels(key, part, pixels))
+        }
+        None => Ok(tile),
+    }
+}

@@ -1,0 +1,124 @@
+//! Tiles of a job that were made whole come to the desk.
+
+ghost use Rattle.std.specs.Prelude.{◌≡◌, ◌↔◌, IsTrue, true, false, is_some, Ok, OnOk, OnErr, [], ◌∷◌};
+ghost use Rattle.std.specs.List.{list_all};
+ghost use Rattle.std.specs.FinSet as set;
+ghost use Rattle.geom_core.specs.Grid.{keys_of, all_keys_of};
+ghost use Rattle.doc_model.specs.Lawful.{within_limits};
+ghost use Rattle.doc_model.specs.Jobs.{checks, reads, writes};
+ghost use Rattle.job_core.specs.Paints.{layer_of, paint};
+ghost use Rattle.desk_steps.specs.Archives.{with_put};
+ghost use Rattle.desk_work.specs.Lacking.{IsOfJob, AreLacking, IsNext, is_seen};
+
+use crate::painting::writes_in;
+use desk_parts::{Painter, has_key};
+use desk_steps::Store;
+use geom_core::{NoMemory, Rect, TileKey};
+use std::alloc::Global;
+use std::collections::BTreeSet;
+use whole_tiles::Whole;
+
+/// Whether the tiles are just those that a job has still to publish, each once, made of that job and
+/// from the pixels that it was started with.
+///
+/// # Errors
+/// `NoMemory`, for the set of their keys.
+pub fn are_lacking(alloc: Global, painter: &Painter, tiles: &[Whole]) -> Result<bool, NoMemory>
+    requires checked { checks painter.now.job ≡ true }
+    requires limits { within_limits painter.now.job ≡ true }
+    requires kept { painter.now.shot.rects ≡ reads painter.now.job }
+    ensures some { result ≡ Ok true → AreLacking painter.now.job (layer_of painter.now.shot) painter.now.published tiles.now }
+    ensures none { result ≡ Ok false → AreLacking painter.now.job (layer_of painter.now.shot) painter.now.published tiles.now → ⊥ }
+{
+    let mut keys = BTreeSet::new(alloc);
+    for whole in tiles {
+        if !is_next(painter, &keys, whole) {
+            return Ok(false);
+        }
+        keys.insert(whole.key())?;
+    }
+    Ok(has_all(painter, &keys))
+}
+
+/// Whether the tile is one of the job that is neither published nor among the keys.
+fn is_next(painter: &Painter, keys: &BTreeSet<TileKey>, whole: &Whole) -> bool
+    requires checked { checks painter.now.job ≡ true }
+    requires limits { within_limits painter.now.job ≡ true }
+    requires kept { painter.now.shot.rects ≡ reads painter.now.job }
+    ensures some { result ≡ true → IsNext painter.now.job (layer_of painter.now.shot) painter.now.published (set.from_list keys.now.keys) whole.now }
+    ensures none { result ≡ false → IsNext painter.now.job (layer_of painter.now.shot) painter.now.published (set.from_list keys.now.keys) whole.now → ⊥ }
+{
+    let key = whole.key();
+    is_of_job(painter, whole) && writes_in(&painter.job, key) && !is_there(painter, keys, key)
+}
+
+/// Whether the tile was made of the job, and the job was started with the pixels that the tile was made
+/// from. No memory.
+fn is_of_job(painter: &Painter, whole: &Whole) -> bool
+    requires kept { painter.now.shot.rects ≡ reads painter.now.job }
+    ensures some { result ≡ true → IsOfJob painter.now.job (layer_of painter.now.shot) whole.now }
+    ensures none { result ≡ false → IsOfJob painter.now.job (layer_of painter.now.shot) whole.now → ⊥ }
+{
+    let _key = whole.key();
+    whole.job().same_as(&painter.job) && painter.shot.same_on(whole.base(), &[whole.needs()])
+}
+
+/// Whether each tile that the job writes is published or among the keys.
+fn has_all(painter: &Painter, keys: &BTreeSet<TileKey>) -> bool
+    requires { checks painter.now.job ≡ true }
+    ensures { result ≡ list_all (is_seen painter.now.published (set.from_list keys.now.keys)) (all_keys_of (writes painter.now.job)) }
+{
+    let writes = painter.job.writes();
+    for rect in writes.as_slice() {
+        if !has_all_in(painter, keys, rect) {
+            return false;
+        }
+    }
+    true
+}
+
+/// The same of those that a rectangle meets.
+fn has_all_in(painter: &Painter, keys: &BTreeSet<TileKey>, rect: &Rect) -> bool
+    ensures { result ≡ list_all (is_seen painter.now.published (set.from_list keys.now.keys)) (keys_of rect.now) }
+{
+    for i in 0..rect.tile_count() {
+        if !is_there(painter, keys, rect.tile_at(i)) {
+            return false;
+        }
+    }
+    true
+}
+
+/// Whether the tile is published or among the keys.
+fn is_there(painter: &Painter, keys: &BTreeSet<TileKey>, key: TileKey) -> bool
+    ensures { result ≡ is_seen painter.now.published (set.from_list keys.now.keys) key }
+{
+    has_key(&painter.published, key) || keys.contains(&key)
+}
+
+/// A tile of the job, made whole, comes onto the layer of the stroke under way, and its key is noted.
+///
+/// # Errors
+/// `NoMemory`; all is as it was.
+pub fn exchange_own(
+    alloc: Global,
+    store: &mut Store,
+    painter: &mut Painter,
+    whole: &Whole,
+) -> Result<(), NoMemory>
+    requires begun { is_some store.old.way ≡ true }
+    requires of { IsOfJob painter.old.job (layer_of painter.old.shot) whole.now }
+    ensures store { OnOk result (store.new ≡ with_put store.old.way (paint painter.old.job painter.old.shot whole.now.key []) store.old) }
+    ensures noted { OnOk result (painter.new ≡ record painter.old { published = whole.now.key ∷ painter.old.published }) }
+    ensures same_store { OnErr result (store.new ≡ store.old) }
+    ensures same_painter { OnErr result (painter.new ≡ painter.old) }
+{
+    painter.published.note(whole.key())?;
+    match store.put_whole(alloc, whole) {
+        Ok(()) => Ok(()),
+        Err(e) => {
+            painter.published.take_back();
+            Err(e)
+        }
+    }
+}

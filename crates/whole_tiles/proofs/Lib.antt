@@ -1,0 +1,5 @@
+pub mod Seen
+pub mod Hanging
+pub mod Based
+pub mod News
+pub mod Tiles

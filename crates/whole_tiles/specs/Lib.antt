@@ -1,0 +1,4 @@
+pub mod Enough
+pub mod Base
+pub mod Wholes
+pub mod Plans

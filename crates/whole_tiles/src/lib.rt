@@ -1,0 +1,11 @@
+//! Tiles of a job, made whole away from the layer that they are for.
+#![tactic(auto)]
+
+mod base;
+mod needs;
+mod painting;
+mod pixels;
+mod whole;
+
+pub use painting::Painting;
+pub use whole::{Whole, whole_tile, whole_tile_like};
