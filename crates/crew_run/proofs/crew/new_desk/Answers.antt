@@ -1,0 +1,7 @@
+use Rattle.std.proofs.Common.{sym, subst}
+use Rattle.doc_model.specs.Canvases.{IsOfLimits}
+use Rattle.solo_run.proofs.Scripts.{script_holds}
+use Rattle.crew_run.proofs.crew.new_desk.Goals as goal
+
+pub new-requires-clause-canvas : goal.new-requires-clause-canvas
+new-requires-clause-canvas c = subst IsOfLimits (sym c.canvas.ensures) (script_holds c.args.script.now c.commands-commands.ensures.script).canvas

@@ -1,0 +1,276 @@
+//! What lies under the lock.
+
+ghost use Rattle.std.specs.Prelude.{◌≡◌};
+ghost use Rattle.script_text.specs.Script.{Contents};
+ghost use Rattle.crew_run.specs.Front.{IsFront, nothing};
+
+use crate::calls::{Took, put_job, put_walk, take};
+use crate::feeding::feed_ahead;
+use crate::pieces::Piece;
+use crate::work::{TakenJob, Tiles, Work};
+use desk_core::{Desk, Published, SlotId, WalkTicket};
+use geom_core::NoMemory;
+use memento_core::Steps;
+use script_text::Script;
+use std::alloc::Global;
+use std::marker::{Brand, PhantomData};
+use std::sync::Arc;
+use std::sync::ledger::Ledger;
+use walker_core::Composed;
+use whole_tiles::Whole;
+
+/// From how many points on work is worth waking another thread for what is left beside it.
+const WORTH_TWO: u64 = 7_500;
+
+/// Which script is painted. Each call of the crew picks it.
+pub(crate) trait Following {
+    ghost script: { Contents };
+}
+
+impl Following for Brand {
+    ghost script = { nothing };
+}
+
+/// A desk whose canvas is the script's and whose commands begin the script, and what is known of the
+/// threads.
+#[derive(Drop)]
+pub(crate) struct Board<J: Following> {
+    alloc: Global,
+    desk: Desk,
+    /// The caller's thread and those of the workers.
+    threads: usize,
+    /// The jobs that several threads paint.
+    pieces: Vec<Piece>,
+    /// How many jobs were taken and not published.
+    jobs: usize,
+    /// How many walks were.
+    walks: usize,
+    /// Whether another job could start beside the one that was taken last.
+    run_goes_on: bool,
+    /// How many threads sleep.
+    asleep: usize,
+    /// Whether the threads are to stop: all is done, or it can't be done here.
+    is_over: bool,
+    of: PhantomData<J>,
+    ghost canvas_is: { desk.canvas ≡ J.script.canvas },
+    ghost front: { IsFront desk.fed J.script.commands },
+}
+
+/// What a thread has to do.
+#[derive(Drop)]
+pub(crate) struct Part {
+    pub(crate) work: Work,
+    /// Whether something is left at once that is worth another thread.
+    pub(crate) leaves: bool,
+}
+
+/// What is to be done with the tiles that a thread brought.
+#[derive(Drop)]
+pub(crate) enum Brought {
+    /// Nothing: some tiles of the job are missing.
+    Kept,
+    /// All tiles are there: the gate is entered, and then they are published.
+    All(Arc<TakenJob, Global>, Vec<Whole>),
+    /// The threads stop.
+    Over,
+}
+
+/// One look at the board.
+#[derive(Drop)]
+pub(crate) enum Next {
+    Part(Part),
+    /// An event was made; more may be there.
+    Again,
+    /// Others have all the work that can be done now.
+    Wait,
+    /// The threads stop.
+    Stop,
+}
+
+impl<J: Following> Board<J> {
+    /// A board on which nothing is at work.
+    pub(crate) fn new(alloc: Global, desk: Desk, threads: usize) -> Board<J>
+        requires canvas { desk.canvas ≡ J.script.canvas }
+        requires front { IsFront desk.fed J.script.commands }
+    {
+        Board {
+            alloc,
+            desk,
+            threads,
+            pieces: Vec::new(alloc),
+            jobs: 0,
+            walks: 0,
+            run_goes_on: false,
+            asleep: 0,
+            is_over: false,
+            of: PhantomData,
+        }
+    }
+
+    /// The desk.
+    pub(crate) fn into_desk(self) -> Desk
+        ensures canvas { result.canvas ≡ J.script.canvas }
+        ensures front { IsFront result.fed J.script.commands }
+    {
+        let Board { desk, .. } = self;
+        desk
+    }
+
+    /// Tiles of a job under way, or new work, or one event. Where that can't be done, the threads are to stop.
+    pub(crate) fn look<L: Ledger>(&mut self, script: &Script, steps: &mut Steps<L>) -> Next
+        requires { script.now ≡ J.script }
+    {
+        if self.is_over {
+            return Next::Stop;
+        }
+        let next = match self.join() {
+            Ok(Some(part)) => Ok(Next::Part(part)),
+            Ok(None) => self.take(script, steps),
+            Err(NoMemory) => Err(NoMemory),
+        };
+        match next {
+            Ok(Next::Stop) | Err(NoMemory) => {
+                self.is_over = true;
+                Next::Stop
+            }
+            Ok(next) => next,
+        }
+    }
+
+    /// Tiles of a job under way.
+    fn join(&mut self) -> Result<Option<Part>, NoMemory> {
+        for piece in &mut self.pieces {
+            if piece.is_open() {
+                let tiles = piece.give()?;
+                return Ok(Some(Part {
+                    leaves: piece.is_open(),
+                    work: Work::Tiles(tiles),
+                }));
+            }
+        }
+        Ok(None)
+    }
+
+    /// New work, or one event. While jobs are at work for which the head waits nothing is composed: what they
+    /// change would be composed again.
+    fn take<L: Ledger>(&mut self, script: &Script, steps: &mut Steps<L>) -> Result<Next, NoMemory>
+        requires { script.now ≡ J.script }
+    {
+        if !feed_ahead(&mut self.desk, script) {
+            return Err(NoMemory);
+        }
+        if self.jobs > 0 && !self.desk.head_may_go() {
+            return Ok(Next::Wait);
+        }
+        match take(self.alloc, &mut self.desk, steps)? {
+            Took::Job(job) => self.begin_job(job),
+            Took::Walk(walk) => Ok(Next::Part(self.begin_walk(walk))),
+            Took::Did => Ok(Next::Again),
+            Took::Idle if self.jobs > 0 || self.walks > 0 => Ok(Next::Wait),
+            Took::Idle | Took::Settled => Ok(Next::Stop),
+        }
+    }
+
+    /// Some tiles of a new job, or all.
+    fn begin_job(&mut self, job: TakenJob) -> Result<Next, NoMemory> {
+        self.jobs = self.jobs.saturating_add(1);
+        let job = Arc::new(self.alloc, job)?;
+        if Piece::is_worth(&job, self.threads) {
+            return self.begin_piece(job);
+        }
+        let is_first = !self.run_goes_on;
+        self.run_goes_on = self.desk.head_may_go();
+        let leaves = self.run_goes_on && (is_first || job.load > WORTH_TWO);
+        let to = job.painting.tile_count();
+        let tiles = Tiles {
+            job,
+            from: 0,
+            to,
+            are_all: true,
+        };
+        Ok(Next::Part(Part {
+            work: Work::Tiles(tiles),
+            leaves,
+        }))
+    }
+
+    /// The first tiles of a new job that several threads paint.
+    fn begin_piece(&mut self, job: Arc<TakenJob, Global>) -> Result<Next, NoMemory> {
+        self.run_goes_on = self.desk.head_may_go();
+        let mut piece = Piece::new(self.alloc, job, self.threads)?;
+        if !piece.is_open() {
+            return Err(NoMemory);
+        }
+        let tiles = piece.give()?;
+        let leaves = piece.is_open();
+        self.pieces.push(piece)?;
+        Ok(Next::Part(Part {
+            work: Work::Tiles(tiles),
+            leaves,
+        }))
+    }
+
+    /// A new walk.
+    fn begin_walk(&mut self, walk: WalkTicket) -> Part {
+        self.walks = self.walks.saturating_add(1);
+        let rect = walk.inputs.patch().rect;
+        let points = u64::from(rect.w()).saturating_mul(u64::from(rect.h()));
+        Part {
+            work: Work::Walk(walk),
+            leaves: points > WORTH_TWO,
+        }
+    }
+
+    /// Takes what was painted of some tiles of a job.
+    pub(crate) fn bring(&mut self, serial: u64, made: &mut Vec<Whole>) -> Brought {
+        let Some(i) = self.pieces.iter().position(|p| p.serial() == serial) else {
+            return Brought::Over;
+        };
+        match self.pieces[i].gather(made) {
+            Ok(false) => Brought::Kept,
+            Ok(true) => {
+                let (job, made) = self.pieces.swap_remove(i).into_results();
+                Brought::All(job, made)
+            }
+            Err(NoMemory) => Brought::Over,
+        }
+    }
+
+    /// Publishes all tiles of a job. Where that can't be done the threads are to stop.
+    pub(crate) fn put_job(&mut self, slot: SlotId, made: &[Whole]) {
+        self.jobs = self.jobs.saturating_sub(1);
+        match put_job(&mut self.desk, slot, made) {
+            Ok(Published::Stored) => {}
+            Ok(Published::Nothing) | Err(NoMemory) => self.is_over = true,
+        }
+    }
+
+    /// Publishes all groups of a walk. Where that can't be done the threads are to stop.
+    pub(crate) fn put_walk(&mut self, slot: SlotId, composed: &Composed<'_>) {
+        self.walks = self.walks.saturating_sub(1);
+        match put_walk(&mut self.desk, slot, composed) {
+            Ok(Published::Stored) => {}
+            Ok(Published::Nothing) | Err(NoMemory) => self.is_over = true,
+        }
+    }
+
+    /// The threads are to stop.
+    pub(crate) fn give_up(&mut self) {
+        self.is_over = true;
+    }
+
+    /// A thread goes to sleep.
+    pub(crate) fn sleeps(&mut self) {
+        self.asleep = self.asleep.saturating_add(1);
+    }
+
+    /// A thread woke.
+    pub(crate) fn wakes(&mut self) {
+        self.asleep = self.asleep.saturating_sub(1);
+    }
+
+    /// Whether a thread sleeps.
+    pub(crate) fn has_sleeper(&self) -> bool {
+        self.asleep > 0
+    }
+}

@@ -1,0 +1,114 @@
+//! The calls on a desk that aren't feeding: each keeps its canvas and the commands that were fed.
+
+ghost use Rattle.crew_run.specs.Front.{KeepsFed};
+
+use crate::work::TakenJob;
+use desk_core::{Desk, Ended, Published, SlotId, Taken, WalkTicket};
+use geom_core::{NoMemory, TileKey};
+use memento_core::Steps;
+use std::alloc::Global;
+use std::sync::ledger::Ledger;
+use walker_core::Composed;
+use whole_tiles::Whole;
+
+/// What was taken.
+#[derive(Drop)]
+pub(crate) enum Took {
+    Job(TakenJob),
+    Walk(WalkTicket),
+    /// Something was done at once.
+    Did,
+    /// All that can be done is at work.
+    Idle,
+    /// All is done.
+    Settled,
+}
+
+/// Takes what may be done next.
+pub(crate) fn take<L: Ledger>(
+    alloc: Global,
+    desk: &mut Desk,
+    steps: &mut Steps<L>,
+) -> Result<Took, NoMemory>
+    ensures { KeepsFed desk.old desk.new }
+{
+    match desk.take(steps)? {
+        Taken::Paint(ticket) => Ok(Took::Job(TakenJob::new(alloc, ticket)?)),
+        Taken::Walk(ticket) => Ok(Took::Walk(ticket)),
+        Taken::Did => Ok(Took::Did),
+        Taken::Idle => Ok(Took::Idle),
+        Taken::Settled => Ok(Took::Settled),
+    }
+}
+
+/// Publishes all tiles of a job, and ends it, in one hold of the lock.
+pub(crate) fn put_job(desk: &mut Desk, slot: SlotId, tiles: &[Whole]) -> Result<Published, NoMemory>
+    ensures { KeepsFed desk.old desk.new }
+{
+    desk.commit(slot, tiles)
+}
+
+/// Publishes all groups of a walk, and ends it, in one hold of the lock. `Nothing` where they aren't all of
+/// the work in that slot.
+pub(crate) fn put_walk(
+    desk: &mut Desk,
+    slot: SlotId,
+    composed: &Composed<'_>,
+) -> Result<Published, NoMemory>
+    ensures { KeepsFed desk.old desk.new }
+{
+    put_groups(desk, slot, composed)?;
+    Ok(end(desk, slot))
+}
+
+/// Publishes the groups of a walk on all tiles of its patch.
+fn put_groups(desk: &mut Desk, slot: SlotId, composed: &Composed<'_>) -> Result<(), NoMemory>
+    ensures { KeepsFed desk.old desk.new }
+{
+    let rect = composed.inputs().patch().rect;
+    for i in 0..rect.tile_count() {
+        put_groups_in(desk, slot, composed, rect.tile_at(i))?;
+    }
+    Ok(())
+}
+
+/// Publishes them on one tile.
+fn put_groups_in(
+    desk: &mut Desk,
+    slot: SlotId,
+    composed: &Composed<'_>,
+    key: TileKey,
+) -> Result<(), NoMemory>
+    ensures { KeepsFed desk.old desk.new }
+{
+    for group in composed.inputs().path() {
+        put_group(desk, slot, composed, *group, key)?;
+    }
+    Ok(())
+}
+
+/// Publishes one of them there.
+fn put_group(
+    desk: &mut Desk,
+    slot: SlotId,
+    composed: &Composed<'_>,
+    group: u16,
+    key: TileKey,
+) -> Result<(), NoMemory>
+    ensures { KeepsFed desk.old desk.new }
+{
+    match desk.publish_walk(slot, composed, group, key)? {
+        Published::Stored => Ok(()),
+        Published::Nothing => Ok(()),
+    }
+}
+
+/// Ends the work in a slot.
+fn end(desk: &mut Desk, slot: SlotId) -> Published
+    ensures { KeepsFed desk.old desk.new }
+{
+    match desk.end(slot) {
+        Ended::Done => Published::Stored,
+        Ended::Nothing => Published::Nothing,
+    }
+}

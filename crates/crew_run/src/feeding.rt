@@ -1,0 +1,68 @@
+//! Feeding a script to a desk.
+
+ghost use Rattle.std.specs.Prelude.{◌≡◌, ◌≤◌, ◌<◌, ◌-◌, ◌^◌, length, take, OnOk};
+ghost use Rattle.machine_model.specs.State.{IsSettled};
+ghost use Rattle.crew_run.specs.Front.{IsFront};
+
+use desk_core::Desk;
+use geom_core::NoMemory;
+use memento_core::Steps;
+use script_text::Script;
+use std::sync::ledger::Ledger;
+
+/// How many commands are fed at most.
+const MOST: usize = 4_294_967_295;
+
+/// Feeds the next command of a script. `false` where none is left, or no memory.
+#[tactic(auto, using(crate::proofs::Fronts::front_more, crate::proofs::Fronts::next_follows))]
+fn feed_next(desk: &mut Desk, script: &Script) -> bool
+    requires front { IsFront desk.old.fed script.now.commands }
+    ensures front { IsFront desk.new.fed script.now.commands }
+    ensures canvas { desk.new.canvas ≡ desk.old.canvas }
+{
+    let _lawful = script.commands();
+    let count = desk.fed().len();
+    if count >= script.len() || count >= MOST {
+        return false;
+    }
+    desk.feed(script.command(count)).is_ok()
+}
+
+/// Feeds a script on until the entry at the head is closed, or nothing is left. `false` where no memory
+/// was left.
+pub(crate) fn feed_ahead(desk: &mut Desk, script: &Script) -> bool
+    requires front { IsFront desk.old.fed script.now.commands }
+    ensures front { IsFront desk.new.fed script.now.commands }
+    ensures canvas { desk.new.canvas ≡ desk.old.canvas }
+{
+    for _ in desk.fed().len()..script.len() {
+        if !desk.wants_commands() {
+            return true;
+        }
+        if !feed_next(desk, script) {
+            return false;
+        }
+    }
+    true
+}
+
+/// Feeds what is left of a script, and does all of it on the caller's thread.
+#[tactic(auto, using(crate::proofs::Fronts::one_more, solo_run::proofs::Fronts::take_all, crate::proofs::Fronts::next_follows))]
+pub(crate) fn finish<L: Ledger>(
+    desk: &mut Desk,
+    script: &Script,
+    steps: &mut Steps<L>,
+) -> Result<(), NoMemory>
+    requires canvas { desk.old.canvas ≡ script.now.canvas }
+    requires front { IsFront desk.old.fed script.now.commands }
+    requires few { length script.now.commands ≤ 2 ^ 32 - 1 }
+    ensures settled { OnOk result (IsSettled desk.new) }
+    ensures canvas { OnOk result (desk.new.canvas ≡ script.now.canvas) }
+    ensures fed { OnOk result (desk.new.fed ≡ script.now.commands) }
+{
+    let _lawful = script.commands();
+    for i in desk.fed().len()..script.len() {
+        desk.feed(script.command(i))?;
+    }
+    desk.settle(steps)
+}

@@ -1,0 +1,12 @@
+//! Workers and the caller paint a script together, on one desk behind a lock. What lies under the lock
+//! knows the script.
+#![tactic(auto)]
+
+mod board;
+mod calls;
+mod crew;
+mod feeding;
+mod pieces;
+mod work;
+
+pub use crew::run_crew;
