@@ -1,5 +1,5 @@
 -- Why a command may not follow others, its job's own limits aside.
-use Rattle.std.specs.Prelude.{◌≡◌, ℕ, nat_lt, if◌then◌else◌, Option, Some, None, Result, Ok, Err, List, length, filter}
+use Rattle.std.specs.Prelude.{ℕ, nat_lt, if◌then◌else◌, Option, Some, None, List, length, filter}
 use Rattle.std.specs.List.{list_any}
 use Rattle.std.specs.Option.{option_or}
 use Rattle.doc_model.specs.declared.command.Command.{Command}
@@ -7,8 +7,6 @@ use Rattle.doc_model.specs.declared.command.Command.TheVariants as command
 use Rattle.doc_model.specs.Strokes.{Entry, is_open_stroke, is_stroke, has_room, is_export}
 use Rattle.command_log.specs.declared.refusal.Misfit.{Misfit}
 use Rattle.command_log.specs.declared.refusal.Misfit.TheVariants.{UsedAgain, UnknownStroke, ClosedStroke, TooManyJobs, TooManyExports}
-use Rattle.command_log.specs.declared.refusal.Refusal.{Refusal}
-use Rattle.command_log.specs.declared.refusal.Refusal.TheVariants as refusal
 
 -- why no stroke with that number takes jobs or is closed
 abbrev pub not_open : ℕ → List Entry → Option Misfit
@@ -22,9 +20,3 @@ misfit_of es (command.End n) = not_open n es
 misfit_of es (command.Cancel n) = not_open n es
 misfit_of es command.Export = if nat_lt (length (filter is_export es)) 64 then None else Some TooManyExports
 misfit_of es c = None
-
--- a command is refused for that, or for want of memory
-abbrev pub Refuses : {A : Type 0} → Result A Refusal → Option Misfit → Type 0
-Refuses (Ok x) misfit = misfit ≡ None
-Refuses (Err (refusal.Misfit m)) misfit = misfit ≡ Some m
-Refuses (Err refusal.NoMemory) misfit = Unit {0}

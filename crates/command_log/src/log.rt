@@ -5,7 +5,8 @@ ghost use Rattle.std.specs.List.{list_any};
 ghost use Rattle.doc_model.specs.Strokes.{entries, is_open_stroke, has_room};
 ghost use Rattle.doc_model.specs.Lawful.{may_follow};
 ghost use Rattle.command_log.specs.declared.refusal.Refusal.TheVariants as refusal;
-ghost use Rattle.command_log.specs.Misfits.{misfit_of, Refuses};
+ghost use Rattle.command_log.specs.Misfits.{misfit_of};
+ghost use Rattle.command_log.specs.Log.{Refuses};
 ghost use Rattle.command_log.specs.Table.{Tells, export_misfit as said_export, exports_after as count_after};
 
 use crate::refusal::{Misfit, Refusal};

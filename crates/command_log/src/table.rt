@@ -5,7 +5,7 @@ ghost use Rattle.std.specs.Result.{result_err};
 ghost use Rattle.std.specs.Ordering.{nat_cmp};
 ghost use Rattle.std.specs.BTreeMap.{get as found};
 ghost use Rattle.command_log.specs.declared.refusal.Refusal.TheVariants as refusal;
-ghost use Rattle.command_log.specs.Misfits.{Refuses};
+ghost use Rattle.command_log.specs.Log.{Refuses};
 ghost use Rattle.command_log.specs.Table.{kept, fresh, one_more, closed as shut, next_fed, start_misfit, close_misfit, job_misfit, stroke_misfit};
 
 use crate::refusal::{Misfit, Refusal};

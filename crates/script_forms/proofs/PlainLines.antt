@@ -14,7 +14,7 @@ use Rattle.script_forms.specs.declared.words.Work.TheVariants.{Fill, Dab}
 use Rattle.script_forms.specs.declared.jobs.Outline.{Outline}
 use Rattle.script_forms.specs.declared.jobs.Ink.{Ink}
 use Rattle.script_forms.specs.declared.jobs.Tip.{Tip}
-use Rattle.script_forms.specs.Words.{kind_of, op_of, edge_of}
+use Rattle.script_forms.specs.Jobs.{kind_of, op_of, edge_of}
 use Rattle.script_forms.specs.Jobs.{Fields, coordinate, outline, area_of, ink, tip, checked, job_fields, job_of, paint}
 use Rattle.script_forms.specs.Plain.{BeginsOutline, BeginsTip, IsInkLine, IsPaintLine}
 

@@ -1,5 +1,7 @@
--- What each line says by itself, behind its command word.
-use Rattle.std.specs.Prelude.{ℕ, false, List, [], ◌∷◌, Result, Ok, Err}
+-- The command words of lines, and what each line says by itself behind its word.
+use Rattle.std.specs.Prelude.{ℕ, Bool, true, false, List, [], ◌∷◌, codes, Option, Result, Ok, Err}
+use Rattle.std.specs.Map.{lookup}
+use Rattle.std.specs.Str.{bytes_eq}
 use Rattle.pixel_core.specs.Rgba.{clear, rgba as pixel}
 use Rattle.doc_model.specs.declared.canvas.Canvas.{Canvas}
 use Rattle.doc_model.specs.declared.tree.Change.TheVariants as change
@@ -8,10 +10,29 @@ use Rattle.doc_model.specs.declared.command.Command.TheVariants as command
 use Rattle.script_lines.specs.declared.cause.Cause.{Cause}
 use Rattle.script_lines.specs.declared.cause.Cause.TheVariants.{FieldCount}
 use Rattle.script_lines.specs.Values.{rgb, rgba, natural, ◌>>=◌}
+use Rattle.script_forms.specs.declared.words.Work.TheVariants.{Fill, Dab, Move, Blur}
 use Rattle.script_forms.specs.declared.words.Word.{Word}
 use Rattle.script_forms.specs.declared.words.Word.TheVariants.{Layer, Group, Remove, Place, Look, Stroke, Paint, End, Cancel, Undo, Redo, Purge, Export}
-use Rattle.script_forms.specs.Words.{op_of, seen_of, exclusive_of}
-use Rattle.script_forms.specs.Jobs.{Fields, paint}
+use Rattle.script_forms.specs.Jobs.{Fields, one_of, op_of, paint}
+
+abbrev pub canvas_text : List ℕ
+canvas_text = codes "canvas"
+
+-- the command word of a line other than the canvas
+unfoldable pub word_of : List ℕ → Option Word
+word_of field = lookup (bytes_eq field) (
+    (codes "layer", Layer) ∷ (codes "group", Group) ∷ (codes "remove", Remove) ∷ (codes "place", Place) ∷ (codes "look", Look)
+    ∷ (codes "fill", Paint Fill) ∷ (codes "dab", Paint Dab) ∷ (codes "move", Paint Move) ∷ (codes "blur", Paint Blur)
+    ∷ (codes "stroke", Stroke) ∷ (codes "end", End) ∷ (codes "cancel", Cancel)
+    ∷ (codes "undo", Undo) ∷ (codes "redo", Redo) ∷ (codes "purge", Purge) ∷ (codes "export", Export) ∷ [])
+
+-- whether a node is seen
+unfoldable pub seen_of : List ℕ → Result Bool Cause
+seen_of = one_of ((codes "on", true) ∷ (codes "off", false) ∷ [])
+
+-- the mark of an exclusive stroke
+unfoldable pub exclusive_of : List ℕ → Result Bool Cause
+exclusive_of = one_of ((codes "exclusive", true) ∷ [])
 
 -- a node's number
 abbrev pub id_of : List ℕ → Result ℕ Cause

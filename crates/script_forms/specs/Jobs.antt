@@ -1,24 +1,45 @@
--- The lines that add a job to a stroke, behind their command word.
-use Rattle.std.specs.Prelude.{ℕ, ℤ, pos, negsuc, ◌==◌, List, [], ◌∷◌, length, Result, Ok, Err, if◌then◌else◌}
+-- The lines that add a job to a stroke, behind their command word, and the words that stand in them.
+use Rattle.std.specs.Prelude.{ℕ, ℤ, pos, negsuc, Bool, true, false, ◌==◌, List, [], ◌∷◌, length, codes, Result, Ok, Err, if◌then◌else◌}
+use Rattle.std.specs.Option.{ok_or}
+use Rattle.std.specs.Map.{lookup}
+use Rattle.std.specs.Str.{bytes_eq}
+use Rattle.pixel_core.specs.declared.blending.Op.{Op}
+use Rattle.pixel_core.specs.declared.blending.Op.TheVariants.{Over, Erase, Multiply, Screen, Addition}
 use Rattle.geom_core.specs.Areas.{Area, area}
+use Rattle.doc_model.specs.declared.job.Kind.{Kind}
+use Rattle.doc_model.specs.declared.job.Kind.TheVariants.{Con, Seq, Bar, Uni}
 use Rattle.doc_model.specs.declared.job.Job.{Job}
 use Rattle.doc_model.specs.declared.job.Job.TheVariants as job
 use Rattle.doc_model.specs.declared.command.Command.{Command}
 use Rattle.doc_model.specs.declared.command.Command.TheVariants.{Add}
 use Rattle.script_lines.specs.declared.cause.Cause.{Cause}
-use Rattle.script_lines.specs.declared.cause.Cause.TheVariants.{FieldCount, OutOfWorld}
+use Rattle.script_lines.specs.declared.cause.Cause.TheVariants.{FieldCount, OutOfWorld, UnknownWord}
 use Rattle.script_forms.specs.declared.words.Work.{Work}
 use Rattle.script_forms.specs.declared.words.Work.TheVariants.{Fill, Dab, Move, Blur}
 use Rattle.script_forms.specs.declared.jobs.Outline.{Outline}
 use Rattle.script_forms.specs.declared.jobs.Ink.{Ink}
 use Rattle.script_forms.specs.declared.jobs.Tip.{Tip}
-use Rattle.script_forms.specs.Words.{kind_of, op_of, edge_of}
 use Rattle.doc_model.specs.Jobs.{checks}
 use Rattle.script_lines.specs.Values.{natural, rgba, ◌>>=◌, number_in}
 
 -- the fields of a line behind its command word
 abbrev pub Fields : Type 0
 Fields = List (List ℕ)
+
+-- what a field says that has to be one of these texts
+abbrev pub one_of : {A : Type 0} → List (List ℕ × A) → List ℕ → Result A Cause
+one_of table field = ok_or (lookup (bytes_eq field) table) UnknownWord
+
+unfoldable pub kind_of : List ℕ → Result Kind Cause
+kind_of = one_of ((codes "con", Con) ∷ (codes "seq", Seq) ∷ (codes "bar", Bar) ∷ (codes "uni", Uni) ∷ [])
+
+unfoldable pub op_of : List ℕ → Result Op Cause
+op_of = one_of ((codes "over", Over) ∷ (codes "erase", Erase) ∷ (codes "multiply", Multiply)
+    ∷ (codes "screen", Screen) ∷ (codes "addition", Addition) ∷ [])
+
+-- whether an edge is soft
+unfoldable pub edge_of : List ℕ → Result Bool Cause
+edge_of = one_of ((codes "hard", false) ∷ (codes "soft", true) ∷ [])
 
 -- a column or a row
 abbrev pub coordinate : List ℕ → Result ℤ Cause

@@ -1,4 +1,3 @@
-pub mod Words
 pub mod Jobs
 pub mod Ranges
 pub mod Forms

@@ -2,7 +2,8 @@
 
 ghost use Rattle.std.specs.Prelude.{◌≡◌};
 ghost use Rattle.std.specs.Str.{bytes_eq};
-ghost use Rattle.script_forms.specs.Words.{word_of as said_word, kind_of as said_kind, op_of as said_op, edge_of as said_edge, seen_of as said_seen, exclusive_of as said_exclusive};
+ghost use Rattle.script_forms.specs.Jobs.{kind_of as said_kind, op_of as said_op, edge_of as said_edge};
+ghost use Rattle.script_forms.specs.Forms.{word_of as said_word, seen_of as said_seen, exclusive_of as said_exclusive};
 
 use doc_model::Kind;
 use pixel_core::Op;
@@ -42,7 +43,7 @@ pub fn is(field: &[u8], word: &[u8]) -> bool
     field == word
 }
 
-#[tactic(auto, unfolding(crate::specs::Words::word_of))]
+#[tactic(auto, unfolding(crate::specs::Forms::word_of))]
 pub fn word_of(field: &[u8]) -> Option<Word>
     ensures { result ≡ said_word field.now }
 {
@@ -67,7 +68,7 @@ pub fn word_of(field: &[u8]) -> Option<Word>
     }
 }
 
-#[tactic(auto, unfolding(crate::specs::Words::kind_of))]
+#[tactic(auto, unfolding(crate::specs::Jobs::kind_of))]
 pub fn kind_of(field: &[u8]) -> Result<Kind, Cause>
     ensures { result ≡ said_kind field.now }
 {
@@ -80,7 +81,7 @@ pub fn kind_of(field: &[u8]) -> Result<Kind, Cause>
     }
 }
 
-#[tactic(auto, unfolding(crate::specs::Words::op_of))]
+#[tactic(auto, unfolding(crate::specs::Jobs::op_of))]
 pub fn op_of(field: &[u8]) -> Result<Op, Cause>
     ensures { result ≡ said_op field.now }
 {
@@ -95,7 +96,7 @@ pub fn op_of(field: &[u8]) -> Result<Op, Cause>
 }
 
 /// Whether the edge is soft.
-#[tactic(auto, unfolding(crate::specs::Words::edge_of))]
+#[tactic(auto, unfolding(crate::specs::Jobs::edge_of))]
 pub fn edge_of(field: &[u8]) -> Result<bool, Cause>
     ensures { result ≡ said_edge field.now }
 {
@@ -107,7 +108,7 @@ pub fn edge_of(field: &[u8]) -> Result<bool, Cause>
 }
 
 /// Whether the node is seen.
-#[tactic(auto, unfolding(crate::specs::Words::seen_of))]
+#[tactic(auto, unfolding(crate::specs::Forms::seen_of))]
 pub fn seen_of(field: &[u8]) -> Result<bool, Cause>
     ensures { result ≡ said_seen field.now }
 {
@@ -119,7 +120,7 @@ pub fn seen_of(field: &[u8]) -> Result<bool, Cause>
 }
 
 /// Reads the mark of an exclusive stroke.
-#[tactic(auto, unfolding(crate::specs::Words::exclusive_of))]
+#[tactic(auto, unfolding(crate::specs::Forms::exclusive_of))]
 pub fn exclusive_of(field: &[u8]) -> Result<bool, Cause>
     ensures { result ≡ said_exclusive field.now }
 {

@@ -9,7 +9,7 @@ use Rattle.doc_model.specs.Strokes.{entries}
 use Rattle.script_lines.specs.Lines.{is_command}
 use Rattle.script_forms.specs.declared.words.Work.{Work}
 use Rattle.script_forms.specs.declared.words.Word.TheVariants.{Paint}
-use Rattle.script_forms.specs.Words.{word_of, canvas_text}
+use Rattle.script_forms.specs.Forms.{word_of, canvas_text}
 use Rattle.script_forms.specs.Texts.{work_text}
 use Rattle.script_forms.specs.Jobs.{Fields, paint}
 use Rattle.script_forms.specs.Forms.{command_of}

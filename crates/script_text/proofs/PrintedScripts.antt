@@ -8,7 +8,7 @@ use Rattle.doc_model.specs.Strokes.{Entry, fed, all_fed, entries}
 use Rattle.doc_model.specs.Lawful.{may_follow, lawful_after, lawful, is_closed_entry}
 use Rattle.script_lines.specs.Lines.{lines}
 use Rattle.script_forms.specs.Jobs.{Fields}
-use Rattle.script_forms.specs.Words.{canvas_text}
+use Rattle.script_forms.specs.Forms.{canvas_text}
 use Rattle.script_forms.specs.Texts.{word_text}
 use Rattle.script_forms.specs.Ranges.{in_range, in_limits, is_sound}
 use Rattle.script_text.specs.declared.reading.Start.{Start}

@@ -19,7 +19,8 @@ use Rattle.script_lines.specs.Values.{natural}
 use Rattle.script_forms.specs.declared.words.Work.TheVariants.{Fill, Dab, Move, Blur}
 use Rattle.script_forms.specs.declared.words.Word.{Word}
 use Rattle.script_forms.specs.declared.words.Word.TheVariants.{Layer, Group, Remove, Place, Look, Stroke, Paint, End, Cancel, Undo, Redo, Purge, Export}
-use Rattle.script_forms.specs.Words.{canvas_text, word_of, kind_of, op_of, edge_of, seen_of, exclusive_of}
+use Rattle.script_forms.specs.Jobs.{kind_of, op_of, edge_of}
+use Rattle.script_forms.specs.Forms.{canvas_text, word_of, seen_of, exclusive_of}
 use Rattle.script_forms.specs.Texts.{word_text, kind_text, op_text, edge_text, seen_text, exclusive_text}
 use Rattle.script_text.specs.Text.{rgb_text, rgba_text}
 use Rattle.script_text.proofs.PrintedFields.{digits_of, natural_back}

@@ -18,7 +18,7 @@ use Rattle.script_forms.specs.declared.words.Word.{Word}
 use Rattle.script_text.specs.declared.script.ScriptFault.{ScriptFault}
 use Rattle.script_text.specs.declared.reading.Start.{Start}
 use Rattle.script_text.specs.Script.{Contents, contents}
-use Rattle.script_forms.specs.Words.{word_of, canvas_text}
+use Rattle.script_forms.specs.Forms.{word_of, canvas_text}
 use Rattle.script_forms.specs.Jobs.{Fields}
 use Rattle.script_forms.specs.Forms.{canvas, command_of}
 

@@ -1,6 +1,6 @@
 use Rattle.std.proofs.Common.{refl, codes}
 use Rattle.std.proofs.Common.{true, false}
-use Rattle.script_forms.specs.Words.{edge_of}
+use Rattle.script_forms.specs.Jobs.{edge_of}
 use Rattle.script_forms.proofs.PlainLines.{word_first}
 use Rattle.script_forms.proofs.plain.edge_before.Goals as goal
 

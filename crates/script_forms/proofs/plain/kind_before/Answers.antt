@@ -1,6 +1,6 @@
 use Rattle.std.proofs.Common.{refl, codes}
 use Rattle.doc_model.specs.declared.job.Kind.TheVariants.{Con, Seq, Bar, Uni}
-use Rattle.script_forms.specs.Words.{kind_of}
+use Rattle.script_forms.specs.Jobs.{kind_of}
 use Rattle.script_forms.proofs.PlainLines.{word_first}
 use Rattle.script_forms.proofs.plain.kind_before.Goals as goal
 

@@ -1,5 +1,5 @@
 use Rattle.std.proofs.Common.{rules, subst}
-use Rattle.script_forms.specs.Words.{op_of}
+use Rattle.script_forms.specs.Jobs.{op_of}
 use Rattle.script_forms.specs.Plain.{IsInkLine}
 use Rattle.script_lines.specs.Fronts.{Begins}
 use Rattle.script_forms.proofs.PlainLines.{ink_last}

@@ -1,6 +1,6 @@
 use Rattle.std.proofs.Common.{refl, codes}
 use Rattle.pixel_core.specs.declared.blending.Op.TheVariants.{Over, Erase, Multiply, Screen, Addition}
-use Rattle.script_forms.specs.Words.{op_of}
+use Rattle.script_forms.specs.Jobs.{op_of}
 use Rattle.script_forms.proofs.PlainLines.{word_first}
 use Rattle.script_forms.proofs.plain.op_before.Goals as goal
 

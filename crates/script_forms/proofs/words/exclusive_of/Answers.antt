@@ -1,6 +1,6 @@
 use Rattle.std.proofs.Common.{rules, arith, ap, sym, codes}
 use Rattle.std.proofs.lemmas.Slice.Eq.{text_from_reads}
-use Rattle.script_forms.specs.Words.{exclusive_of}
+use Rattle.script_forms.specs.Forms.{exclusive_of}
 use Rattle.script_forms.proofs.words.exclusive_of.Goals as goal
 
 pub returns-in-exclusive : goal.returns-in-exclusive

@@ -1,6 +1,6 @@
 use Rattle.std.proofs.Common.{rules, arith, ap, sym, codes}
 use Rattle.std.proofs.lemmas.Slice.Eq.{text_from_reads}
-use Rattle.script_forms.specs.Words.{op_of}
+use Rattle.script_forms.specs.Jobs.{op_of}
 use Rattle.script_forms.proofs.words.op_of.Goals as goal
 
 pub returns-in-screen : goal.returns-in-screen

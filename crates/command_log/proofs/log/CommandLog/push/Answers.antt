@@ -2,7 +2,8 @@ use Rattle.std.proofs.Common.{◌≡◌, ◌∙◌, sym, Some, None, Err, subst}
 use Rattle.doc_model.specs.Strokes.{entries}
 use Rattle.command_log.specs.declared.refusal.Refusal.{Refusal}
 use Rattle.command_log.specs.declared.refusal.Refusal.TheVariants as refusal
-use Rattle.command_log.specs.Misfits.{misfit_of, Refuses}
+use Rattle.command_log.specs.Misfits.{misfit_of}
+use Rattle.command_log.specs.Log.{Refuses}
 use Rattle.command_log.proofs.Following.{fits}
 use Rattle.command_log.proofs.log.CommandLog.push.Goals as goal
 

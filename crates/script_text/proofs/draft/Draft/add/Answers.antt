@@ -5,7 +5,8 @@ use Rattle.doc_model.specs.declared.command.Command.{Command}
 use Rattle.doc_model.specs.Strokes.{entries}
 use Rattle.doc_model.specs.Lawful.{lawful}
 use Rattle.command_log.specs.declared.refusal.Refusal.{Refusal}
-use Rattle.command_log.specs.Misfits.{misfit_of, Refuses}
+use Rattle.command_log.specs.Misfits.{misfit_of}
+use Rattle.command_log.specs.Log.{Refuses}
 use Rattle.script_forms.specs.Ranges.{in_range}
 use Rattle.script_text.specs.Draft.{IsDraft}
 use Rattle.script_text.specs.Reading.{cause_of, misfit}
