@@ -1,5 +1,5 @@
-//! Tests of the lower crates, from pixels to the pictures of groups: worked values, and that each call
-//! can succeed. They stand above the crates that they test, so that each of those is proved once.
+//! Tests of the lower crates, from pixels to the pictures of groups, of what waits to be composed, and of
+//! slots of workers: worked values, and that each call can succeed. They stand above the crates that they test, so that each of those is proved once.
 #![tactic(auto)]
 
 #[cfg(test)]
@@ -21,6 +21,10 @@ mod rectangles;
 #[cfg(test)]
 mod rows;
 #[cfg(test)]
+mod slots;
+#[cfg(test)]
 mod sources;
 #[cfg(test)]
 mod tiles;
+#[cfg(test)]
+mod updates;

@@ -15,6 +15,14 @@ pub(crate) fn red() -> Pixel {
     Pixel::new(255, 0, 0, 255)
 }
 
+pub(crate) fn green() -> Pixel {
+    Pixel::new(0, 255, 0, 255)
+}
+
+pub(crate) fn blue() -> Pixel {
+    Pixel::new(0, 0, 255, 255)
+}
+
 pub(crate) fn rect(rt: &impl Abort, x: i32, y: i32, w: u32, h: u32) -> Rect
     requires w { 1 ≤ w × w ≤ 32768 }
     requires h { 1 ≤ h × h ≤ 32768 }

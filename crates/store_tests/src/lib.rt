@@ -1,7 +1,12 @@
-//! Tests of the crates from trees and layers to stores and their frames: worked histories, and that
-//! each call can succeed. They stand above the crates that they test, so that each of those is proved once.
+//! Tests of the crates from trees and layers to stores, their frames, and walks over their groups: worked
+//! histories and values, and that each call can succeed. They stand above the crates that they test, so that
+//! each of those is proved once.
 #![tactic(auto)]
 
+#[cfg(test)]
+mod books;
+#[cfg(test)]
+mod caches;
 #[cfg(test)]
 mod devices;
 #[cfg(test)]
@@ -18,3 +23,7 @@ mod stores;
 mod strokes;
 #[cfg(test)]
 mod trees;
+#[cfg(test)]
+mod walk_starts;
+#[cfg(test)]
+mod walks;

@@ -2,7 +2,7 @@
 
 ghost use Rattle.std.specs.Prelude.{◌≡◌, ◌<◌, ◌≤◌, None, OnOk};
 
-use crate::fixtures::{self, ORIGIN, rect, red};
+use crate::fixtures::{self, ORIGIN, blue, crosses, rect, red};
 use desk_steps::{Begun, Store};
 use doc_model::{Change, Job, Kind, Look};
 use geom_core::{NoMemory, Rect};
@@ -15,12 +15,6 @@ use std::process::Abort;
 use std::slice;
 use std::sync::ledger::{Blank, Ledger};
 use std::test::Fail;
-
-fn blue() -> Pixel {
-    Pixel::new(0, 0, 255, 255)
-}
-
-fn crosses<T: Send>(_x: &T) {}
 
 /// Fills a rectangle.
 fn fill(rect: Rect, colour: Pixel) -> (Kind, Job) {

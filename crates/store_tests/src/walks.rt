@@ -1,5 +1,6 @@
 //! Worked values of walks, and that the calls can succeed.
 
+use crate::fixtures::{ORIGIN, blue, green, red};
 use compose_core::Given;
 use doc_model::{Change, Look, Patch, Walk};
 use geom_core::{NoMemory, Rect, TileKey};
@@ -14,21 +15,7 @@ use walker_core::{
     Composed, Inputs, Path, all_groups, compose_key, compose_keys, compose_walk, plan,
 };
 
-const CORNER: TileKey = TileKey { row: 0, col: 0 };
-
 const NEXT: TileKey = TileKey { row: 0, col: 1 };
-
-fn red() -> Pixel {
-    Pixel::new(255, 0, 0, 255)
-}
-
-fn green() -> Pixel {
-    Pixel::new(0, 255, 0, 255)
-}
-
-fn blue() -> Pixel {
-    Pixel::new(0, 0, 255, 255)
-}
 
 /// A tree with the group 1 in the root and the group 2 in it.
 fn two_groups() -> Tree {
@@ -95,7 +82,7 @@ fn root_pixel(
 ) -> Result<Option<Pixel>, NoMemory> {
     let inputs = root_of(alloc, rect, children)?;
     let composed = compose_walk(alloc, &inputs)?;
-    Ok(pixel_of(&composed, 0, CORNER))
+    Ok(pixel_of(&composed, 0, ORIGIN))
 }
 
 /// A group's pixel at the corner of a tile, where all tiles are composed.
@@ -117,7 +104,7 @@ fn of_next(alloc: Global, inputs: &Inputs, key: TileKey) -> Result<Option<Pixel>
 
 /// The same where both are.
 fn of_both(alloc: Global, inputs: &Inputs, key: TileKey) -> Result<Option<Pixel>, NoMemory> {
-    let composed = compose_keys(alloc, inputs, &[NEXT, CORNER])?;
+    let composed = compose_keys(alloc, inputs, &[NEXT, ORIGIN])?;
     Ok(pixel_of(&composed, 0, key))
 }
 
@@ -180,8 +167,8 @@ fn only_what_was_asked(rt: HostRuntime) -> Result<(), Fail> {
     let pixel = Some(Pixel::new(255, 0, 0, 128));
     let rows = [
         (of_all(alloc, &inputs, 0, NEXT)?, pixel),
-        (of_all(alloc, &inputs, 9, CORNER)?, None),
-        (of_next(alloc, &inputs, CORNER)?, None),
+        (of_all(alloc, &inputs, 9, ORIGIN)?, None),
+        (of_next(alloc, &inputs, ORIGIN)?, None),
         (of_both(alloc, &inputs, NEXT)?, pixel),
     ];
     for (found, expected) in rows {
@@ -204,18 +191,18 @@ fn a_group_in_a_group(rt: HostRuntime) -> Result<(), Fail> {
         path,
     );
     let mut layer = Device::new(alloc, Pixel::CLEAR);
-    layer.ready(CORNER)?;
+    layer.ready(ORIGIN)?;
     let tile = Tile::plain(alloc, blue())?;
-    if layer.has(CORNER) {
-        layer.set_tile(CORNER, tile);
+    if layer.has(ORIGIN) {
+        layer.set_tile(ORIGIN, tile);
     }
     let old = Device::new(alloc, green());
     inputs.add_child(alloc, 1, 7, over(255), &layer)?;
     inputs.add_child(alloc, 0, 1, over(51), &old)?;
-    let composed = compose_key(alloc, &inputs, CORNER)?;
-    assert_eq!(rt; pixel_of(&composed, 1, CORNER), Some(blue()));
+    let composed = compose_key(alloc, &inputs, ORIGIN)?;
+    assert_eq!(rt; pixel_of(&composed, 1, ORIGIN), Some(blue()));
     assert_eq!(rt;
-        pixel_of(&composed, 0, CORNER),
+        pixel_of(&composed, 0, ORIGIN),
         Some(Pixel::new(0, 0, 255, 51))
     );
     Ok(())
@@ -233,7 +220,7 @@ fn what_two_walks_read(rt: HostRuntime) -> Result<(), Fail> {
         ([(over(255), red()), (over(255), red())].as_slice(), false),
     ] {
         let other = root_of(alloc, rect, children)?;
-        assert_eq!(rt; first.same_in(&other, CORNER), same);
+        assert_eq!(rt; first.same_in(&other, ORIGIN), same);
     }
     Ok(())
 }

@@ -1,8 +1,8 @@
 use Rattle.std.proofs.Common.{ap, ◌∙◌}
 use Rattle.tile_core.specs.Pixels.{Pixels}
 use Rattle.memento_core.specs.Books.{Pages}
-use Rattle.desk_tests.proofs.Noted.{drop_keeps, if_some, still_first}
-use Rattle.desk_tests.proofs.books.drops_one.Goals as goal
+use Rattle.store_tests.proofs.Noted.{drop_keeps, if_some, still_first}
+use Rattle.store_tests.proofs.books.drops_one.Goals as goal
 
 pub rollforward-requires-clause-stand : goal.rollforward-requires-clause-stand
 rollforward-requires-clause-stand g c = still_first c.rollback.new.self.redo c.drop_open.new.self.redo c.rollback.new.plane.tiles c.drop_open.new.plane.tiles

@@ -1,7 +1,8 @@
 //! What patches of walks leave in caches, and which caches a change of the tree keeps.
 
+use crate::fixtures::{ORIGIN, red};
 use compose_core::Given;
-use geom_core::{NoMemory, Rect, TileKey};
+use geom_core::{NoMemory, Rect};
 use group_caches::Caches;
 use pixel_core::Pixel;
 use std::alloc::Global;
@@ -9,14 +10,8 @@ use std::process::Abort;
 use std::test::Fail;
 use tile_core::Tile;
 
-/// The tile whose corner is (0, 0).
-const CORNER: TileKey = TileKey { row: 0, col: 0 };
-
-fn red() -> Pixel {
-    Pixel::new(255, 0, 0, 255)
-}
-
-fn blue() -> Pixel {
+/// Blue that covers half.
+fn pale() -> Pixel {
     Pixel::new(0, 0, 255, 128)
 }
 
@@ -26,8 +21,8 @@ fn painted(rt: &impl Abort, alloc: Global) -> Result<Caches, NoMemory> {
     let part = Rect::new(1, 0, 2, 3).expect(rt, "a rectangle of the world");
     let mut caches = Caches::new(alloc)?;
     caches.keep([7, 2, 0].as_slice());
-    put(rt, &mut caches, 7, &CORNER.rect(), &Given::Plain(red()))?;
-    put(rt, &mut caches, 2, &part, &Given::Plain(blue()))?;
+    put(rt, &mut caches, 7, &ORIGIN.rect(), &Given::Plain(red()))?;
+    put(rt, &mut caches, 2, &part, &Given::Plain(pale()))?;
     Ok(caches)
 }
 
@@ -40,7 +35,7 @@ fn put(
     given: &Given,
 ) -> Result<(), NoMemory> {
     assert!(rt; caches.device(group).is_some());
-    caches.put(group, rect, CORNER, given)
+    caches.put(group, rect, ORIGIN, given)
 }
 
 #[test]
@@ -50,8 +45,8 @@ fn a_patch_changes_its_points_in_its_group_alone(rt: HostRuntime) -> Result<(), 
         (7, 0, 0, red()),
         (7, 63, 63, red()),
         (7, 64, 0, Pixel::CLEAR),
-        (2, 1, 0, blue()),
-        (2, 2, 2, blue()),
+        (2, 1, 0, pale()),
+        (2, 2, 2, pale()),
         (2, 0, 0, Pixel::CLEAR),
         (2, 3, 0, Pixel::CLEAR),
         (2, 1, 3, Pixel::CLEAR),
@@ -69,7 +64,7 @@ fn a_part_of_a_tile_that_is_held_elsewhere(rt: HostRuntime) -> Result<(), Fail> 
     let alloc = rt.alloc();
     let mut caches = painted(&rt, alloc)?;
     let walked = Given::Held(Tile::plain(alloc, red())?);
-    put(&rt, &mut caches, 2, &CORNER.rect(), &walked)?;
+    put(&rt, &mut caches, 2, &ORIGIN.rect(), &walked)?;
     let part = Rect::new(0, 0, 1, 1).expect(&rt, "a rectangle of the world");
     put(&rt, &mut caches, 2, &part, &Given::Plain(Pixel::CLEAR))?;
     for (x, pixel) in [(0, Pixel::CLEAR), (1, red())] {
@@ -85,11 +80,11 @@ fn a_part_of_a_tile_that_is_held_elsewhere(rt: HostRuntime) -> Result<(), Fail> 
 fn a_clear_picture_leaves_no_tile(rt: HostRuntime) -> Result<(), Fail> {
     let mut caches = painted(&rt, rt.alloc())?;
     let part = Rect::new(5, 5, 1, 1).expect(&rt, "a rectangle of the world");
-    for (group, rect) in [(0, part), (7, CORNER.rect())] {
+    for (group, rect) in [(0, part), (7, ORIGIN.rect())] {
         put(&rt, &mut caches, group, &rect, &Given::Plain(Pixel::CLEAR))?;
-        assert!(rt; caches.tile(group, CORNER).is_none());
+        assert!(rt; caches.tile(group, ORIGIN).is_none());
     }
-    assert!(rt; caches.tile(2, CORNER).is_some());
+    assert!(rt; caches.tile(2, ORIGIN).is_some());
     Ok(())
 }
 

@@ -6,8 +6,8 @@ use Rattle.tile_core.specs.Pixels.{Pixels}
 use Rattle.memento_core.specs.Planes.{tile_under}
 use Rattle.memento_core.specs.Revisions.{noted_under}
 use Rattle.memento_core.specs.Books.{Pages}
-use Rattle.desk_tests.proofs.Noted.{twice_noted, write_keeps}
-use Rattle.desk_tests.proofs.books.paints.Goals as goal
+use Rattle.store_tests.proofs.Noted.{twice_noted, write_keeps}
+use Rattle.store_tests.proofs.books.paints.Goals as goal
 
 pub note-requires-2-clause-open : goal.note-requires-2-clause-open
 note-requires-2-clause-open c = ap (λ (b : Pages Pixels). is_some b.index) (c.in_ok-note.ensures.ok map.empty (ap (λ (b : Pages Pixels). b.index) c.in_ok-begin.ensures.ok))

@@ -2,10 +2,11 @@
 
 ghost use Rattle.std.specs.Prelude.{◌≡◌, ◌<◌, None, IfOk};
 
+use crate::fixtures::{ORIGIN, blue, green, layer, red};
 use compose_core::Given;
 use desk_steps::Store;
 use doc_model::{Change, Look, Patch, Walk};
-use geom_core::{NoMemory, Rect, TileKey};
+use geom_core::{NoMemory, Rect};
 use group_caches::Caches;
 use pixel_core::{Op, Pixel};
 use std::alloc::Global;
@@ -13,21 +14,6 @@ use std::process::Abort;
 use std::test::Fail;
 use walk_start::gather;
 use walker_core::{Composed, compose_walk};
-
-/// The tile whose corner is (0, 0).
-const CORNER: TileKey = TileKey { row: 0, col: 0 };
-
-fn red() -> Pixel {
-    Pixel::new(255, 0, 0, 255)
-}
-
-fn green() -> Pixel {
-    Pixel::new(0, 255, 0, 255)
-}
-
-fn blue() -> Pixel {
-    Pixel::new(0, 0, 255, 255)
-}
 
 /// Makes a change of the tree.
 fn change(rt: &impl Abort, alloc: Global, store: &mut Store, change: Change)
@@ -42,33 +28,10 @@ fn document(rt: &impl Abort, alloc: Global) -> Result<Store, NoMemory>
     ensures { IfOk result (λ s. s.way ≡ None) }
 {
     let mut store = Store::new(alloc)?;
-    let (parent, place) = (0, 0);
-    let (id, ground) = (1, red());
-    change(
-        rt,
-        alloc,
-        &mut store,
-        Change::Layer {
-            id,
-            parent,
-            place,
-            ground,
-        },
-    );
-    let (id, place) = (2, 1);
+    change(rt, alloc, &mut store, layer(1, 0, 0, red()));
+    let (id, parent, place) = (2, 0, 1);
     change(rt, alloc, &mut store, Change::Group { id, parent, place });
-    let (id, parent, place, ground) = (3, 2, 0, green());
-    change(
-        rt,
-        alloc,
-        &mut store,
-        Change::Layer {
-            id,
-            parent,
-            place,
-            ground,
-        },
-    );
+    change(rt, alloc, &mut store, layer(3, 2, 0, green()));
     Ok(store)
 }
 
@@ -78,7 +41,7 @@ fn caches(rt: &impl Abort, alloc: Global) -> Result<Caches, NoMemory> {
     let mut caches = Caches::new(alloc)?;
     caches.keep([2, 0].as_slice());
     assert!(rt; caches.device(2).is_some());
-    caches.put(2, &point, CORNER, &Given::Plain(blue()))?;
+    caches.put(2, &point, ORIGIN, &Given::Plain(blue()))?;
     Ok(caches)
 }
 
@@ -91,7 +54,7 @@ fn corner(rt: &impl Abort) -> Rect {
 fn pixel_of(composed: &Composed<'_>, group: u16, col: u8) -> Option<Pixel>
     requires { col < 64 }
 {
-    match composed.given(group, CORNER)? {
+    match composed.given(group, ORIGIN)? {
         Given::Held(tile) => Some(tile.pixel(col, 0)),
         Given::Plain(pixel) => Some(*pixel),
     }

@@ -8,7 +8,8 @@ ghost use Rattle.tile_core.specs.Pixels.{Pixels};
 ghost use Rattle.geom_core.specs.Grid.{Key, key};
 ghost use Rattle.std.specs.FinMap as map;
 
-use geom_core::{NoMemory, Rect, TileKey, Touched};
+use crate::fixtures::{ORIGIN, red};
+use geom_core::{NoMemory, Rect, Touched};
 use memento_core::{Book, Steps};
 use paint_device::Device;
 use pixel_core::Pixel;
@@ -18,13 +19,6 @@ use std::process::Abort;
 use std::sync::ledger::{Blank, Ledger};
 use std::test::Fail;
 use tile_core::{Block, Tile};
-
-/// The tile whose corner is (0, 0).
-const ORIGIN: TileKey = TileKey { row: 0, col: 0 };
-
-fn red() -> Pixel {
-    Pixel::new(255, 0, 0, 255)
-}
 
 /// A device with that key and no tile, and a book of it.
 fn made(alloc: Global) -> Result<(Device, Book<Tile>), NoMemory>

@@ -2,6 +2,7 @@
 ghost use Rattle.std.specs.Prelude.{◌≡◌, ◌≤◌, ◌<◌, length};
 ghost use Rattle.geom_core.specs.Areas.{area};
 
+use crate::fixtures::crosses;
 use doc_model::{Patch, Walk};
 use geom_core::Rect;
 use std::process::Abort;
@@ -123,10 +124,7 @@ fn refresh_covers_what_waited(rt: HostRuntime) {
     has_parts(&rt, &updates, Walk::All, parts);
 }
 
-/// Takes what may pass from thread to thread.
-fn passes<T: Drop + Send + Sync>(_value: T) {}
-
 #[test]
 fn updates_pass_between_threads(rt: HostRuntime) {
-    passes(nothing(&rt));
+    crosses(&nothing(&rt));
 }

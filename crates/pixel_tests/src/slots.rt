@@ -1,5 +1,6 @@
 //! Slots of workers.
 
+use crate::fixtures::crosses;
 use geom_core::Rect;
 use slot_core::Slots;
 use std::test::Fail;
@@ -23,12 +24,9 @@ fn walkers_in_order(rt: HostRuntime) -> Result<(), Fail> {
     Ok(())
 }
 
-/// Takes what may pass from thread to thread.
-fn passes<T: Drop + Send + Sync>(_value: T) {}
-
 #[test]
 fn slots_pass_between_threads(rt: HostRuntime) -> Result<(), Fail> {
     let slots: Slots<u8> = Slots::new(rt.alloc(), 1)?;
-    passes(slots);
+    crosses(&slots);
     Ok(())
 }

@@ -1,5 +1,5 @@
 use Rattle.memento_core.proofs.Booked.{committed_stands}
-use Rattle.desk_tests.proofs.books.closes.Goals as goal
+use Rattle.store_tests.proofs.books.closes.Goals as goal
 
 pub returns-clause-closed : goal.returns-clause-closed
 returns-clause-closed c = (committed_stands c.args.book.now c.commit.new.self c.args.device.now.tiles c.requires.open c.requires.stand c.commit.ensures).1
