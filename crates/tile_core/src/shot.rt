@@ -1,6 +1,6 @@
 //! The pixels that a job reads, kept as they were when it started.
 
-ghost use Rattle.std.specs.Prelude.{List, [], ◌∷◌, ◌++◌, length, replicate, ◌≡◌, ℕ, ◌*◌, true, IfOk, OnOk, OnErr, vec_len, ◌+◌, ◌≤◌, ◌&&◌, nat_le, IsTrue, ◌↔◌};
+ghost use Rattle.std.specs.Prelude.{List, [], ◌∷◌, ◌++◌, length, replicate, ◌≡◌, ℕ, ◌*◌, true, IfOk, OnOk, OnErr, vec_len, ◌+◌, ◌≤◌, IsTrue, ◌↔◌};
 ghost use Rattle.std.specs.List.{list_any};
 ghost use Rattle.std.specs.Option.{option_copied};
 ghost use Rattle.std.specs.FinMap as map;
@@ -260,22 +260,5 @@ fn plain_part(alloc: Global, rect: &Rect, p: Pixel) -> Result<Vec<Pixel>, NoMemo
 fn lies_in_some(rect: &Rect, others: &[Rect]) -> bool
     ensures { result ≡ list_any (lies_in rect.now) others.now }
 {
-    others.iter().any(|other| lies_in(rect, other))
-}
-
-/// Whether the first rectangle lies in the second.
-fn lies_in(rect: &Rect, other: &Rect) -> bool
-    ensures { result ≡ lies_in rect.now other.now }
-{
-    lies_along(rect.left(), rect.w(), other.left(), other.w())
-        && lies_along(rect.top(), rect.h(), other.top(), other.h())
-}
-
-/// Whether the n numbers from a on are among the m numbers from b on.
-fn lies_along(a: u32, n: u32, b: u32, m: u32) -> bool
-    requires first { a + n ≤ 32768 }
-    requires second { b + m ≤ 32768 }
-    ensures { result ≡ (nat_le b a && nat_le (a + n) (b + m)) }
-{
-    b <= a && a + n <= b + m
+    others.iter().any(|other| rect.lies_in(other))
 }
