@@ -48,6 +48,12 @@ fn rectangles(rt: HostRuntime) -> Result<(), OutOfWorld> {
     ] {
         assert!(rt; found == wanted);
     }
+    crosses(&wide);
+    crosses(&tile_of(0, 0));
+    crosses(&NoMemory);
+    crosses(&OutOfWorld);
+    let (count, bound) = (1, Some(wide));
+    crosses(&Touched { count, bound });
     Ok(())
 }
 
@@ -65,17 +71,4 @@ fn edges_of_the_world(rt: HostRuntime) {
         assert!(rt; 1 <= w && w <= 32768 && 1 <= h && h <= 32768);
         assert_eq!(rt; Rect::new(x, y, w, h).is_ok(), inside);
     }
-}
-
-#[test]
-fn passes_between_threads(_rt: HostRuntime) {
-    let rect = Rect::default();
-    crosses(&rect);
-    crosses(&tile_of(0, 0));
-    crosses(&NoMemory);
-    crosses(&OutOfWorld);
-    crosses(&Touched {
-        count: 1,
-        bound: Some(rect),
-    });
 }

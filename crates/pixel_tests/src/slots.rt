@@ -10,6 +10,7 @@ fn walkers_in_order(rt: HostRuntime) -> Result<(), Fail> {
     let mut slots: Slots<u8> = Slots::new(rt.alloc(), 17)?;
     let point = Rect::default();
     let two = point.bound(&Rect::new(1, 0, 1, 1).unwrap_or_default());
+    crosses(&slots);
     slots.put(16, 1, Some(point));
     slots.put(0, 2, None);
     slots.put(2, 3, Some(two));
@@ -21,12 +22,5 @@ fn walkers_in_order(rt: HostRuntime) -> Result<(), Fail> {
     for (place, work) in [(2, Some(9)), (2, None), (16, Some(1)), (17, None)] {
         assert_eq!(rt; slots.clear(place), work);
     }
-    Ok(())
-}
-
-#[test]
-fn slots_pass_between_threads(rt: HostRuntime) -> Result<(), Fail> {
-    let slots: Slots<u8> = Slots::new(rt.alloc(), 1)?;
-    crosses(&slots);
     Ok(())
 }

@@ -96,6 +96,7 @@ fn running_walkers_are_avoided(rt: HostRuntime) {
 #[test]
 fn parts_join_in_order(rt: HostRuntime) {
     let mut updates = nothing(&rt);
+    crosses(&updates);
     updates.add(Walk::Up(1), rect(&rt, 300, 10, 10, 10));
     updates.add(Walk::Up(1), rect(&rt, -20, 0, 400, 300));
     let parts = [
@@ -122,9 +123,4 @@ fn refresh_covers_what_waited(rt: HostRuntime) {
         (512, 256, 8, 4),
     ];
     has_parts(&rt, &updates, Walk::All, parts);
-}
-
-#[test]
-fn updates_pass_between_threads(rt: HostRuntime) {
-    crosses(&nothing(&rt));
 }

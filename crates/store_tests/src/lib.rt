@@ -12,10 +12,6 @@ mod devices;
 #[cfg(test)]
 mod fixtures;
 #[cfg(test)]
-mod frames;
-#[cfg(test)]
-mod histories;
-#[cfg(test)]
 mod queues;
 #[cfg(test)]
 mod stores;
