@@ -7,7 +7,7 @@ use Rattle.machine_model.specs.MeaningLaws.{is_feed}
 use Rattle.desk_parts.specs.Enabled.{ends, IsEnd}
 use Rattle.desk_parts.specs.Settles.{Settles}
 use Rattle.desk_parts.specs.Choices.{DoesAtOnce}
-use Rattle.desk_core.proofs.SettlingRuns.{goes_on, goes_at_once, canvas_stays, fed_stays}
+use Rattle.desk_parts.proofs.SettlingRuns.{goes_on, goes_at_once, canvas_stays, fed_stays}
 use Rattle.crew_run.specs.Front.{KeepsFed}
 
 pub keeps_same : {a b : State} → b ≡ a → KeepsFed a b

@@ -4,10 +4,10 @@ ghost use Rattle.std.specs.Prelude.{◌≡◌, Ok, OnErr};
 ghost use Rattle.machine_model.specs.State.{IsSettled};
 ghost use Rattle.machine_model.specs.Event.{Start, WalkStart};
 ghost use Rattle.machine_model.specs.Step.{Step};
-ghost use Rattle.desk_core.specs.declared.tickets.PaintTicket.{PaintTicket};
-ghost use Rattle.desk_core.specs.declared.tickets.WalkTicket.{WalkTicket};
+ghost use Rattle.desk_machine.specs.declared.tickets.PaintTicket.{PaintTicket};
+ghost use Rattle.desk_machine.specs.declared.tickets.WalkTicket.{WalkTicket};
 ghost use Rattle.desk_core.specs.declared.tickets.Taken.TheVariants as taken;
-ghost use Rattle.desk_core.specs.Tickets.{IsPaintTicket, IsWalkTicket};
+ghost use Rattle.desk_machine.specs.Tickets.{IsPaintTicket, IsWalkTicket};
 ghost use Rattle.desk_parts.specs.Choices.{IsIdle, MayWant, HeadWaits, DoesAtOnce};
 
 use crate::desk::Desk;
@@ -33,24 +33,24 @@ impl Desk {
         ensures err { OnErr result (MayWant self.old × (self.new ≡ self.old)) }
         ensures uncounted { (result ≡ Ok taken.Did → ⊥) → steps.new ≡ steps.old }
     {
-        match self.choice() {
+        match self.machine.choice() {
             Choice::Finish => {
-                self.finish();
+                self.machine.finish();
                 Ok(Taken::Did)
             }
             Choice::Cancel => {
-                self.cancel(steps);
+                self.machine.cancel(steps);
                 Ok(Taken::Did)
             }
             Choice::Act => {
-                self.act(steps)?;
+                self.machine.act(steps)?;
                 Ok(Taken::Did)
             }
             Choice::Init => {
-                self.begin()?;
+                self.machine.begin()?;
                 Ok(Taken::Did)
             }
-            Choice::Start(place) => Ok(Taken::Paint(self.start(place)?)),
+            Choice::Start(place) => Ok(Taken::Paint(self.machine.start(place)?)),
             Choice::Wait => self.take_walk(),
         }
     }
@@ -65,10 +65,10 @@ impl Desk {
         ensures settled { result ≡ Ok taken.Settled → IsSettled self.old × (self.new ≡ self.old) }
         ensures err { OnErr result (MayWant self.old × (self.new ≡ self.old)) }
     {
-        match self.walk_place() {
-            Some(place) => Ok(Taken::Walk(self.start_walk(place)?)),
+        match self.machine.walk_place() {
+            Some(place) => Ok(Taken::Walk(self.machine.start_walk(place)?)),
             None => {
-                if self.is_settled() {
+                if self.machine.is_settled() {
                     Ok(Taken::Settled)
                 } else {
                     Ok(Taken::Idle)

@@ -1,5 +1,5 @@
 use Rattle.std.proofs.Common.{Ok, ap, refl, sym}
-use Rattle.desk_core.proofs.SettlingRuns.{settles_none, canvas_stays, fed_stays}
+use Rattle.desk_parts.proofs.SettlingRuns.{settles_none, canvas_stays, fed_stays}
 use Rattle.desk_core.proofs.Committing.{front_settles, commit_settles}
 use Rattle.desk_core.proofs.desk.Desk.commit.Goals as goal
 

@@ -1,7 +1,7 @@
 use Rattle.std.proofs.Common.{refl}
 use Rattle.machine_model.specs.Event.{End, WalkEnd}
-use Rattle.desk_core.proofs.SettlingRuns.{goes_on}
-use Rattle.desk_core.proofs.OwnTiles.{tile_goes}
+use Rattle.desk_parts.proofs.SettlingRuns.{goes_on}
+use Rattle.desk_machine.proofs.OwnTiles.{tile_goes}
 use Rattle.desk_core.proofs.desk.Desk.do_own.Goals as goal
 
 pub returns-in-Tile-clause-ok : goal.returns-in-Tile-clause-ok

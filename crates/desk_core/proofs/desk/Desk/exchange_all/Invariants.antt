@@ -1,6 +1,7 @@
 use Rattle.std.proofs.Common.{take, drop}
 use Rattle.machine_model.specs.Step.{Run}
-use Rattle.desk_core.specs.Commits.{MayCommit, commit_events}
+use Rattle.desk_machine.specs.Commits.{MayCommit}
+use Rattle.desk_core.specs.Commits.{commit_events}
 use Rattle.desk_core.proofs.desk.Desk.exchange_all.Given as goal
 
 -- the tiles so far are published, and the others are just those that the job lacks

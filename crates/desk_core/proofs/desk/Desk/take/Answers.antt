@@ -1,7 +1,7 @@
 use Rattle.std.proofs.Common.{refl}
 use Rattle.machine_model.specs.Event.{Init, Finish}
 use Rattle.desk_parts.proofs.Wanting.{init_wants, start_wants, act_wants}
-use Rattle.desk_core.proofs.StepCounts.{on_err, plus_none}
+use Rattle.desk_machine.proofs.StepCounts.{on_err, plus_none}
 use Rattle.desk_core.proofs.desk.Desk.take.Goals as goal
 
 pub returns-in_err-act-in-Act-clause-err : goal.returns-in_err-act-in-Act-clause-err

@@ -1,5 +1,5 @@
 use Rattle.desk_parts.proofs.Wanting.{walk_wants}
-use Rattle.desk_core.proofs.StepCounts.{on_err}
+use Rattle.desk_machine.proofs.StepCounts.{on_err}
 use Rattle.desk_core.proofs.desk.Desk.take_walk.Goals as goal
 
 pub returns-in_err-start_walk-in-Some-clause-err : goal.returns-in_err-start_walk-in-Some-clause-err
