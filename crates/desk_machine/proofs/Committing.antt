@@ -1,26 +1,18 @@
 -- The job in a slot, of which whole tiles come.
-use Rattle.std.proofs.Common.{◌≡◌, ℕ, suc, zero, ◌+◌, ◌≤◌, true, false, not, Some, List, [], ◌∷◌, ◌++◌, length, take, drop, refl, sym, ap, ◌∙◌, subst, arith, Result, Ok, Err, OnOk}
-use Rattle.std.specs.Prelude.{slice_get}
-use Rattle.std.specs.List.{list_any, list_all}
-use Rattle.std.proofs.lemmas.List.{drop_all}
+use Rattle.std.proofs.Common.{◌≡◌, ℕ, true, Some, List, [], sym, ap, ◌∙◌, subst}
+use Rattle.std.specs.List.{list_any}
 use Rattle.geom_core.specs.Grid.{Key, same_key, all_keys_of}
-use Rattle.geom_core.proofs.Tests.{both_true}
 use Rattle.doc_model.specs.Jobs.{writes}
 use Rattle.job_core.specs.Paints.{layer_of}
 use Rattle.whole_tiles.specs.Wholes.{Entire}
 use Rattle.machine_model.specs.State as state
 use Rattle.machine_model.specs.State.{State, Paints}
-use Rattle.machine_model.specs.Event.{Event, Publish, End}
-use Rattle.machine_model.specs.Step.{Step, PublishStep, Run}
-use Rattle.machine_model.specs.MeaningLaws.{is_feed}
-use Rattle.machine_model.proofs.Lists.{get_set}
-use Rattle.update_queue.proofs.Elements.{drop_here}
+use Rattle.machine_model.specs.Event.{End}
 use Rattle.slot_core.specs.Busy.{work_at}
 use Rattle.desk_parts.specs.declared.work.Painter.{Painter}
 use Rattle.desk_parts.specs.declared.work.Work.TheVariants as work
 use Rattle.desk_parts.specs.Enabled.{Enabled}
 use Rattle.desk_parts.specs.Parts.{Parts, state_of, painter_of}
-use Rattle.desk_parts.specs.Settles.{Settles}
 use Rattle.desk_parts.specs.Tied.{IsDesk}
 use Rattle.desk_parts.proofs.Ends.{job_may_end}
 use Rattle.desk_parts.proofs.Keeping.{held}

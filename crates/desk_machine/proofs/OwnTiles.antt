@@ -1,8 +1,8 @@
 -- The work in a slot may publish a tile, and what it leaves is the events of the machine.
-use Rattle.std.proofs.Common.{◌≡◌, ℕ, suc, zero, ◌≤◌, true, false, Option, Some, None, Result, Ok, Err, OnOk, OnErr, List, [], ◌∷◌, map, length, refl, sym, ap, ◌∙◌, arith, subst}
-use Rattle.std.specs.Prelude.{slice_get, slice_set, not}
+use Rattle.std.proofs.Common.{◌≡◌, ℕ, true, false, Option, Some, None, Result, Ok, Err, OnOk, OnErr, List, [], ◌∷◌, map, refl, ap, ◌∙◌}
+use Rattle.std.specs.Prelude.{slice_get, slice_set}
 use Rattle.std.specs.Ordering.{nat_cmp}
-use Rattle.std.specs.List.{list_any, list_all}
+use Rattle.std.specs.List.{list_any}
 use Rattle.std.specs.FinMap.{FinMap}
 use Rattle.geom_core.specs.Grid.{Key, same_key, keys_of, all_keys_of, IsWorldKey}
 use Rattle.doc_model.specs.Jobs.{reads, writes}
@@ -10,12 +10,10 @@ use Rattle.doc_model.specs.Layers.{Layer}
 use Rattle.job_core.specs.Paints.{paint}
 use Rattle.machine_model.specs.State as state
 use Rattle.machine_model.specs.State.{State, Child, Slot, Free, Paints, Walks, is_free}
-use Rattle.machine_model.specs.Event.{Event, Publish, WalkPublish}
-use Rattle.machine_model.specs.Step.{Step, Run}
+use Rattle.machine_model.specs.Event.{Publish}
+use Rattle.machine_model.specs.Step.{Step}
 use Rattle.machine_model.specs.Groups.{on}
 use Rattle.machine_model.specs.Guards.{same_pair}
-use Rattle.machine_model.specs.MeaningLaws.{is_feed}
-use Rattle.machine_model.proofs.Lists.{get_set}
 use Rattle.walker_core.specs.Readings.{path_in}
 use Rattle.desk_steps.specs.Archives.{Archive, with_put}
 use Rattle.slot_core.specs.Busy.{work_at}
@@ -27,15 +25,13 @@ use Rattle.desk_parts.specs.declared.work.Work.TheVariants as work
 use Rattle.desk_parts.specs.Enabled.{Enabled, Takes}
 use Rattle.desk_parts.specs.Parts.{Parts, state_of, painter_of, walker_of}
 use Rattle.desk_parts.specs.Tied.{IsDesk}
-use Rattle.desk_parts.specs.After.{after_walk_publish, busy_painter, busy_walker}
+use Rattle.desk_parts.specs.After.{busy_painter}
 use Rattle.desk_parts.specs.Settles.{Settles, GoesOn}
 use Rattle.desk_parts.proofs.Keeping.{held, IsGoing, going_at_work}
-use Rattle.desk_parts.proofs.Places.{painting_at, set_twice, set_same}
+use Rattle.desk_parts.proofs.Places.{painting_at}
 use Rattle.desk_parts.proofs.WalkPlaces.{walking_at}
 use Rattle.desk_parts.proofs.Taking.{job_is, walk_is}
 use Rattle.desk_parts.proofs.Laying.{takes_is, IsLaidAt, laid_at}
-use Rattle.desk_parts.proofs.KeyTests.{all_on}
-use Rattle.desk_parts.proofs.Walking.{MayWalkPublish, walk_publish_step, walk_publish_keeps}
 use Rattle.desk_work.specs.LaidTiles.{laid_as, laid_all, lacking, pairs_at, Lays, LaysFront}
 use Rattle.whole_tiles.proofs.Seen.{own_seen}
 use Rattle.desk_machine.specs.Commits.{pair_events}

@@ -1,16 +1,16 @@
 -- A whole walk comes to the desk.
-use Rattle.std.proofs.Common.{◌≡◌, ℕ, suc, Bool, true, false, ◌&&◌, ◌||◌, cond, Option, Some, None, Result, Ok, Err, OnOk, List, [], ◌∷◌, ◌++◌, map, length, take, refl, sym, ap, ◌∙◌, subst}
+use Rattle.std.proofs.Common.{◌≡◌, ℕ, Bool, true, false, cond, Option, Some, None, Result, Ok, Err, OnOk, List, [], ◌∷◌, ◌++◌, length, take, refl, sym, ap, ◌∙◌, subst}
 use Rattle.std.specs.Prelude.{slice_get, slice_set}
 use Rattle.std.specs.Ordering.{nat_cmp}
 use Rattle.std.specs.List.{list_any, list_all}
 use Rattle.std.specs.FinMap.{FinMap}
-use Rattle.geom_core.specs.Grid.{Key, same_key, keys_of}
+use Rattle.geom_core.specs.Grid.{Key, keys_of}
 use Rattle.geom_core.proofs.Tests.{both_true, or_left, or_right}
 use Rattle.geom_core.proofs.Tiles.{key_is}
 use Rattle.doc_model.specs.Layers.{Layer}
 use Rattle.machine_model.specs.State as state
 use Rattle.machine_model.specs.State.{State, Walks}
-use Rattle.machine_model.specs.Event.{Event, WalkEnd}
+use Rattle.machine_model.specs.Event.{Event, WalkPublish, WalkEnd}
 use Rattle.machine_model.specs.Step.{Run}
 use Rattle.machine_model.specs.Guards.{same_pair}
 use Rattle.machine_model.proofs.Lists.{get_set}
@@ -72,7 +72,7 @@ all_laid r (p ∷ ps) l = go (list_any (same_pair p.0 p.1) l.published) refl (al
 
 front_events : (place : ℕ) (front rest : List (ℕ × Key)) (es : List Event) → take (length front) (pair_events place (front ++ rest) ++ es) ≡ pair_events place front
 front_events place [] rest es = refl
-front_events place (p ∷ front) rest es = ap (λ fs. _ ∷ fs) (front_events place front rest es)
+front_events place (p ∷ front) rest es = ap (λ fs. WalkPublish place p.0 p.1 ∷ fs) (front_events place front rest es)
 
 -- the desk after a walk laid the pairs that it lacked, or some of them
 pub record IsWholeAt {A E : Type 0} (d new : Parts) (place : ℕ) (r : Result A E) : Type 0 where

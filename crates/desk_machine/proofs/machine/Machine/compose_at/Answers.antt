@@ -27,7 +27,7 @@ composed : (c : goal.After-put) → IsComposedAt (before c) (after c) c.compose_
 composed c = composed_at (before c) c.args.place c.in-Some-Walk.walker c.compose_own-laid.new.walker c.args.key c.compose_own-laid.result c.compose_own-laid.new.caches c.put.new.self c.self.invariant
     (sym c.clear.ensures.work ∙ c.in-Some-Walk.is ∙ ap Some c.in-Some-Walk.field-0-is)
     (subst (λ s. WalkLacks s c.args.place c.args.key) (sym c.self.view_is) c.requires)
-    c.compose_own-laid.ensures.laid c.compose_own-laid.ensures.all c.compose_own-laid.ensures.inputs c.compose_own-laid.ensures.serial
+    c.compose_own-laid.ensures.all c.compose_own-laid.ensures.front c.compose_own-laid.ensures.inputs c.compose_own-laid.ensures.serial
     (c.put.ensures ∙ ap (λ xs. slice_set xs c.args.place (Some (record { work = Walk c.compose_own-laid.new.walker; walker = Some c.patch-rect.result.rect }))) c.clear.ensures.left
     ∙ ap (λ (q : Patch). slice_set (slice_set c.self.inside.slots c.args.place None) c.args.place (Some (record { work = Walk c.compose_own-laid.new.walker; walker = Some q.rect }))) c.patch-rect.ensures)
 

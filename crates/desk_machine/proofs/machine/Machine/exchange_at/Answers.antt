@@ -6,10 +6,8 @@ use Rattle.doc_model.specs.Jobs.{writes}
 use Rattle.job_core.specs.Paints.{paint}
 use Rattle.machine_model.specs.State as state
 use Rattle.machine_model.specs.State.{State}
-use Rattle.machine_model.specs.Event.{Publish}
 use Rattle.machine_model.specs.Step.{PublishStep}
 use Rattle.machine_model.proofs.Lists.{get_set}
-use Rattle.desk_parts.specs.Enabled.{Enabled}
 use Rattle.desk_parts.specs.Parts.{Parts, parts, state_of, painter_of}
 use Rattle.desk_parts.specs.After.{busy_painter}
 use Rattle.desk_parts.proofs.Places.{painting_at}
