@@ -11,7 +11,7 @@ ghost use Rattle.desk_core.specs.declared.answers.Published.TheVariants as answe
 
 use crate::answers::Published;
 use crate::desk::Desk;
-use desk_machine::SlotId;
+use desk_machine::{Machine, SlotId};
 use geom_core::NoMemory;
 use walker_core::Composed;
 use whole_tiles::Whole;
@@ -37,7 +37,7 @@ impl Desk {
         if !commits {
             return Ok(Published::Nothing);
         }
-        self.exchange_all(slot, tiles)?;
+        exchange_all(&mut self.machine, slot, tiles)?;
         self.machine.tell_ends(slot);
         self.machine.end_job(slot.place);
         Ok(Published::Stored)
@@ -69,17 +69,17 @@ impl Desk {
         self.machine.end_walk(slot.place);
         Ok(Published::Stored)
     }
+}
 
-    /// Publishes the tiles of the job in a slot, one after another.
-    fn exchange_all(&mut self, slot: SlotId, tiles: &[Whole]) -> Result<(), NoMemory>
-        requires { MayCommit self.old slot.place slot.serial tiles.now }
-        ensures front { RunsFront self.old (commit_events slot.place tiles.now) self.new }
-        ensures all { (new : State) → OnOk result (Step self.new (End slot.place) new → Run self.old (commit_events slot.place tiles.now) new) }
-        ensures ends { OnOk result (MayCommit self.new slot.place slot.serial []) }
-    {
-        for whole in tiles {
-            self.machine.exchange_at(slot.place, whole)?;
-        }
-        Ok(())
+/// Publishes the tiles of the job in a slot, one after another.
+fn exchange_all(machine: &mut Machine, slot: SlotId, tiles: &[Whole]) -> Result<(), NoMemory>
+    requires { MayCommit machine.old slot.place slot.serial tiles.now }
+    ensures front { RunsFront machine.old (commit_events slot.place tiles.now) machine.new }
+    ensures all { (new : State) → OnOk result (Step machine.new (End slot.place) new → Run machine.old (commit_events slot.place tiles.now) new) }
+    ensures ends { OnOk result (MayCommit machine.new slot.place slot.serial []) }
+{
+    for whole in tiles {
+        machine.exchange_at(slot.place, whole)?;
     }
+    Ok(())
 }

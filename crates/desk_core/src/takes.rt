@@ -12,6 +12,7 @@ ghost use Rattle.desk_parts.specs.Choices.{IsIdle, MayWant, HeadWaits, DoesAtOnc
 
 use crate::desk::Desk;
 use crate::tickets::Taken;
+use desk_machine::Machine;
 use desk_parts::Choice;
 use geom_core::NoMemory;
 use memento_core::Steps;
@@ -51,28 +52,28 @@ impl Desk {
                 Ok(Taken::Did)
             }
             Choice::Start(place) => Ok(Taken::Paint(self.machine.start(place)?)),
-            Choice::Wait => self.take_walk(),
+            Choice::Wait => take_walk(&mut self.machine),
         }
     }
+}
 
-    /// Starts a walk, where one may start, while the entry at the head waits.
-    fn take_walk(&mut self) -> Result<Taken, NoMemory>
-        requires { HeadWaits self.old }
-        ensures paint { (t : PaintTicket) → result ≡ Ok (taken.Paint t) → ⊥ }
-        ensures walk { (t : WalkTicket) → result ≡ Ok (taken.Walk t) → Step self.old (WalkStart t.slot.place t.inputs.patch) self.new × IsWalkTicket t self.new }
-        ensures did { result ≡ Ok taken.Did → ⊥ }
-        ensures idle { result ≡ Ok taken.Idle → IsIdle self.old × (self.new ≡ self.old) }
-        ensures settled { result ≡ Ok taken.Settled → IsSettled self.old × (self.new ≡ self.old) }
-        ensures err { OnErr result (MayWant self.old × (self.new ≡ self.old)) }
-    {
-        match self.machine.walk_place() {
-            Some(place) => Ok(Taken::Walk(self.machine.start_walk(place)?)),
-            None => {
-                if self.machine.is_settled() {
-                    Ok(Taken::Settled)
-                } else {
-                    Ok(Taken::Idle)
-                }
+/// Starts a walk, where one may start, while the entry at the head waits.
+fn take_walk(machine: &mut Machine) -> Result<Taken, NoMemory>
+    requires { HeadWaits machine.old }
+    ensures paint { (t : PaintTicket) → result ≡ Ok (taken.Paint t) → ⊥ }
+    ensures walk { (t : WalkTicket) → result ≡ Ok (taken.Walk t) → Step machine.old (WalkStart t.slot.place t.inputs.patch) machine.new × IsWalkTicket t machine.new }
+    ensures did { result ≡ Ok taken.Did → ⊥ }
+    ensures idle { result ≡ Ok taken.Idle → IsIdle machine.old × (machine.new ≡ machine.old) }
+    ensures settled { result ≡ Ok taken.Settled → IsSettled machine.old × (machine.new ≡ machine.old) }
+    ensures err { OnErr result (MayWant machine.old × (machine.new ≡ machine.old)) }
+{
+    match machine.walk_place() {
+        Some(place) => Ok(Taken::Walk(machine.start_walk(place)?)),
+        None => {
+            if machine.is_settled() {
+                Ok(Taken::Settled)
+            } else {
+                Ok(Taken::Idle)
             }
         }
     }
