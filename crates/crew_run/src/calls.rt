@@ -3,8 +3,8 @@
 ghost use Rattle.crew_run.specs.Front.{KeepsFed};
 
 use crate::work::TakenJob;
-use desk_core::{Desk, Ended, Published, SlotId, Taken, WalkTicket};
-use geom_core::{NoMemory, TileKey};
+use desk_core::{Desk, Published, SlotId, Taken, WalkTicket};
+use geom_core::NoMemory;
 use memento_core::Steps;
 use std::alloc::Global;
 use std::sync::ledger::Ledger;
@@ -57,58 +57,5 @@ pub(crate) fn put_walk(
 ) -> Result<Published, NoMemory>
     ensures { KeepsFed desk.old desk.new }
 {
-    put_groups(desk, slot, composed)?;
-    Ok(end(desk, slot))
-}
-
-/// Publishes the groups of a walk on all tiles of its patch.
-fn put_groups(desk: &mut Desk, slot: SlotId, composed: &Composed<'_>) -> Result<(), NoMemory>
-    ensures { KeepsFed desk.old desk.new }
-{
-    let rect = composed.inputs().patch().rect;
-    for i in 0..rect.tile_count() {
-        put_groups_in(desk, slot, composed, rect.tile_at(i))?;
-    }
-    Ok(())
-}
-
-/// Publishes them on one tile.
-fn put_groups_in(
-    desk: &mut Desk,
-    slot: SlotId,
-    composed: &Composed<'_>,
-    key: TileKey,
-) -> Result<(), NoMemory>
-    ensures { KeepsFed desk.old desk.new }
-{
-    for group in composed.inputs().path() {
-        put_group(desk, slot, composed, *group, key)?;
-    }
-    Ok(())
-}
-
-/// Publishes one of them there.
-fn put_group(
-    desk: &mut Desk,
-    slot: SlotId,
-    composed: &Composed<'_>,
-    group: u16,
-    key: TileKey,
-) -> Result<(), NoMemory>
-    ensures { KeepsFed desk.old desk.new }
-{
-    match desk.publish_walk(slot, composed, group, key)? {
-        Published::Stored => Ok(()),
-        Published::Nothing => Ok(()),
-    }
-}
-
-/// Ends the work in a slot.
-fn end(desk: &mut Desk, slot: SlotId) -> Published
-    ensures { KeepsFed desk.old desk.new }
-{
-    match desk.end(slot) {
-        Ended::Done => Published::Stored,
-        Ended::Nothing => Published::Nothing,
-    }
+    desk.commit_walk(slot, composed)
 }

@@ -1,16 +1,16 @@
--- A whole job comes to the desk.
+-- Whole jobs and walks come to the desk.
 use Rattle.std.proofs.Common.{◌≡◌, ℕ, suc, zero, ◌+◌, ◌≤◌, true, false, not, Some, List, [], ◌∷◌, ◌++◌, length, take, drop, refl, sym, ap, ◌∙◌, subst, arith, Result, Ok, Err, OnOk}
 use Rattle.std.specs.Prelude.{slice_get}
 use Rattle.std.specs.List.{list_any, list_all}
 use Rattle.std.proofs.lemmas.List.{drop_all}
 use Rattle.geom_core.specs.Grid.{Key, same_key, all_keys_of}
-use Rattle.geom_core.proofs.Tests.{both_true}
+use Rattle.geom_core.proofs.Tests.{and_left, and_right, both_true}
 use Rattle.doc_model.specs.Jobs.{writes}
 use Rattle.job_core.specs.Paints.{layer_of}
 use Rattle.whole_tiles.specs.Wholes.{Entire}
 use Rattle.machine_model.specs.State as state
 use Rattle.machine_model.specs.State.{State, Paints}
-use Rattle.machine_model.specs.Event.{Event, Publish, End}
+use Rattle.machine_model.specs.Event.{Event, Publish, End, WalkEnd}
 use Rattle.machine_model.specs.Step.{Step, PublishStep, Run}
 use Rattle.machine_model.specs.MeaningLaws.{is_feed}
 use Rattle.machine_model.proofs.Lists.{get_set}
@@ -28,8 +28,9 @@ use Rattle.desk_parts.proofs.KeyTests.{pass_all}
 use Rattle.desk_parts.proofs.Places.{IsPaintingAs, painting_as, painting_at}
 use Rattle.desk_parts.proofs.Taking.{job_is}
 use Rattle.desk_work.specs.Lacking.{IsOfJob, AreLacking}
-use Rattle.desk_core.specs.Commits.{commit_events, RunsFront, MayCommit, TakesWhole}
-use Rattle.desk_core.proofs.SettlingRuns.{run_then}
+use Rattle.desk_machine.specs.Commits.{MayCommit, TakesWhole, RunsFront, lacking_in, pair_events, commit_walk_events}
+use Rattle.desk_core.specs.Commits.{commit_events}
+use Rattle.desk_parts.proofs.SettlingRuns.{run_then}
 
 -- ---- the events
 
@@ -95,25 +96,23 @@ at_index s place serial tiles i x at = subst (MayCommit s place serial) (drop_he
 pub none_left : (s : State) (place serial : ℕ) (tiles : List Entire) (i : ℕ) → length tiles ≤ i → MayCommit s place serial (drop i tiles) → MayCommit s place serial []
 none_left s place serial tiles i low = subst (MayCommit s place serial) (drop_all i tiles low)
 
--- ---- the job in the slot
+-- ---- a whole walk
 
-module _ (d : Parts) (place serial : ℕ) (w : Painter) (tiles : List Entire) (h : work_at place d.slots ≡ Some (work.Paint w)) where
-  pub may_commit_is : IsDesk d → w.serial ≡ serial → AreLacking w.job (layer_of w.shot) w.published tiles → MayCommit (state_of d) place serial tiles
-  may_commit_is desk drawn lacking = record { painter = painter_of w; runs = held d place _ (painting_at d.slots place w desk.slots h).there; drawn = drawn; lacking = lacking }
+pairs_none_fed : (place : ℕ) (ps : List (ℕ × Key)) → list_all (λ e. not (is_feed e)) (pair_events place ps ++ WalkEnd place ∷ []) ≡ true
+pairs_none_fed place [] = refl
+pairs_none_fed place (p ∷ ps) = pairs_none_fed place ps
 
-  pub commit_drawn : MayCommit (state_of d) place serial tiles → w.serial ≡ serial
-  commit_drawn m = ap (λ (q : state.Painter). q.serial) (job_is d place w m.painter h m.runs) ∙ m.drawn
+taken_none_fed : (es : List Event) (n : ℕ) → list_all (λ e. not (is_feed e)) es ≡ true → list_all (λ e. not (is_feed e)) (take n es) ≡ true
+taken_none_fed es zero h = refl
+taken_none_fed [] (suc n) h = refl
+taken_none_fed (e ∷ es) (suc n) h = both_true _ _ (and_left (not (is_feed e)) _ h) (taken_none_fed es n (and_right (not (is_feed e)) _ h))
 
-  pub commit_lacks : MayCommit (state_of d) place serial tiles → AreLacking w.job (layer_of w.shot) w.published tiles
-  commit_lacks m = subst (λ (q : state.Painter). AreLacking q.job q.shot q.published tiles) (sym (job_is d place w m.painter h m.runs)) m.lacking
+pub walk_front_settles : (place : ℕ) (a b : State) → RunsFront a (commit_walk_events a place) b → Settles a b
+walk_front_settles place a b front = record { events = take front.count (commit_walk_events a place); no_feed = taken_none_fed (commit_walk_events a place) front.count (pairs_none_fed place (lacking_in (slice_get a.slots place))); run = front.run }
 
--- a job that lacks none may end
-pub may_end_now : (d : Parts) (place serial : ℕ) → IsDesk d → MayCommit (state_of d) place serial [] → Enabled (state_of d) (End place)
-may_end_now d place serial desk m =
-    let x : IsPaintingAs d.slots place m.painter = painting_as d.slots place m.painter m.runs in
-    job_may_end d place x.painter desk x.at_work (pass_all (λ k. list_any (same_key k) x.painter.published) (all_keys_of (writes x.painter.job))
-    (subst (λ (q : state.Painter). (key : Key) → list_any (same_key key) (all_keys_of (writes q.job)) ≡ true → list_any (same_key key) q.published ≡ true) (sym x.is) m.lacking))
+pub walk_settles : (place : ℕ) (a b : State) → Run a (commit_walk_events a place) b → Settles a b
+walk_settles place a b run = record { events = commit_walk_events a place; no_feed = pairs_none_fed place (lacking_in (slice_get a.slots place)); run = run }
 
--- what the slot's own job takes
-pub own_whole : (w : Painter) (p : state.Painter) (x : Entire) → painter_of w ≡ p → IsOfJob p.job p.shot x → IsOfJob w.job (layer_of w.shot) x
-own_whole w p x e of = subst (λ (q : state.Painter). IsOfJob q.job q.shot x) (sym e) of
+-- the pairs, and the end
+pub walk_run : (place : ℕ) (a b c : State) → Run a (pair_events place (lacking_in (slice_get a.slots place))) b → Step b (WalkEnd place) c → Run a (commit_walk_events a place) c
+walk_run place a b c run step = run_then (pair_events place (lacking_in (slice_get a.slots place))) (WalkEnd place ∷ []) a b c run (c, step, refl)

@@ -1,4 +1,2 @@
-pub mod Tickets
-pub mod OwnWork
 pub mod Commits
 pub mod Asks

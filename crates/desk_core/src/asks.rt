@@ -2,11 +2,11 @@
 
 ghost use Rattle.std.specs.Prelude.{◌≡◌};
 ghost use Rattle.desk_parts.specs.Choices.{Tells};
-ghost use Rattle.desk_core.specs.Asks.{HeadMayGo, wants_commands};
+ghost use Rattle.desk_machine.specs.Asks.{wants_commands};
+ghost use Rattle.desk_core.specs.Asks.{HeadMayGo};
 
 use crate::desk::Desk;
 use desk_parts::Choice;
-use entry_queue::Entry;
 
 impl Desk {
     /// Whether a further command may be of use at once: each entry has its outcome, or the stroke at the
@@ -14,12 +14,7 @@ impl Desk {
     pub fn wants_commands(&self) -> bool
         ensures { result ≡ wants_commands self.now }
     {
-        match self.queue.head() {
-            None => true,
-            Some(Entry::Waiting(_)) => true,
-            Some(Entry::Whole(_)) => false,
-            Some(Entry::Other(_)) => false,
-        }
+        self.machine.wants_commands()
     }
 
     /// Whether an event of the entry at the head may happen, as `take` then makes one. Where none may, the
@@ -27,7 +22,7 @@ impl Desk {
     pub fn head_may_go(&self) -> bool
         ensures { Tells result (HeadMayGo self.now) }
     {
-        match self.choice() {
+        match self.machine.choice() {
             Choice::Finish => true,
             Choice::Cancel => true,
             Choice::Act => true,

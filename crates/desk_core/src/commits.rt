@@ -1,19 +1,19 @@
-//! Jobs that were painted outside come to the desk whole.
+//! Jobs that were painted outside, and walks that were composed there, come to the desk whole.
 
-ghost use Rattle.std.specs.Prelude.{◌≡◌, true, false, Ok, OnOk, OnErr, []};
+ghost use Rattle.std.specs.Prelude.{◌≡◌, Ok, OnOk, OnErr, []};
 ghost use Rattle.machine_model.specs.State.{State};
-ghost use Rattle.machine_model.specs.Event.{Publish, End};
+ghost use Rattle.machine_model.specs.Event.{End};
 ghost use Rattle.machine_model.specs.Step.{Step, Run};
-ghost use Rattle.desk_parts.specs.Enabled.{Enabled};
 ghost use Rattle.desk_parts.specs.Settles.{Settles};
-ghost use Rattle.desk_core.specs.Commits.{MayCommit, TakesWhole, RunsFront, commit_events};
+ghost use Rattle.desk_machine.specs.Commits.{MayCommit, MayCommitWalk, RunsFront, commit_walk_events};
+ghost use Rattle.desk_core.specs.Commits.{commit_events};
 ghost use Rattle.desk_core.specs.declared.answers.Published.TheVariants as answers;
 
-use crate::answers::{Published, SlotId};
+use crate::answers::Published;
 use crate::desk::Desk;
-use desk_parts::Work;
-use desk_work::{are_lacking, exchange_own};
+use desk_machine::{Machine, SlotId};
 use geom_core::NoMemory;
+use walker_core::Composed;
 use whole_tiles::Whole;
 
 impl Desk {
@@ -33,70 +33,53 @@ impl Desk {
         ensures canvas { self.new.canvas ≡ self.old.canvas }
         ensures fed { self.new.fed ≡ self.old.fed }
     {
-        let commits = self.may_commit(slot, tiles)?;
+        let commits = self.machine.may_commit(slot, tiles)?;
         if !commits {
             return Ok(Published::Nothing);
         }
-        self.exchange_all(slot, tiles)?;
-        self.tell_ends(slot);
-        self.end_job(slot.place);
+        exchange_all(&mut self.machine, slot, tiles)?;
+        self.machine.tell_ends(slot);
+        self.machine.end_job(slot.place);
         Ok(Published::Stored)
     }
 
-    /// Whether the job with that serial is at work in the slot, and the tiles are just those that it
-    /// lacks.
-    fn may_commit(&self, slot: SlotId, tiles: &[Whole]) -> Result<bool, NoMemory>
-        ensures some { result ≡ Ok true → MayCommit self.now slot.place slot.serial tiles.now }
-        ensures none { result ≡ Ok false → MayCommit self.now slot.place slot.serial tiles.now → ⊥ }
+    /// Publishes all pairs of a group and a tile that the walk in a slot lacks, tile by tile, and ends it. Where
+    /// a whole tile is laid, no pixel is copied. `Nothing` exactly where the slot hasn't that work, or not all its
+    /// groups were composed on all tiles of its patch, of the same as the walk reads.
+    ///
+    /// # Errors
+    /// `NoMemory`; of the pairs some, from the first on, are published, or none.
+    pub fn commit_walk(
+        &mut self,
+        slot: SlotId,
+        composed: &Composed<'_>,
+    ) -> Result<Published, NoMemory>
+        ensures stored { result ≡ Ok answers.Stored → Run self.old (commit_walk_events self.old slot.place) self.new }
+        ensures nothing { result ≡ Ok answers.Nothing → self.new ≡ self.old }
+        ensures refused { result ≡ Ok answers.Nothing → MayCommitWalk self.old slot.place slot.serial composed.now → ⊥ }
+        ensures front { OnErr result (RunsFront self.old (commit_walk_events self.old slot.place) self.new) }
+        ensures runs { Settles self.old self.new }
+        ensures canvas { self.new.canvas ≡ self.old.canvas }
+        ensures fed { self.new.fed ≡ self.old.fed }
     {
-        match self.slots.work(slot.place) {
-            Some(Work::Paint(painter)) => {
-                if painter.serial == slot.serial {
-                    are_lacking(self.alloc, painter, tiles)
-                } else {
-                    Ok(false)
-                }
-            }
-            Some(Work::Walk(_)) => Ok(false),
-            None => Ok(false),
+        if !self.machine.may_commit_walk(slot, composed) {
+            return Ok(Published::Nothing);
         }
+        self.machine.lay_whole_walk(slot, composed)?;
+        self.machine.end_walk(slot.place);
+        Ok(Published::Stored)
     }
+}
 
-    /// Publishes the tiles of the job in a slot, one after another.
-    fn exchange_all(&mut self, slot: SlotId, tiles: &[Whole]) -> Result<(), NoMemory>
-        requires { MayCommit self.old slot.place slot.serial tiles.now }
-        ensures front { RunsFront self.old (commit_events slot.place tiles.now) self.new }
-        ensures all { (new : State) → OnOk result (Step self.new (End slot.place) new → Run self.old (commit_events slot.place tiles.now) new) }
-        ensures ends { OnOk result (MayCommit self.new slot.place slot.serial []) }
-    {
-        for whole in tiles {
-            self.exchange_at(slot.place, whole)?;
-        }
-        Ok(())
+/// Publishes the tiles of the job in a slot, one after another.
+fn exchange_all(machine: &mut Machine, slot: SlotId, tiles: &[Whole]) -> Result<(), NoMemory>
+    requires { MayCommit machine.old slot.place slot.serial tiles.now }
+    ensures front { RunsFront machine.old (commit_events slot.place tiles.now) machine.new }
+    ensures all { (new : State) → OnOk result (Step machine.new (End slot.place) new → Run machine.old (commit_events slot.place tiles.now) new) }
+    ensures ends { OnOk result (MayCommit machine.new slot.place slot.serial []) }
+{
+    for whole in tiles {
+        machine.exchange_at(slot.place, whole)?;
     }
-
-    /// Publishes a tile of the job in a slot.
-    fn exchange_at(&mut self, place: u8, whole: &Whole) -> Result<(), NoMemory>
-        requires { TakesWhole self.old place whole.now }
-        ensures ok { OnOk result (Step self.old (Publish place whole.now.key) self.new) }
-        ensures err { OnErr result (self.new ≡ self.old) }
-    {
-        match self.slots.clear(place) {
-            Some(Work::Paint(mut painter)) => {
-                let laid = exchange_own(self.alloc, &mut self.store, &mut painter, whole);
-                self.slots.put(place, Work::Paint(painter), None);
-                laid
-            }
-            Some(Work::Walk(_)) => unreachable!(),
-            None => unreachable!(),
-        }
-    }
-
-    /// Tells that a job may end that lacks no tile. It does nothing.
-    fn tell_ends(&self, slot: SlotId)
-        requires { MayCommit self.now slot.place slot.serial [] }
-        ensures { Enabled self.now (End slot.place) }
-    {
-        let _ = &self.alloc;
-    }
+    Ok(())
 }

@@ -9,5 +9,5 @@ use crate::desk::Desk;
 pub fn settled_has_meaning(desk: &Desk)
     ensures { IsSettled desk.now → HasMeaning desk.now }
 {
-    let _ = &desk.alloc;
+    desk_machine::settled_has_meaning(&desk.machine);
 }

@@ -1,22 +1,19 @@
-//! The desk: what stands behind the one lock. Each call is one event of the machine.
+//! The desk: what stands behind the one lock. Each call is one event of the machine, or a list of them.
 #![tactic(auto)]
 
-mod acts;
 mod answers;
 mod asks;
-mod choices;
 mod commits;
 mod desk;
-mod job_starts;
 mod laws;
 mod looks;
 mod settling;
-mod stroke_events;
 mod takes;
 mod tickets;
 mod walks;
 
-pub use answers::{Ended, Fresh, Published, SlotId};
+pub use answers::{Ended, Fresh, Published};
 pub use desk::Desk;
+pub use desk_machine::{PaintTicket, SlotId, WalkTicket};
 pub use laws::settled_has_meaning;
-pub use tickets::{PaintTicket, Taken, WalkTicket};
+pub use tickets::Taken;

@@ -14,14 +14,10 @@ ghost use Rattle.desk_core.specs.declared.answers.Fresh.TheVariants as fresh;
 
 use crate::answers::Fresh;
 use crate::desk::Desk;
-use desk_work::{some_waits, some_works};
 use doc_model::{Canvas, Command, Outcome};
 use geom_core::TileKey;
 use pixel_core::Pixel;
 use tile_core::{Frame, Tile};
-
-/// The id of the root.
-const ROOT: u16 = 0;
 
 impl Desk {
     /// The pixel of the root's cache at a point of the canvas, and whether it is up to date: `Dirty`
@@ -35,19 +31,12 @@ impl Desk {
         ensures clean { result.1 ≡ fresh.Clean → covered self.now 0 (point (pos x) (pos y)) ≡ false }
         ensures picture { result.1 ≡ fresh.Clean → result.0 ≡ picture self.now.present (point (pos x) (pos y)) }
     {
-        let pixel = self.caches.at(ROOT, i32::from(x), i32::from(y));
-        if self.is_covered(i32::from(x), i32::from(y)) {
+        let pixel = self.machine.root_pixel(x, y);
+        if self.machine.is_covered(i32::from(x), i32::from(y)) {
             (pixel, Fresh::Dirty)
         } else {
             (pixel, Fresh::Clean)
         }
-    }
-
-    /// Whether something will compose the root anew at the point.
-    fn is_covered(&self, x: i32, y: i32) -> bool
-        ensures { result ≡ covered self.now 0 (point x y) }
-    {
-        some_waits(&self.updates, x, y) || some_works(&self.slots, x, y)
     }
 
     /// The tile of the root's cache under a key. None only where the root's cache is clear on that tile.
@@ -55,14 +44,14 @@ impl Desk {
         ensures some { IfSome result (λ t. (p : Point) → in_tile key p ≡ true → pixel_at t.now p ≡ at (cache self.now.caches 0) p) }
         ensures none { IfNone result ((p : Point) → in_tile key p ≡ true → at (cache self.now.caches 0) p ≡ clear) }
     {
-        self.caches.tile(ROOT, key)
+        self.machine.root_tile(key)
     }
 
     /// The frames, one for each export so far.
     pub fn frames(&self) -> &[Frame]
         ensures { map colours_of result.now ≡ self.now.frames }
     {
-        &self.frames
+        self.machine.frames()
     }
 
     /// The frames on their own.
@@ -70,28 +59,28 @@ impl Desk {
         ensures frames { map colours_of result.items ≡ self.frames }
         ensures sides { All (HasSides self.canvas) result.items }
     {
-        let Desk { frames, .. } = self;
-        frames
+        let Desk { machine } = self;
+        machine.into_frames()
     }
 
     /// The outcomes so far, in order.
     pub fn outcomes(&self) -> &[Outcome]
         ensures { result.now ≡ self.now.outcomes }
     {
-        self.queue.outcomes()
+        self.machine.outcomes()
     }
 
     /// The commands that were fed.
     pub fn fed(&self) -> &[Command]
         ensures { result.now ≡ self.now.fed }
     {
-        self.fed.commands()
+        self.machine.fed()
     }
 
     /// The canvas that it was made for.
     pub fn canvas(&self) -> Canvas
         ensures { result ≡ self.now.canvas }
     {
-        self.canvas
+        self.machine.canvas()
     }
 }

@@ -4,14 +4,15 @@ ghost use Rattle.std.specs.Prelude.{◌≡◌, Ok, OnErr};
 ghost use Rattle.machine_model.specs.State.{IsSettled};
 ghost use Rattle.machine_model.specs.Event.{Start, WalkStart};
 ghost use Rattle.machine_model.specs.Step.{Step};
-ghost use Rattle.desk_core.specs.declared.tickets.PaintTicket.{PaintTicket};
-ghost use Rattle.desk_core.specs.declared.tickets.WalkTicket.{WalkTicket};
+ghost use Rattle.desk_machine.specs.declared.tickets.PaintTicket.{PaintTicket};
+ghost use Rattle.desk_machine.specs.declared.tickets.WalkTicket.{WalkTicket};
 ghost use Rattle.desk_core.specs.declared.tickets.Taken.TheVariants as taken;
-ghost use Rattle.desk_core.specs.Tickets.{IsPaintTicket, IsWalkTicket};
+ghost use Rattle.desk_machine.specs.Tickets.{IsPaintTicket, IsWalkTicket};
 ghost use Rattle.desk_parts.specs.Choices.{IsIdle, MayWant, HeadWaits, DoesAtOnce};
 
 use crate::desk::Desk;
 use crate::tickets::Taken;
+use desk_machine::Machine;
 use desk_parts::Choice;
 use geom_core::NoMemory;
 use memento_core::Steps;
@@ -33,46 +34,46 @@ impl Desk {
         ensures err { OnErr result (MayWant self.old × (self.new ≡ self.old)) }
         ensures uncounted { (result ≡ Ok taken.Did → ⊥) → steps.new ≡ steps.old }
     {
-        match self.choice() {
+        match self.machine.choice() {
             Choice::Finish => {
-                self.finish();
+                self.machine.finish();
                 Ok(Taken::Did)
             }
             Choice::Cancel => {
-                self.cancel(steps);
+                self.machine.cancel(steps);
                 Ok(Taken::Did)
             }
             Choice::Act => {
-                self.act(steps)?;
+                self.machine.act(steps)?;
                 Ok(Taken::Did)
             }
             Choice::Init => {
-                self.begin()?;
+                self.machine.begin()?;
                 Ok(Taken::Did)
             }
-            Choice::Start(place) => Ok(Taken::Paint(self.start(place)?)),
-            Choice::Wait => self.take_walk(),
+            Choice::Start(place) => Ok(Taken::Paint(self.machine.start(place)?)),
+            Choice::Wait => take_walk(&mut self.machine),
         }
     }
+}
 
-    /// Starts a walk, where one may start, while the entry at the head waits.
-    fn take_walk(&mut self) -> Result<Taken, NoMemory>
-        requires { HeadWaits self.old }
-        ensures paint { (t : PaintTicket) → result ≡ Ok (taken.Paint t) → ⊥ }
-        ensures walk { (t : WalkTicket) → result ≡ Ok (taken.Walk t) → Step self.old (WalkStart t.slot.place t.inputs.patch) self.new × IsWalkTicket t self.new }
-        ensures did { result ≡ Ok taken.Did → ⊥ }
-        ensures idle { result ≡ Ok taken.Idle → IsIdle self.old × (self.new ≡ self.old) }
-        ensures settled { result ≡ Ok taken.Settled → IsSettled self.old × (self.new ≡ self.old) }
-        ensures err { OnErr result (MayWant self.old × (self.new ≡ self.old)) }
-    {
-        match self.walk_place() {
-            Some(place) => Ok(Taken::Walk(self.start_walk(place)?)),
-            None => {
-                if self.is_settled() {
-                    Ok(Taken::Settled)
-                } else {
-                    Ok(Taken::Idle)
-                }
+/// Starts a walk, where one may start, while the entry at the head waits.
+fn take_walk(machine: &mut Machine) -> Result<Taken, NoMemory>
+    requires { HeadWaits machine.old }
+    ensures paint { (t : PaintTicket) → result ≡ Ok (taken.Paint t) → ⊥ }
+    ensures walk { (t : WalkTicket) → result ≡ Ok (taken.Walk t) → Step machine.old (WalkStart t.slot.place t.inputs.patch) machine.new × IsWalkTicket t machine.new }
+    ensures did { result ≡ Ok taken.Did → ⊥ }
+    ensures idle { result ≡ Ok taken.Idle → IsIdle machine.old × (machine.new ≡ machine.old) }
+    ensures settled { result ≡ Ok taken.Settled → IsSettled machine.old × (machine.new ≡ machine.old) }
+    ensures err { OnErr result (MayWant machine.old × (machine.new ≡ machine.old)) }
+{
+    match machine.walk_place() {
+        Some(place) => Ok(Taken::Walk(machine.start_walk(place)?)),
+        None => {
+            if machine.is_settled() {
+                Ok(Taken::Settled)
+            } else {
+                Ok(Taken::Idle)
             }
         }
     }

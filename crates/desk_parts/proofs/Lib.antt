@@ -29,3 +29,4 @@ pub mod Taking
 pub mod WalkLaying
 pub mod Ends
 pub mod Looking
+pub mod SettlingRuns

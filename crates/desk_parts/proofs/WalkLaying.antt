@@ -56,7 +56,7 @@ abbrev pub with_composed : FinMap nat_cmp Layer → ℕ → Key → Readings →
 with_composed caches g key r = fin.insert caches g (painted (r.patch.rect ∷ []) (in_tile key) (walk_value r.groups g) (cache caches g))
 
 -- what was composed of the same is the walk's own
-composed_is : (caches : FinMap nat_cmp Layer) (g : ℕ) (key : Key) (own other : Readings) → ReadTheSame own other key → with_composed caches g key other ≡ with_composed caches g key own
+pub composed_is : (caches : FinMap nat_cmp Layer) (g : ℕ) (key : Key) (own other : Readings) → ReadTheSame own other key → with_composed caches g key other ≡ with_composed caches g key own
 composed_is caches g key own other same =
     (λ i. fin.insert caches g (painted ((sym same.patch i).rect ∷ []) (in_tile key) (walk_value other.groups g) (cache caches g)))
     ∙ ap (fin.insert caches g) (painted_same own.patch.rect key (walk_value other.groups g) (walk_value own.groups g) (cache caches g) (λ p h k. sym (same_values own other key same g p h k)))

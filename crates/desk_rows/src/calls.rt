@@ -1,7 +1,7 @@
 //! The desk's calls, one after another.
 
 use crate::plays::Call::{
-    self, End, Feed, Frame, Group, Look, OnGreen, Publish, Settle, Stray, Take,
+    self, End, Feed, Frame, Group, Look, OnGreen, Publish, Settle, Stray, Take, Whole,
 };
 use crate::plays::{Play, first_odd};
 use crate::tickets::Took::{Did, Idle, Paint, Settled, Walk};
@@ -82,6 +82,7 @@ const REFUSED_WALK: &[Call] = &[
     Take(Walk),
     End(0, Ended::Nothing),
     Publish(0, 0, Nothing),
+    Whole(0, 0, Nothing),
     Settle,
     Frame(0, 0, [128, 0, 127]),
 ];
@@ -92,13 +93,14 @@ const STORED_WALK: &[Call] = &[
     Take(Did),
     Take(Walk),
     End(0, Ended::Nothing),
-    Publish(0, 0, Stored),
+    Whole(0, 0, Stored),
+    End(0, Ended::Nothing),
     Settle,
     Frame(0, 0, [128, 0, 127]),
 ];
 
 /// What is shown, and the calls of a desk, or of two, one after the other.
-const ROWS: [(&str, &[Play]); 26] = [
+const ROWS: [(&str, &[Play]); 27] = [
     (
         "a new desk is settled, and exports its paper",
         &[Play {
@@ -245,6 +247,24 @@ const ROWS: [(&str, &[Play]); 26] = [
                 Publish(0, 0, Nothing),
                 Group(0, 9, Nothing),
                 End(0, Done),
+                End(0, Ended::Nothing),
+                Take(Settled),
+            ],
+        }],
+    ),
+    (
+        "a walk that comes whole, some of which is published",
+        &[Play {
+            script: FILL,
+            slots: 1,
+            calls: &[
+                Feed(1),
+                Take(Did),
+                Take(Walk),
+                Publish(0, 0, Stored),
+                Whole(0, 0, Stored),
+                Look(0, [0; 4], Clean),
+                Whole(0, 0, Nothing),
                 End(0, Ended::Nothing),
                 Take(Settled),
             ],
@@ -492,6 +512,7 @@ const ROWS: [(&str, &[Play]); 26] = [
                 Take(Paint),
                 Publish(1, 0, Nothing),
                 Publish(0, 1, Nothing),
+                Whole(0, 1, Nothing),
                 Settle,
                 Frame(0, 0, [128, 0, 127]),
             ],

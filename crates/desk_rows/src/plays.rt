@@ -30,9 +30,11 @@ pub(crate) enum Call {
     Publish(usize, usize, Published),
     /// The same of a walk's ticket for some group.
     Group(usize, u16, Published),
+    /// Composes the whole walk of the first ticket, and commits it for the work of the second.
+    Whole(usize, usize, Published),
     /// Publishes the tile at the corner of a job's ticket, painted on green.
     OnGreen(usize, Published),
-    /// Publishes by a ticket, and ends, for that slot.
+    /// Publishes by a ticket, commits a walk, and ends, for that slot.
     Stray(usize, SlotId),
     /// Ends the work of a ticket.
     End(usize, Ended),
@@ -113,6 +115,7 @@ fn is_answered<L: Ledger>(
         Call::Take(took) => Ok(take(desk, steps, held)? == took),
         Call::Publish(by, of, answer) => publishes(alloc, desk, held, by, of, 0, answer),
         Call::Group(by, group, answer) => publishes(alloc, desk, held, by, by, group, answer),
+        Call::Whole(by, of, answer) => commits(alloc, desk, held, by, of, answer),
         Call::OnGreen(by, answer) => publishes_green(alloc, desk, held, by, answer),
         Call::Stray(by, slot) => is_stray(alloc, desk, held, by, slot),
         Call::End(of, answer) => Ok(ends(desk, held, of, answer)),
@@ -151,6 +154,21 @@ fn publishes(
     Ok(held[by].publish(alloc, desk, slot, group, ORIGIN)? == answer)
 }
 
+/// Whether a walk of one ticket, committed for the work of another, has that answer.
+fn commits(
+    alloc: Global,
+    desk: &mut Desk,
+    held: &[Held],
+    by: usize,
+    of: usize,
+    answer: Published,
+) -> Result<bool, NoMemory> {
+    if by >= held.len() || of >= held.len() {
+        return Ok(false);
+    }
+    Ok(held[by].commit(alloc, desk, held[of].slot())? == answer)
+}
+
 /// The same of what a job's ticket paints on green.
 fn publishes_green(
     alloc: Global,
@@ -177,7 +195,10 @@ fn is_stray(
         return Ok(false);
     }
     let published = held[by].publish(alloc, desk, slot, 0, ORIGIN)?;
-    Ok(published == Published::Nothing && desk.end(slot) == Ended::Nothing)
+    let committed = held[by].commit(alloc, desk, slot)?;
+    Ok(published == Published::Nothing
+        && committed == Published::Nothing
+        && desk.end(slot) == Ended::Nothing)
 }
 
 /// Whether the end of a ticket's work has that answer.

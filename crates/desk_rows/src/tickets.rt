@@ -17,7 +17,7 @@ use pixel_core::Pixel;
 use std::alloc::Global;
 use std::sync::ledger::Ledger;
 use tile_core::Shot;
-use walker_core::{Inputs, compose_key};
+use walker_core::{Inputs, compose_key, compose_walk};
 
 /// A ticket that is held.
 #[derive(Drop)]
@@ -77,6 +77,22 @@ impl Held {
         match self {
             Held::Paint(ticket) => paint(alloc, desk, slot, &ticket.work, &ticket.shot, key),
             Held::Walk(ticket) => compose(alloc, desk, slot, &ticket.inputs, group, key),
+        }
+    }
+
+    /// Composes the whole work, and commits it for the work in a slot. `Nothing` also of a job.
+    pub(crate) fn commit(
+        &self,
+        alloc: Global,
+        desk: &mut Desk,
+        slot: SlotId,
+    ) -> Result<Published, NoMemory> {
+        match self {
+            Held::Paint(_) => Ok(Published::Nothing),
+            Held::Walk(ticket) => {
+                let composed = compose_walk(alloc, &ticket.inputs)?;
+                desk.commit_walk(slot, &composed)
+            }
         }
     }
 

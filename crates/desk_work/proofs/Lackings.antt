@@ -1,21 +1,20 @@
 -- Tiles made whole that are just those that a job lacks.
-use Rattle.std.proofs.Common.{◌≡◌, ℕ, suc, zero, ◌+◌, ◌≤◌, Bool, true, false, ◌||◌, List, [], ◌∷◌, length, take, drop, Option, Some, refl, sym, ap, subst, ◌∙◌, arith, inl, inr}
+use Rattle.std.proofs.Common.{◌≡◌, ℕ, suc, zero, ◌+◌, ◌≤◌, Bool, true, false, ◌||◌, List, [], ◌∷◌, length, take, drop, Some, refl, sym, ap, subst, ◌∙◌, arith}
 use Rattle.std.specs.Prelude.{slice_get}
 use Rattle.std.specs.List.{list_any, list_all}
 use Rattle.std.specs.FinSet as set
 use Rattle.std.specs.FinSet.{FinSet}
 use Rattle.std.proofs.lemmas.List.{drop_all}
-use Rattle.std.proofs.Math.Seq.{take-length}
 use Rattle.geom_core.specs.Areas.{Area, holds, Point}
 use Rattle.geom_core.specs.Overlaps.{any_holds}
 use Rattle.geom_core.specs.Grid.{Key, key_cmp, key_cmp_total, same_key, all_keys_of}
-use Rattle.geom_core.proofs.Tests.{or_left, none_left, none_right, neither}
+use Rattle.geom_core.proofs.Tests.{or_left}
 use Rattle.tile_core.specs.Shots.{Sight, sight_at, SameShots}
 use Rattle.doc_model.specs.declared.job.Job.{Job}
 use Rattle.doc_model.specs.Layers.{Layer, at}
 use Rattle.doc_model.specs.Jobs.{reads, writes}
 use Rattle.job_core.specs.Paints.{layer_of}
-use Rattle.whole_tiles.specs.Wholes.{Entire, IsEntire, Shows}
+use Rattle.whole_tiles.specs.Wholes.{Entire, IsEntire}
 use Rattle.whole_tiles.proofs.Seen.{default-layer_of}
 use Rattle.update_queue.proofs.Elements.{drop_here}
 use Rattle.desk_parts.proofs.KeyTests.{all_pass, pass_all}

@@ -2,6 +2,6 @@ pub mod Passes
 pub mod KeyLists
 pub mod CacheFrames
 pub mod SlotPoints
-pub mod GroupsLaid
+pub mod PairsLaid
 pub mod ShotsRead
 pub mod Lackings

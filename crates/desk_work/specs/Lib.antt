@@ -1,2 +1,3 @@
 pub mod LaidTiles
 pub mod Lacking
+pub mod OfWalk

@@ -1,5 +1,5 @@
 use Rattle.std.proofs.Common.{Ok, ap, refl, sym}
-use Rattle.desk_core.proofs.SettlingRuns.{settles_none, canvas_stays, fed_stays}
+use Rattle.desk_parts.proofs.SettlingRuns.{settles_none, canvas_stays, fed_stays}
 use Rattle.desk_core.proofs.Committing.{front_settles, commit_settles}
 use Rattle.desk_core.proofs.desk.Desk.commit.Goals as goal
 
@@ -7,19 +7,19 @@ pub exchange_all-requires : goal.exchange_all-requires
 exchange_all-requires c = c.in_ok-commits.ensures.some (ap Ok c.if-not-commits.false)
 
 pub returns-in_err-exchange_all-clause-runs : goal.returns-in_err-exchange_all-clause-runs
-returns-in_err-exchange_all-clause-runs c = front_settles c.args.slot.place c.args.tiles.now c.args.self.now c.exchange_all.new.self c.exchange_all.ensures.front
+returns-in_err-exchange_all-clause-runs c = rw (← c.self.view_is) (front_settles c.args.slot.place c.args.tiles.now c.self.inside.machine c.exchange_all.new.machine c.exchange_all.ensures.front)
 
 pub returns-in_err-exchange_all-clause-canvas : goal.returns-in_err-exchange_all-clause-canvas
-returns-in_err-exchange_all-clause-canvas c = canvas_stays (front_settles c.args.slot.place c.args.tiles.now c.args.self.now c.exchange_all.new.self c.exchange_all.ensures.front)
+returns-in_err-exchange_all-clause-canvas c = rw (← c.self.view_is) (canvas_stays (front_settles c.args.slot.place c.args.tiles.now c.self.inside.machine c.exchange_all.new.machine c.exchange_all.ensures.front))
 
 pub returns-in_err-exchange_all-clause-fed : goal.returns-in_err-exchange_all-clause-fed
-returns-in_err-exchange_all-clause-fed c = fed_stays (front_settles c.args.slot.place c.args.tiles.now c.args.self.now c.exchange_all.new.self c.exchange_all.ensures.front)
+returns-in_err-exchange_all-clause-fed c = rw (← c.self.view_is) (fed_stays (front_settles c.args.slot.place c.args.tiles.now c.self.inside.machine c.exchange_all.new.machine c.exchange_all.ensures.front))
 
 pub returns-clause-runs : goal.returns-clause-runs
-returns-clause-runs c = commit_settles c.args.slot.place c.args.tiles.now c.args.self.now c.end_job.new.self (c.in_ok-exchange_all.ensures.all c.end_job.new.self c.end_job.ensures)
+returns-clause-runs c = rw (← c.self.view_is) (commit_settles c.args.slot.place c.args.tiles.now c.self.inside.machine c.end_job.new.self (c.in_ok-exchange_all.ensures.all c.end_job.new.self c.end_job.ensures))
 
 pub returns-clause-canvas : goal.returns-clause-canvas
-returns-clause-canvas c = canvas_stays (commit_settles c.args.slot.place c.args.tiles.now c.args.self.now c.end_job.new.self (c.in_ok-exchange_all.ensures.all c.end_job.new.self c.end_job.ensures))
+returns-clause-canvas c = rw (← c.self.view_is) (canvas_stays (commit_settles c.args.slot.place c.args.tiles.now c.self.inside.machine c.end_job.new.self (c.in_ok-exchange_all.ensures.all c.end_job.new.self c.end_job.ensures)))
 
 pub returns-clause-fed : goal.returns-clause-fed
-returns-clause-fed c = fed_stays (commit_settles c.args.slot.place c.args.tiles.now c.args.self.now c.end_job.new.self (c.in_ok-exchange_all.ensures.all c.end_job.new.self c.end_job.ensures))
+returns-clause-fed c = rw (← c.self.view_is) (fed_stays (commit_settles c.args.slot.place c.args.tiles.now c.self.inside.machine c.end_job.new.self (c.in_ok-exchange_all.ensures.all c.end_job.new.self c.end_job.ensures)))

@@ -6,10 +6,10 @@ pub end_job-requires : goal.end_job-requires
 end_job-requires c = c.is_complete.ensures.some c.if-is_complete.true
 
 pub returns-then-is_complete-clause-done : goal.returns-then-is_complete-clause-done
-returns-then-is_complete-clause-done c = λ e. (End c.args.slot.place, ends_own c.args.slot.place, c.end_job.ensures)
+returns-then-is_complete-clause-done c = rw (← c.self.view_is) (λ e. (End c.args.slot.place, ends_own c.args.slot.place, c.end_job.ensures))
 
 pub returns-then-is_walked-clause-done : goal.returns-then-is_walked-clause-done
-returns-then-is_walked-clause-done c = λ e. (WalkEnd c.args.slot.place, walk_ends_own c.args.slot.place, c.end_walk.ensures)
+returns-then-is_walked-clause-done c = rw (← c.self.view_is) (λ e. (WalkEnd c.args.slot.place, walk_ends_own c.args.slot.place, c.end_walk.ensures))
 
 pub returns-clause-refused : goal.returns-clause-refused
-returns-clause-refused c = λ e. none_ends c.args.self.now c.args.slot.place c.args.slot.serial (c.is_complete.ensures.none c.if-is_complete.false) (c.is_walked.ensures.none c.if-is_walked.false)
+returns-clause-refused c = rw (← c.self.view_is) (λ e. none_ends c.self.inside.machine c.args.slot.place c.args.slot.serial (c.is_complete.ensures.none c.if-is_complete.false) (c.is_walked.ensures.none c.if-is_walked.false))

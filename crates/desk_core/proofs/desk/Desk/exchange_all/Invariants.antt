@@ -1,8 +1,0 @@
-use Rattle.std.proofs.Common.{take, drop}
-use Rattle.machine_model.specs.Step.{Run}
-use Rattle.desk_core.specs.Commits.{MayCommit, commit_events}
-use Rattle.desk_core.proofs.desk.Desk.exchange_all.Given as goal
-
--- the tiles so far are published, and the others are just those that the job lacks
-abbrev pub invariant-loop-whole : goal.invariant-loop-whole
-invariant-loop-whole l = Run l.initial.self (take l.whole-index (commit_events l.slot.place l.tiles)) l.self × MayCommit l.self l.slot.place l.slot.serial (drop l.whole-index l.tiles)

@@ -1,7 +1,0 @@
-use Rattle.desk_parts.proofs.Wanting.{walk_wants}
-use Rattle.desk_core.proofs.StepCounts.{on_err}
-use Rattle.desk_core.proofs.desk.Desk.take_walk.Goals as goal
-
-pub returns-in_err-start_walk-in-Some-clause-err : goal.returns-in_err-start_walk-in-Some-clause-err
-returns-in_err-start_walk-in-Some-clause-err c = on_err c.from_residual.result
-    (walk_wants c.args.self.now c.in-Some.place c.in-Some.ensures.some.patch c.requires c.in-Some.ensures.some.enabled, c.in_err-start_walk-in-Some.ensures.err)

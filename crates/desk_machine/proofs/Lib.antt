@@ -1,0 +1,10 @@
+mod SettledDesk
+mod TicketsMatch
+pub mod StepCounts
+mod ActsMove
+mod Exported
+mod FreeSlots
+mod PairRuns
+pub mod OwnTiles
+mod Committing
+mod WholeWalks

@@ -1,0 +1,55 @@
+-- Whole jobs and walks that come to a desk in one hold.
+use Rattle.std.specs.Prelude.{◌≡◌, ℕ, true, false, Option, Some, List, [], ◌∷◌, ◌++◌, map, take, slice_get}
+use Rattle.std.specs.List.{list_any}
+use Rattle.geom_core.specs.Grid.{Key, same_key, keys_of, all_keys_of}
+use Rattle.doc_model.specs.Jobs.{writes}
+use Rattle.whole_tiles.specs.Wholes.{Entire}
+use Rattle.machine_model.specs.State.{State, Child, Painter, Walker, Slot, Paints, Walks}
+use Rattle.machine_model.specs.Event.{Event, WalkPublish, WalkEnd}
+use Rattle.machine_model.specs.Step.{Run}
+use Rattle.walker_core.specs.Readings.{readings}
+use Rattle.walker_core.specs.Composing.{Composition}
+use Rattle.desk_work.specs.Lacking.{IsOfJob, AreLacking}
+use Rattle.desk_work.specs.LaidTiles.{lacking, pairs_on}
+use Rattle.desk_work.specs.OfWalk.{IsOfWalk}
+
+-- the job with that serial is at work in the slot, and the tiles are just those that it lacks, made of it and from the pixels that it was started with
+pub record MayCommit (s : State) (place serial : ℕ) (tiles : List Entire) : Type 0 where
+  pub painter : Painter
+  pub runs : slice_get s.slots place ≡ Some (Paints painter)
+  pub drawn : painter.serial ≡ serial
+  pub lacking : AreLacking painter.job painter.shot painter.published tiles
+
+-- a job is at work in the slot, and lacks this tile, which was made of it and from the pixels that it was started with
+pub record TakesWhole (s : State) (place : ℕ) (x : Entire) : Type 0 where
+  pub painter : Painter
+  pub runs : slice_get s.slots place ≡ Some (Paints painter)
+  pub of : IsOfJob painter.job painter.shot x
+  pub in_job : list_any (same_key x.key) (all_keys_of (writes painter.job)) ≡ true
+  pub fresh : list_any (same_key x.key) painter.published ≡ false
+
+-- some of the events happened: those from the front on
+pub record RunsFront (old : State) (events : List Event) (new : State) : Type 0 where
+  pub count : ℕ
+  pub run : Run old (take count events) new
+
+-- the walk with that serial is at work in the slot, and all its groups were composed on all tiles of its patch, of the same as the walk reads there
+pub record MayCommitWalk (s : State) (place serial : ℕ) (c : Composition) : Type 0 where
+  pub walker : Walker
+  pub runs : slice_get s.slots place ≡ Some (Walks walker)
+  pub drawn : walker.serial ≡ serial
+  pub of : IsOfWalk (readings walker.patch walker.shot) c
+
+-- the pairs of a group and a tile that the walk in a slot hasn't published, tile by tile in the order of its path
+abbrev pub lacking_in : Option Slot → List (ℕ × Key)
+lacking_in (Some (Walks w)) = lacking w.published (pairs_on (map (λ (e : ℕ × List Child). e.0) w.shot) (keys_of w.patch.rect))
+lacking_in slot = []
+
+-- the walk in the slot publishes these pairs, one after another
+abbrev pub pair_events : ℕ → List (ℕ × Key) → List Event
+pair_events place [] = []
+pair_events place (p ∷ ps) = WalkPublish place p.0 p.1 ∷ pair_events place ps
+
+-- it publishes all pairs that it lacks, and ends
+abbrev pub commit_walk_events : State → ℕ → List Event
+commit_walk_events s place = pair_events place (lacking_in (slice_get s.slots place)) ++ WalkEnd place ∷ []

@@ -1,0 +1,4 @@
+pub mod Tickets
+pub mod OwnWork
+pub mod Commits
+pub mod Asks

@@ -1,0 +1,25 @@
+-- What a ticket tells of the work that was just put into a slot.
+use Rattle.std.specs.Prelude.{◌≡◌, ℕ, suc, true, Some, [], slice_get}
+use Rattle.doc_model.specs.Jobs.{reads, checks}
+use Rattle.doc_model.specs.Lawful.{within_limits}
+use Rattle.doc_model.specs.Strokes.{Stroke}
+use Rattle.job_core.specs.Paints.{layer_of}
+use Rattle.machine_model.specs.State.{State, Paints, Walks, head_stroke}
+use Rattle.desk_machine.specs.declared.tickets.PaintTicket.{PaintTicket}
+use Rattle.desk_machine.specs.declared.tickets.WalkTicket.{WalkTicket}
+
+-- the job is at work in the ticket's slot, with the ticket's serial and shot, and is the one with that number of the stroke at the head; it may be painted on each tile that it writes
+pub record IsPaintTicket (t : PaintTicket) (s : State) : Type 0 where
+  pub stroke : Stroke
+  pub at_head : head_stroke s ≡ Some stroke
+  pub no : t.stroke ≡ stroke.no
+  pub index : ℕ
+  pub number : t.job ≡ suc index
+  pub runs : slice_get s.slots t.slot.place ≡ Some (Paints (record { serial = t.slot.serial; index = index; job = t.work; shot = layer_of t.shot; published = [] }))
+  pub checked : checks t.work ≡ true
+  pub limits : within_limits t.work ≡ true
+  pub reads : t.shot.rects ≡ reads t.work
+
+-- the walk is at work in the ticket's slot, with the ticket's serial, and reads what the ticket has
+pub record IsWalkTicket (t : WalkTicket) (s : State) : Type 0 where
+  pub runs : slice_get s.slots t.slot.place ≡ Some (Walks (record { serial = t.slot.serial; patch = t.inputs.patch; shot = t.inputs.groups; published = [] }))

@@ -1,0 +1,58 @@
+//! The ends of jobs and walks.
+
+ghost use Rattle.std.specs.Prelude.{◌≡◌, Some, true, false, slice_get};
+ghost use Rattle.machine_model.specs.State.{Painter, Walker, Paints, Walks};
+ghost use Rattle.machine_model.specs.Event.{End, WalkEnd};
+ghost use Rattle.machine_model.specs.Step.{Step};
+ghost use Rattle.desk_parts.specs.Enabled.{Enabled};
+
+use crate::machine::Machine;
+use crate::tickets::SlotId;
+use desk_parts::Work;
+use desk_work::{is_composed, is_painted, widen_all};
+
+impl Machine {
+    /// Whether the job with that serial is at work in the slot, and all its tiles are published.
+    pub fn is_complete(&self, slot: SlotId) -> bool
+        ensures some { result ≡ true → Enabled self.now (End slot.place) }
+        ensures none { result ≡ false → (w : Painter) → slice_get self.now.slots slot.place ≡ Some (Paints w) → w.serial ≡ slot.serial → Enabled self.now (End slot.place) → ⊥ }
+    {
+        match self.slots.work(slot.place) {
+            Some(Work::Paint(painter)) => painter.serial == slot.serial && is_painted(painter),
+            Some(Work::Walk(_)) => false,
+            None => false,
+        }
+    }
+
+    /// Ends the job in a slot whose tiles are all published. No memory.
+    pub fn end_job(&mut self, place: u8)
+        requires { Enabled self.old (End place) }
+        ensures { Step self.old (End place) self.new }
+    {
+        let group = self.group_of(self.head_layer());
+        let Some(Work::Paint(painter)) = self.slots.clear(place) else {
+            unreachable!()
+        };
+        widen_all(&mut self.updates, group, &painter.job);
+    }
+
+    /// Whether the walk with that serial is at work in the slot, and all its tiles are published.
+    pub fn is_walked(&self, slot: SlotId) -> bool
+        ensures some { result ≡ true → Enabled self.now (WalkEnd slot.place) }
+        ensures none { result ≡ false → (w : Walker) → slice_get self.now.slots slot.place ≡ Some (Walks w) → w.serial ≡ slot.serial → Enabled self.now (WalkEnd slot.place) → ⊥ }
+    {
+        match self.slots.work(slot.place) {
+            Some(Work::Walk(walker)) => walker.serial == slot.serial && is_composed(walker),
+            Some(Work::Paint(_)) => false,
+            None => false,
+        }
+    }
+
+    /// Ends the walk in a slot whose tiles are all published. No memory.
+    pub fn end_walk(&mut self, place: u8)
+        requires { Enabled self.old (WalkEnd place) }
+        ensures { Step self.old (WalkEnd place) self.new }
+    {
+        let _walk = self.slots.clear(place);
+    }
+}

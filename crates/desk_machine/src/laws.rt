@@ -1,0 +1,13 @@
+//! What holds of every machine, whatever events happened and in whatever order.
+
+ghost use Rattle.machine_model.specs.MeaningLaws.{HasMeaning};
+ghost use Rattle.machine_model.specs.State.{IsSettled};
+
+use crate::machine::Machine;
+
+/// A machine that is settled has what the commands that were fed mean one after another.
+pub fn settled_has_meaning(machine: &Machine)
+    ensures { IsSettled machine.now → HasMeaning machine.now }
+{
+    let _ = &machine.alloc;
+}

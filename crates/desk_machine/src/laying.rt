@@ -1,0 +1,97 @@
+//! What was painted or composed outside is laid.
+
+ghost use Rattle.std.specs.Prelude.{◌≡◌, true, false, OnOk, OnErr};
+ghost use Rattle.machine_model.specs.Event.{Publish, WalkPublish};
+ghost use Rattle.machine_model.specs.Step.{Step};
+ghost use Rattle.desk_parts.specs.Enabled.{Takes, TakesWalk};
+
+use crate::machine::Machine;
+use crate::tickets::SlotId;
+use desk_parts::Work;
+use desk_work::{is_tile_of, lay, lay_composed, takes_composed, takes_painted};
+use geom_core::{NoMemory, TileKey};
+use job_core::Painted;
+use walker_core::Composed;
+
+impl Machine {
+    /// Whether the job with that serial is at work in the slot, and what was painted is of it.
+    pub fn takes(&self, slot: SlotId, painted: &Painted<'_>) -> bool
+        ensures some { result ≡ true → Takes self.now slot.place slot.serial painted.now }
+        ensures none { result ≡ false → Takes self.now slot.place slot.serial painted.now → ⊥ }
+    {
+        match self.slots.work(slot.place) {
+            Some(Work::Paint(painter)) => {
+                painter.serial == slot.serial && takes_painted(painter, painted)
+            }
+            Some(Work::Walk(_)) => false,
+            None => false,
+        }
+    }
+
+    /// Lays what was painted of the job in a slot.
+    pub fn lay(&mut self, slot: SlotId, painted: &Painted<'_>) -> Result<(), NoMemory>
+        requires { Takes self.old slot.place slot.serial painted.now }
+        ensures ok { OnOk result (Step self.old (Publish slot.place painted.now.key) self.new) }
+        ensures err { OnErr result (self.new ≡ self.old) }
+    {
+        match self.slots.clear(slot.place) {
+            Some(Work::Paint(mut painter)) => {
+                let laid = lay(self.alloc, &mut self.store, &mut painter.published, painted);
+                self.slots.put(slot.place, Work::Paint(painter), None);
+                laid
+            }
+            Some(Work::Walk(_)) => unreachable!(),
+            None => unreachable!(),
+        }
+    }
+
+    /// Whether the walk with that serial is at work in the slot, and what was composed is a pair of it,
+    /// still to be published, of the same as the walk reads.
+    pub fn takes_walk(&self, slot: SlotId, composed: &Composed<'_>, group: u16, key: TileKey) -> bool
+        ensures some { result ≡ true → TakesWalk self.now slot.place slot.serial composed.now group key }
+        ensures none { result ≡ false → TakesWalk self.now slot.place slot.serial composed.now group key → ⊥ }
+    {
+        match self.slots.work(slot.place) {
+            Some(Work::Walk(walker)) => {
+                // The patch has points, as its sides tell.
+                let rect = walker.inputs.patch().rect;
+                let _columns = rect.w();
+                let _rows = rect.h();
+                walker.serial == slot.serial && takes_composed(walker, composed, group, key)
+            }
+            Some(Work::Paint(_)) => false,
+            None => false,
+        }
+    }
+
+    /// Lays it.
+    pub fn lay_walk(
+        &mut self,
+        slot: SlotId,
+        composed: &Composed<'_>,
+        group: u16,
+        key: TileKey,
+    ) -> Result<(), NoMemory>
+        requires { TakesWalk self.old slot.place slot.serial composed.now group key }
+        ensures ok { OnOk result (Step self.old (WalkPublish slot.place group key) self.new) }
+        ensures err { OnErr result (self.new ≡ self.old) }
+    {
+        match self.slots.clear(slot.place) {
+            Some(Work::Walk(mut walker)) => {
+                let rect = walker.inputs.patch().rect;
+                let _there = is_tile_of(&rect, key);
+                let laid = lay_composed(
+                    &mut self.caches,
+                    &mut walker.published,
+                    composed,
+                    group,
+                    key,
+                );
+                self.slots.put(slot.place, Work::Walk(walker), Some(rect));
+                laid
+            }
+            Some(Work::Paint(_)) => unreachable!(),
+            None => unreachable!(),
+        }
+    }
+}

@@ -1,0 +1,23 @@
+//! What stands behind a desk: the machine's events and decisions over what the desk keeps. Each call that
+//! changes it is one event.
+#![tactic(auto)]
+
+mod acts;
+mod choices;
+mod ends;
+mod job_starts;
+mod laws;
+mod laying;
+mod machine;
+mod own_work;
+mod readers;
+mod stroke_events;
+mod tickets;
+mod walks;
+mod whole_jobs;
+mod whole_walks;
+
+pub use laws::settled_has_meaning;
+pub use machine::Machine;
+pub use own_work::Lack;
+pub use tickets::{PaintTicket, SlotId, WalkTicket};

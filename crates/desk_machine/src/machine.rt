@@ -1,0 +1,107 @@
+//! What a desk keeps, seen as a state of the machine.
+
+ghost use Rattle.std.specs.Prelude.{◌≡◌, ◌≤◌, ◌<◌, ◌-◌, ◌^◌, true, OnOk, OnErr, IfOk, length};
+ghost use Rattle.doc_model.specs.Canvases.{IsOfLimits};
+ghost use Rattle.doc_model.specs.Lawful.{may_follow};
+ghost use Rattle.doc_model.specs.Strokes.{entries};
+ghost use Rattle.machine_model.specs.State.{new_state};
+ghost use Rattle.machine_model.specs.Event.{Feed};
+ghost use Rattle.machine_model.specs.Step.{Step};
+
+use command_log::CommandLog;
+use desk_parts::Work;
+use desk_steps::Store;
+use doc_model::{Canvas, Command};
+use entry_queue::Queue;
+use geom_core::NoMemory;
+use group_caches::Caches;
+use slot_core::Slots;
+use std::alloc::Global;
+use std::marker::Model;
+use tile_core::Frame;
+use update_queue::Updates;
+
+/// What a desk keeps: the commands that were fed, the entries that wait, the document
+/// with its history, what its groups show, and what is at work.
+#[derive(Drop)]
+pub struct Machine {
+    pub(crate) alloc: Global,
+    pub(crate) canvas: Canvas,
+    pub(crate) fed: CommandLog,
+    pub(crate) queue: Queue,
+    pub(crate) store: Store,
+    pub(crate) caches: Caches,
+    pub(crate) updates: Updates,
+    pub(crate) slots: Slots<Work>,
+    pub(crate) frames: Vec<Frame>,
+    /// How many jobs of the stroke under way were started.
+    pub(crate) way: Option<u32>,
+    /// The next serial.
+    pub(crate) next: u64,
+}
+
+impl Model for Machine {
+    ghost use Rattle.machine_model.specs.State.{State};
+    ghost use Rattle.machine_model.specs.Codes.{state_code};
+
+    ghost Value = { State };
+
+    ghost coded = { state_code };
+
+    ghost use Rattle.desk_parts.specs.Parts.{parts, state_of};
+    ghost use Rattle.desk_parts.specs.Tied.{IsDesk};
+
+    ghost view = { λ d. state_of (parts d.canvas d.fed.items d.queue d.store d.caches d.updates d.slots d.frames.items d.way d.next) };
+
+    ghost invariant = { λ d. IsDesk (parts d.canvas d.fed.items d.queue d.store d.caches d.updates d.slots d.frames.items d.way d.next) };
+}
+
+impl Machine {
+    /// A desk on which nothing was fed, with that many slots.
+    pub fn new(alloc: Global, canvas: Canvas, slots: u8) -> Result<Machine, NoMemory>
+        requires canvas { IsOfLimits canvas }
+        requires some { 1 ≤ slots }
+        requires few { slots ≤ 17 }
+        ensures { IfOk result (λ d. d ≡ new_state canvas slots) }
+    {
+        let store = Store::new(alloc)?;
+        let caches = Caches::new(alloc)?;
+        let free = Slots::new(alloc, slots)?;
+        Ok(Machine {
+            alloc,
+            canvas,
+            fed: CommandLog::new(alloc),
+            queue: Queue::new(alloc),
+            store,
+            caches,
+            updates: Updates::new(canvas.rect()),
+            slots: free,
+            frames: Vec::new(alloc),
+            way: None,
+            next: 0,
+        })
+    }
+
+    /// Feeds a command that may follow those that were fed.
+    ///
+    /// # Errors
+    /// `NoMemory`; all is as it was.
+    pub fn feed(&mut self, command: &Command) -> Result<(), NoMemory>
+        requires lawful { may_follow (entries self.old.fed) command.now ≡ true }
+        requires few { length self.old.fed < 2 ^ 32 - 1 }
+        ensures ok { OnOk result (Step self.old (Feed command.now) self.new) }
+        ensures err { OnErr result (self.new ≡ self.old) }
+    {
+        self.fed.make_room()?;
+        self.queue.push(command)?;
+        self.fed.push(*command);
+        Ok(())
+    }
+
+    /// Whether the command may follow those that were fed, which `feed` asks of it. One look-up, no memory.
+    pub fn lawful(&self, command: &Command) -> bool
+        ensures { result ≡ may_follow (entries self.now.fed) command.now }
+    {
+        self.fed.may_follow(command)
+    }
+}

@@ -1,0 +1,99 @@
+//! The work in a slot is done here, as a thread would do it that took its ticket.
+
+ghost use Rattle.std.specs.Prelude.{◌≡◌, true, false, slice_get, IsSomeAnd, OnOk, OnErr, IfSome, IfNone};
+ghost use Rattle.std.specs.List.{list_all};
+ghost use Rattle.machine_model.specs.State.{is_free};
+ghost use Rattle.machine_model.specs.Event.{Publish};
+ghost use Rattle.machine_model.specs.Step.{Step};
+ghost use Rattle.machine_model.specs.Sound.{IsOrderly};
+ghost use Rattle.desk_parts.specs.Enabled.{Enabled};
+ghost use Rattle.desk_parts.specs.Settles.{Settles, GoesOn};
+ghost use Rattle.desk_machine.specs.OwnWork.{IsLack, WalkLacks};
+
+use crate::machine::Machine;
+use desk_parts::Work;
+use desk_work::{compose_own, next_pair, next_tile, paint_own};
+use geom_core::{NoMemory, TileKey};
+
+/// What the work in a slot lacks.
+#[derive(Clone, Copy)]
+pub enum Lack {
+    /// A tile of a job isn't published.
+    Tile(TileKey),
+    /// A tile of a walk isn't published of all its groups.
+    Groups(TileKey),
+    /// All tiles of a job are published.
+    JobEnd,
+    /// All pairs of a walk are published.
+    WalkEnd,
+}
+
+impl Machine {
+    /// The first place at which something is at work. None exactly where all are free.
+    pub fn busy_place(&self) -> Option<u8>
+        ensures some { IfSome result (λ place. IsSomeAnd (slice_get self.now.slots place) (λ slot. is_free slot ≡ false)) }
+        ensures none { IfNone result (list_all is_free self.now.slots ≡ true) }
+        ensures known { IsOrderly self.now }
+    {
+        for place in 0..self.slots.count() {
+            if self.slots.work(place).is_some() {
+                return Some(place);
+            }
+        }
+        None
+    }
+
+    /// What the work in a slot lacks.
+    pub fn lack_at(&self, place: u8) -> Lack
+        requires { IsSomeAnd (slice_get self.now.slots place) (λ slot. is_free slot ≡ false) }
+        ensures { IsLack self.now place result }
+    {
+        match self.slots.work(place) {
+            Some(Work::Paint(painter)) => match next_tile(painter) {
+                Some(key) => Lack::Tile(key),
+                None => Lack::JobEnd,
+            },
+            Some(Work::Walk(walker)) => match next_pair(walker) {
+                Some((_group, key)) => Lack::Groups(key),
+                None => Lack::WalkEnd,
+            },
+            None => unreachable!(),
+        }
+    }
+
+    /// Paints a tile of the job in a slot from what the job was started with, and publishes it.
+    pub fn paint_at(&mut self, place: u8, key: TileKey) -> Result<(), NoMemory>
+        requires { Enabled self.old (Publish place key) }
+        ensures ok { OnOk result (Step self.old (Publish place key) self.new) }
+        ensures err { OnErr result (self.new ≡ self.old) }
+    {
+        match self.slots.clear(place) {
+            Some(Work::Paint(mut painter)) => {
+                let laid = paint_own(self.alloc, &mut self.store, &mut painter, key);
+                self.slots.put(place, Work::Paint(painter), None);
+                laid
+            }
+            Some(Work::Walk(_)) => unreachable!(),
+            None => unreachable!(),
+        }
+    }
+
+    /// Composes a tile of the walk in a slot from what the walk reads, and publishes it of each group of
+    /// which it isn't published.
+    pub fn compose_at(&mut self, place: u8, key: TileKey) -> Result<(), NoMemory>
+        requires { WalkLacks self.old place key }
+        ensures ok { OnOk result (GoesOn self.old self.new) }
+        ensures err { OnErr result (Settles self.old self.new) }
+    {
+        match self.slots.clear(place) {
+            Some(Work::Walk(mut walker)) => {
+                let rect = walker.inputs.patch().rect;
+                let laid = compose_own(self.alloc, &mut self.caches, &mut walker, key);
+                self.slots.put(place, Work::Walk(walker), Some(rect));
+                laid
+            }
+            Some(Work::Paint(_)) => unreachable!(),
+            None => unreachable!(),
+        }
+    }
+}
