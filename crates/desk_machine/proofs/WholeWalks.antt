@@ -69,7 +69,6 @@ all_laid r (p ∷ ps) l = go (list_any (same_pair p.0 p.1) l.published) refl (al
 
 -- ---- the events
 
-
 front_events : (place : ℕ) (front rest : List (ℕ × Key)) (es : List Event) → take (length front) (pair_events place (front ++ rest) ++ es) ≡ pair_events place front
 front_events place [] rest es = refl
 front_events place (p ∷ front) rest es = ap (λ fs. WalkPublish place p.0 p.1 ∷ fs) (front_events place front rest es)

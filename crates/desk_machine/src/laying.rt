@@ -47,7 +47,13 @@ impl Machine {
 
     /// Whether the walk with that serial is at work in the slot, and what was composed is a pair of it,
     /// still to be published, of the same as the walk reads.
-    pub fn takes_walk(&self, slot: SlotId, composed: &Composed<'_>, group: u16, key: TileKey) -> bool
+    pub fn takes_walk(
+        &self,
+        slot: SlotId,
+        composed: &Composed<'_>,
+        group: u16,
+        key: TileKey,
+    ) -> bool
         ensures some { result ≡ true → TakesWalk self.now slot.place slot.serial composed.now group key }
         ensures none { result ≡ false → TakesWalk self.now slot.place slot.serial composed.now group key → ⊥ }
     {

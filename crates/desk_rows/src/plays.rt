@@ -196,9 +196,11 @@ fn is_stray(
     }
     let published = held[by].publish(alloc, desk, slot, 0, ORIGIN)?;
     let committed = held[by].commit(alloc, desk, slot)?;
-    Ok(published == Published::Nothing
-        && committed == Published::Nothing
-        && desk.end(slot) == Ended::Nothing)
+    Ok(
+        published == Published::Nothing
+            && committed == Published::Nothing
+            && desk.end(slot) == Ended::Nothing,
+    )
 }
 
 /// Whether the end of a ticket's work has that answer.
