@@ -32,5 +32,5 @@ shown_cache d shown shows =
     (λ p inside. ap (λ c. on_paper c d.canvas.paper) (shows.shows p inside))
 
 pub export_shows : (d : Parts) (shown : Scene) (q : Pending) → IsDesk d → Enabled (state_of d) Act → head (state_of d) ≡ Some Exports → IsPopped d.queue q outcome.Done → ShowsCache d.caches d.canvas shown → Does d Act (record d { queue = q; frames = d.frames ++ shown ∷ [] })
-export_shows d shown q desk can at pop shows = export_does d shown q desk can at pop
+export_shows d shown q desk can at pop shows = export_does d shown q desk can at pop (record { width = shows.width; height = shows.height })
     (shown_cache d shown shows ∙ (export_is_frame (state_of d) can.0 desk.sound at can.1).is_frame ∙ ap (λ doc. frame doc d.canvas) (present_at_rest d desk (act_at_rest d command.Export Exports desk can at refl)))

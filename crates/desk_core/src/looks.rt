@@ -1,6 +1,6 @@
 //! What a desk shows.
 
-ghost use Rattle.std.specs.Prelude.{◌≡◌, ◌<◌, pos, true, false, map, IfSome, IfNone};
+ghost use Rattle.std.specs.Prelude.{All, ◌≡◌, ◌<◌, pos, true, false, map, IfSome, IfNone};
 ghost use Rattle.pixel_core.specs.Rgba.{clear};
 ghost use Rattle.geom_core.specs.Areas.{Point, point};
 ghost use Rattle.tile_core.specs.Pixels.{pixel_at};
@@ -8,6 +8,7 @@ ghost use Rattle.doc_model.specs.Layers.{at};
 ghost use Rattle.doc_model.specs.Shots.{in_tile};
 ghost use Rattle.doc_model.specs.Picture.{picture};
 ghost use Rattle.ppm_out.specs.Scenes.{colours_of};
+ghost use Rattle.ppm_out.specs.Sides.{HasSides};
 ghost use Rattle.machine_model.specs.Groups.{cache, covered};
 ghost use Rattle.desk_core.specs.declared.answers.Fresh.TheVariants as fresh;
 
@@ -62,6 +63,15 @@ impl Desk {
         ensures { map colours_of result.now ≡ self.now.frames }
     {
         &self.frames
+    }
+
+    /// The frames on their own.
+    pub fn into_frames(self) -> Vec<Frame>
+        ensures frames { map colours_of result.items ≡ self.frames }
+        ensures sides { All (HasSides self.canvas) result.items }
+    {
+        let Desk { frames, .. } = self;
+        frames
     }
 
     /// The outcomes so far, in order.

@@ -1,6 +1,6 @@
 -- An entry that is no stroke: what the desk does is the event of the machine.
 use Rattle.std.proofs.Common.{◌≡◌, ℕ, true, Option, Some, None, Err, List, [], ◌∷◌, ◌++◌, map, take, refl, sym, ap, ◌∙◌, subst}
-use Rattle.std.specs.Prelude.{slice_get}
+use Rattle.std.specs.Prelude.{All, slice_get}
 use Rattle.std.specs.Ordering.{nat_cmp}
 use Rattle.std.specs.FinSet as set
 use Rattle.std.specs.FinMap.{FinMap}
@@ -20,6 +20,7 @@ use Rattle.doc_model.specs.Strokes.{Stroke, Fate, Open, Ended, Cancelled, Stroke
 use Rattle.doc_model.specs.Updates.{queued, refreshed}
 use Rattle.tile_core.specs.Frames.{Scene}
 use Rattle.ppm_out.specs.Scenes.{colours_of}
+use Rattle.ppm_out.specs.Sides.{HasSides}
 use Rattle.entry_queue.specs.declared.entry.Entry.{Entry}
 use Rattle.entry_queue.specs.declared.entry.Entry.TheVariants as item
 use Rattle.entry_queue.specs.Pushed as pushed
@@ -115,14 +116,15 @@ act_step d new c e desk may is = record {
     same = some_entry _ _ (sym (is_entry x.entry c x.is) ∙ may.entry)
 
 pub act_keeps : (d : Parts) (c : Command) (e : doc.Entry) (o : Outcome) (store : Archive) (caches : FinMap nat_cmp Layer) (updates : Waiting) (frames : List Scene) → IsDesk d → MayAct d c e
-    → store.way ≡ None → updates.canvas ≡ d.updates.canvas → state_of (after_act d o store caches updates frames) ≡ after_entry (state_of d) e → IsDesk (after_act d o store caches updates frames)
-act_keeps d c e o store caches updates frames desk may way area is = record {
+    → store.way ≡ None → updates.canvas ≡ d.updates.canvas → All (HasSides d.canvas) frames → state_of (after_act d o store caches updates frames) ≡ after_entry (state_of d) e → IsDesk (after_act d o store caches updates frames)
+act_keeps d c e o store caches updates frames desk may way area sides is = record {
   sound = step_keeps_sound (state_of d) (state_of new) Act desk.sound (act_step d new c e desk may is);
   queue = stands_popped d.fed d.queue o (may_go d.queue.left may.first) desk.queue;
   way = subst (IsWay (state_of new) store) (sym (at_rest d c e desk may)) way;
   slots = desk.slots;
   area = area ∙ desk.area;
   few = desk.few;
+  sides = sides;
 }
   where
     new : Parts

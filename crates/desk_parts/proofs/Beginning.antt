@@ -71,6 +71,7 @@ init_keeps d fate f desk may = record {
   slots = desk.slots;
   area = desk.area;
   few = desk.few;
+  sides = desk.sides;
 }
 
 -- the next job of the stroke at the head may start in a slot
@@ -135,6 +136,7 @@ start_keeps d fate f place n job shot desk may = record {
   slots = all_set IsKept d.slots place _ desk.slots (refl, may.rects, may.checked, may.limits);
   area = desk.area;
   few = desk.few;
+  sides = desk.sides;
 }
   where
     new : Parts

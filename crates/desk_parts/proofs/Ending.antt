@@ -61,6 +61,7 @@ end_keeps d place w g desk may = record {
   slots = all_set IsKept d.slots place None desk.slots tt;
   area = desk.area;
   few = desk.few;
+  sides = desk.sides;
 }
   where
     new : Parts

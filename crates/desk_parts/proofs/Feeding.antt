@@ -72,4 +72,5 @@ feed_keeps d c desk may few = record {
   slots = desk.slots;
   area = desk.area;
   few = let e : length (d.fed ++ c ∷ []) ≡ suc (length d.fed) = length_last d.fed c in omega arith;
+  sides = desk.sides;
 }

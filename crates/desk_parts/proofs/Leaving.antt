@@ -139,6 +139,7 @@ finish_keeps d c desk may = record {
   slots = desk.slots;
   area = desk.area;
   few = desk.few;
+  sides = desk.sides;
 }
 
 -- the stroke at the head may finish without effect: it was ended without a conflict, and names no paint layer
@@ -196,6 +197,7 @@ refuse_keeps d c desk may = record {
   slots = desk.slots;
   area = desk.area;
   few = desk.few;
+  sides = desk.sides;
 }
   where
     o : Outcome
@@ -308,6 +310,7 @@ cancel_keeps d c o g round desk may = record {
   slots = desk.slots;
   area = same round ∙ desk.area;
   few = desk.few;
+  sides = desk.sides;
 }
   where
     same : (r : Option Area) → (widened_by d.updates g r).canvas ≡ d.updates.canvas

@@ -3,6 +3,7 @@ use Rattle.std.proofs.Common.{◌≡◌, ℕ, suc, zero, ◌≤◌, None, [], �
 use Rattle.std.specs.Prelude.{replicate}
 use Rattle.std.specs.List.{AllByRecursion}
 use Rattle.std.specs.FinMap as fin
+use Rattle.std.proofs.lemmas.List.Elements.{All-nil}
 use Rattle.pixel_core.specs.Rgba.{clear}
 use Rattle.doc_model.specs.declared.canvas.Canvas.{Canvas}
 use Rattle.doc_model.specs.Canvases.{IsOfLimits}
@@ -11,6 +12,7 @@ use Rattle.doc_model.specs.Picture.{canvas_area}
 use Rattle.entry_queue.specs.Pushed.{StandsFor}
 use Rattle.desk_steps.specs.Archives.{empty_archive}
 use Rattle.machine_model.specs.State.{Free, new_state}
+use Rattle.ppm_out.specs.Sides.{HasSides}
 use Rattle.machine_model.proofs.RunsSound.{new_sound}
 use Rattle.update_queue.specs.Waiting.{waiting}
 use Rattle.desk_parts.specs.Parts.{Parts, state_of, slot_of}
@@ -50,4 +52,5 @@ new_desk canvas n limits some few stands = record {
   slots = all_kept n;
   area = refl;
   few = omega arith;
+  sides = All-nil (HasSides canvas);
 }

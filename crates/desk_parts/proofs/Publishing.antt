@@ -84,6 +84,7 @@ publish_keeps d place w p desk may = record {
   slots = all_set IsKept d.slots place _ desk.slots kept_is;
   area = desk.area;
   few = desk.few;
+  sides = desk.sides;
 }
   where
     g : IsGoing d

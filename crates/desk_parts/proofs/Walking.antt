@@ -77,6 +77,7 @@ walk_start_keeps d place i w desk may = record {
   slots = all_set IsKept d.slots place _ desk.slots refl;
   area = desk.area;
   few = desk.few;
+  sides = desk.sides;
 }
 
 -- a tile of a group may be published by the walk in a slot, which is as new afterwards, and leaves these caches
@@ -106,6 +107,7 @@ walk_publish_keeps d place g key w new caches desk may = record {
   slots = all_set IsKept d.slots place _ desk.slots refl;
   area = desk.area;
   few = desk.few;
+  sides = desk.sides;
 }
 
 -- the walk in a slot may end: it has published all its tiles
@@ -129,4 +131,5 @@ walk_end_keeps d place w desk may = record {
   slots = all_set IsKept d.slots place None desk.slots tt;
   area = desk.area;
   few = desk.few;
+  sides = desk.sides;
 }

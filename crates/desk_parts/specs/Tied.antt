@@ -1,5 +1,5 @@
 -- How the parts of a desk stand to each other.
-use Rattle.std.specs.Prelude.{◌≡◌, ◌≤◌, ◌^◌, ◌-◌, ℕ, true, Option, Some, None, length}
+use Rattle.std.specs.Prelude.{All, ◌≡◌, ◌≤◌, ◌^◌, ◌-◌, ℕ, true, Option, Some, None, length}
 use Rattle.std.specs.List.{AllByRecursion}
 use Rattle.std.specs.FinSet as set
 use Rattle.std.specs.FinSet.{FinSet}
@@ -14,6 +14,7 @@ use Rattle.desk_steps.specs.Archives.{Archive}
 use Rattle.machine_model.specs.State.{State, head_stroke}
 use Rattle.machine_model.specs.Guards.{kept_jobs}
 use Rattle.machine_model.specs.Sound.{IsSound}
+use Rattle.ppm_out.specs.Sides.{HasSides}
 use Rattle.slot_core.specs.declared.Busy.{Busy}
 use Rattle.desk_parts.specs.declared.work.Work.{Work}
 use Rattle.desk_parts.specs.declared.work.Work.TheVariants.{Paint, Walk}
@@ -43,7 +44,7 @@ IsKept (Some b) = Keeps b.walker b.work
     Keeps walker (Paint w) = (walker ≡ None) × (w.shot.rects ≡ reads w.job) × (checks w.job ≡ true) × (within_limits w.job ≡ true)
     Keeps walker (Walk w) = walker ≡ Some w.inputs.patch.rect
 
--- the parts make a sound state, and stand for the same commands and the same stroke under way
+-- the parts make a sound state, and stand for the same commands and the same stroke under way, and all frames have the canvas's sides
 pub record IsDesk (d : Parts) : Type 0 where
   pub sound : IsSound (state_of d)
   pub queue : StandsFor d.fed d.queue
@@ -51,3 +52,4 @@ pub record IsDesk (d : Parts) : Type 0 where
   pub slots : AllByRecursion IsKept d.slots
   pub area : d.updates.canvas ≡ canvas_area d.canvas
   pub few : length d.fed ≤ 2 ^ 32 - 1
+  pub sides : All (HasSides d.canvas) d.frames

@@ -57,7 +57,8 @@ use Rattle.solo_run.specs.Unseen.{is_unseen}
 use Rattle.solo_run.specs.declared.solo.Solo.{Solo}
 use Rattle.solo_run.specs.Painting.{Paints, PaintsOn, jobs_only}
 use Rattle.script_text.specs.Script.{Contents}
-use Rattle.solo_run.specs.Shows.{HasSides, Shows}
+use Rattle.ppm_out.specs.Sides.{HasSides}
+use Rattle.solo_run.specs.Shows.{Shows}
 use Rattle.solo_run.specs.Stale.{DamagesRects, DamagesChanges, IsAll}
 use Rattle.solo_run.specs.Told.{Ends, GoesOn, HasCome, IsReady, Rests, docs, done_or, fits, story_of}
 

@@ -1,15 +1,10 @@
 -- What a painted script gives.
 use Rattle.std.specs.Prelude.{◌≡◌, List, map, All}
 use Rattle.doc_model.specs.declared.command.Outcome.{Outcome}
-use Rattle.doc_model.specs.declared.canvas.Canvas.{Canvas}
 use Rattle.tile_core.specs.Frames.{Scene}
 use Rattle.script_text.specs.Script.{Contents, meaning_of}
 use Rattle.ppm_out.specs.Scenes.{colours_of}
-
--- the frame has the canvas's sides
-pub record HasSides (canvas : Canvas) (f : Scene) : Type 0 where
-  pub width : f.width ≡ canvas.w
-  pub height : f.height ≡ canvas.h
+use Rattle.ppm_out.specs.Sides.{HasSides}
 
 -- the frames show what the script's exports mean, and the outcomes are those of its entries
 pub record Shows (script : Contents) (scenes : List Scene) (outcomes : List Outcome) : Type 0 where

@@ -21,7 +21,7 @@ use Rattle.entry_queue.specs.declared.entry.Entry.{Entry}
 use Rattle.entry_queue.specs.declared.entry.Entry.TheVariants.{Waiting, Whole, Other}
 use Rattle.entry_queue.specs.Pushed.{Pending, StandsFor, queued}
 use Rattle.solo_run.specs.declared.solo.Solo.{Solo}
-use Rattle.solo_run.specs.Shows.{HasSides}
+use Rattle.ppm_out.specs.Sides.{HasSides}
 
 -- the documents without the reaches between them
 abbrev pub docs : List (Doc × Reach) → List Doc
