@@ -141,15 +141,7 @@ impl Easel {
     fn compose<R: Wait>(&self, rt: &R, ticket: &WalkTicket) -> Result<(), EaselError> {
         let composed = compose_walk(self.alloc, &ticket.inputs)?;
         let mut board = self.board.lock(rt);
-        let rect = ticket.inputs.patch().rect;
-        for i in 0..rect.tile_count() {
-            for group in ticket.inputs.path() {
-                let _published = board
-                    .desk
-                    .publish_walk(ticket.slot, &composed, *group, rect.tile_at(i))?;
-            }
-        }
-        let _ended = board.desk.end(ticket.slot);
+        board.put_walk(ticket, &composed)?;
         board.is_back();
         drop(board);
         self.changed.notify_all();

@@ -40,7 +40,7 @@ pub struct Choice {
 }
 
 /// Why there is no choice.
-#[derive(Clone, Copy, Debug, PartialEq, Eq)]
+#[derive(Clone, Copy)]
 pub enum ChoiceError {
     /// The command doesn't take the words.
     Usage,
