@@ -38,8 +38,8 @@ fn draw_line<R: Wait>(
     colour: Pixel,
 ) -> Result<(), EaselError> {
     easel.feed(rt, pen_down(no, 1))?;
-    for i in 0..12 {
-        easel.feed(rt, touch(no, 30 + 24 * i, y, colour))?;
+    for i in 0..12u8 {
+        easel.feed(rt, touch(no, 30 + 24 * i32::from(i), y, colour))?;
     }
     Ok(())
 }
