@@ -54,9 +54,9 @@ key_cases ks i key k at h = or_cases (list_any (same_key k) (take i ks)) (same_k
 -- one tile more, which is the same
 pub same_marked : (s before : Scene) (ks : List Key) (i : ℕ) (key : Key) (g : Grid) → slice_get ks i ≡ Some key → finite.get s.tiles key ≡ finite.get before.tiles key → AreMarked s before (take i ks) g → AreMarked s before (take (i + 1) ks) g
 same_marked s before ks i key g at same so k h on m = elim (key_cases ks i key k at h) [
-    | inl old ↦ so k old on m
-    | inr is ↦ subst (λ (q : Key). finite.get s.tiles q ≡ finite.get before.tiles q) (sym (key_same k key is)) same
-  ]
+  | inl old ↦ so k old on m
+  | inr is ↦ subst (λ (q : Key). finite.get s.tiles q ≡ finite.get before.tiles q) (sym (key_same k key is)) same
+]
 
 unmarked : (a b n : Bool) → (a || (b && n)) ≡ false → n ≡ true → (a ≡ false) × (b ≡ false)
 unmarked a b n h e = grind arith
