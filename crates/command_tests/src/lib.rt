@@ -5,6 +5,8 @@
 #[cfg(test)]
 mod commands;
 #[cfg(test)]
+mod crews;
+#[cfg(test)]
 mod rows;
 #[cfg(test)]
 mod runs;

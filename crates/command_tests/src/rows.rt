@@ -1,6 +1,6 @@
 //! Scripts and the pixmaps that they give.
 
-use crate::runs::{ran, ran_over, repeated, sink_of, source_of};
+use crate::runs::{ran, ran_by, ran_over, repeated, sink_of, source_of};
 use io_edge::{MemSink, MemSource};
 use std::alloc::Global;
 use std::test::*;
@@ -37,7 +37,7 @@ fn pictures(rt: HostRuntime) -> Result<(), Fail> {
 fn words(rt: HostRuntime) -> Result<(), Fail> {
     let want = two_halves(rt.alloc())?;
     for words in ["", "--workers 0", "--workers 16", "--emit picture"] {
-        let got = ran(&rt, rt.alloc(), words, TWO_FILLS)?;
+        let got = ran_by(&rt, rt.alloc(), words, TWO_FILLS)?;
         assert!(rt; got.is(0, &want, b""), "{words}");
     }
     Ok(())

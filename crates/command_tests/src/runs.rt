@@ -2,12 +2,15 @@
 
 ghost use Rattle.std.specs.Prelude.{◌<◌};
 
-use io_edge::{MemSink, MemSource, NoGate};
+use io_edge::{Gate, MemSink, MemSource, NoGate};
 use std::alloc::Global;
 use std::sync::Wait;
 use std::test::Fail;
 use std::thread::Threads;
 use strokes_top::{Words, run};
+
+/// The words for the numbers of workers by which each script is painted.
+const CREWS: [&str; 3] = ["--workers 0", "--workers 1", "--workers 4"];
 
 /// What a run left: the code of its status, and what the sinks took.
 #[derive(Drop)]
@@ -39,15 +42,28 @@ pub fn ran_over<R: Threads + Wait + Sync>(
     rt: &R,
     alloc: Global,
     words: &str,
+    source: MemSource,
+    out: MemSink,
+    err: MemSink,
+) -> Result<Seen, Fail> {
+    ran_at(rt, alloc, words, source, out, err, &NoGate)
+}
+
+/// The same with a gate.
+pub fn ran_at<R: Threads + Wait + Sync, G: Gate>(
+    rt: &R,
+    alloc: Global,
+    words: &str,
     mut source: MemSource,
     mut out: MemSink,
     mut err: MemSink,
+    gate: &G,
 ) -> Result<Seen, Fail> {
     let mut list = Words::new(alloc);
     for word in words.split_ascii_whitespace() {
         list.add(word)?;
     }
-    let status = run(rt, alloc, &list, &mut source, &mut out, &mut err, &NoGate);
+    let status = run(rt, alloc, &list, &mut source, &mut out, &mut err, gate);
     Ok(Seen {
         code: status.code(),
         out: out.bytes().to_vec(alloc)?,
@@ -55,8 +71,8 @@ pub fn ran_over<R: Threads + Wait + Sync>(
     })
 }
 
-/// Runs the command on a script, where nothing fails.
-pub fn ran<R: Threads + Wait + Sync>(
+/// Runs the command on a script by just these words, where nothing fails.
+pub fn ran_by<R: Threads + Wait + Sync>(
     rt: &R,
     alloc: Global,
     words: &str,
@@ -66,6 +82,24 @@ pub fn ran<R: Threads + Wait + Sync>(
     let out = sink_of(alloc, 65536)?;
     let err = sink_of(alloc, 128)?;
     ran_over(rt, alloc, words, source, out, err)
+}
+
+/// What the command leaves of a script by any number of workers, where nothing fails.
+pub fn ran<R: Threads + Wait + Sync>(
+    rt: &R,
+    alloc: Global,
+    words: &str,
+    script: &[u8],
+) -> Result<Seen, Fail> {
+    let seen = ran_by(rt, alloc, words, script)?;
+    for crew in CREWS {
+        let with_crew = format!(in alloc; "{words} {crew}")?;
+        let other = ran_by(rt, alloc, with_crew.as_str(), script)?;
+        if !other.is(seen.code, &seen.out, &seen.err) {
+            return Err("workers made a difference".into());
+        }
+    }
+    Ok(seen)
 }
 
 /// The bytes of a front, and behind it so many times those of each part.

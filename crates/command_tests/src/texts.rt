@@ -1,6 +1,6 @@
 //! Every text that a run writes, but for pixmaps, as a literal.
 
-use crate::runs::{ran, ran_over, repeated, sink_of, source_of};
+use crate::runs::{ran, ran_by, ran_over, repeated, sink_of, source_of};
 use io_edge::{MemSink, MemSource};
 use std::alloc::Global;
 use std::test::*;
@@ -249,7 +249,7 @@ fn usage(rt: HostRuntime) -> Result<(), Fail> {
         "--loud",
         "log",
     ] {
-        let got = ran(&rt, rt.alloc(), words, b"canvas 1 1\nexport\n")?;
+        let got = ran_by(&rt, rt.alloc(), words, b"canvas 1 1\nexport\n")?;
         assert!(rt; got.is(2, b"", USAGE), "{words}");
     }
     Ok(())

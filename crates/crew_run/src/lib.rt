@@ -7,6 +7,8 @@ mod calls;
 mod crew;
 mod feeding;
 mod pieces;
+mod shown;
 mod work;
 
 pub use crew::run_crew;
+pub use shown::run_shown;

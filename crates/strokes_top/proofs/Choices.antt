@@ -1,5 +1,5 @@
 -- What a parse by the command's options gives.
-use Rattle.std.proofs.Common.{◌≡◌, ◌<◌, ◌≤◌, ℕ, List, [], ◌∷◌, Bool, true, false, Option, Some, None, Result, Ok, Err, refl, sym, ap, arith}
+use Rattle.std.proofs.Common.{◌≡◌, ◌<◌, ◌≤◌, ℕ, List, [], ◌∷◌, Bool, true, false, Option, Some, None, option_map, Result, Ok, Err, refl, sym, ap, arith}
 use Rattle.std.specs.Result.{IfOk, result_ok}
 use Rattle.std.specs.Str.Parse.{ParsesUnsigned, ExplainsUnsignedError, HasUnsignedDigitsIfOk, digits_value, without_leading_plus}
 use Rattle.std.specs.declared.num.ParseIntError.{ParseIntError}
@@ -17,6 +17,7 @@ use Rattle.clap.proofs.ValueTestLemmas.{accepts-Accepts, Accepts-accepts}
 use Rattle.strokes_top.specs.declared.choice.Emit.{Emit}
 use Rattle.strokes_top.specs.declared.choice.Emit.TheVariants.{Picture}
 use Rattle.strokes_top.specs.declared.choice.UnknownEmit.{UnknownEmit}
+use Rattle.strokes_top.specs.declared.asked.Asked.{Asked}
 use Rattle.strokes_top.specs.declared.choice.Choice.{Choice}
 use Rattle.strokes_top.specs.declared.choice.ChoiceError.{ChoiceError}
 use Rattle.strokes_top.specs.Choice.{command, choice, choice_by, emit_of, demo_of, number_of, unless_fault}
@@ -99,6 +100,6 @@ demo_unread None e none value =
 demo_unread (Some t) e none value = rw (number_unread t e (value t refl)) refl
 
 -- a choice, or none
-pub told_ok : (r : Result Choice ChoiceError) (o : Option Choice) → o ≡ result_ok r → IfOk r (λ c. o ≡ Some c)
-told_ok (Ok c) o e = e
+pub told_ok : (r : Result Asked ChoiceError) (o : Option Choice) → o ≡ option_map (λ (a : Asked). a.choice) (result_ok r) → IfOk r (λ a. o ≡ Some a.choice)
+told_ok (Ok a) o e = e
 told_ok (Err f) o e = tt

@@ -1,18 +1,23 @@
 //! What the words of a command line ask for.
 
-ghost use Rattle.std.specs.Prelude.{◌≡◌, ℕ, List, Option, Result, Ok, Err, Some, None, IfOk, IsErrOf, codes};
+ghost use Rattle.std.specs.Prelude.{◌≡◌, ◌≤◌, option_map, ℕ, List, Option, Result, Ok, Err, Some, None, IfOk, IsErrOf, codes};
 ghost use Rattle.clap.specs.Simple.{app_of};
 ghost use Rattle.clap.specs.Matches.{found_of};
 ghost use Rattle.clap.specs.Walk.{rows_of, one_of};
 ghost use Rattle.strokes_top.specs.Choice.{command as said_command, choice, choice_by, emit_of, demo_of};
 ghost use Rattle.strokes_top.specs.Named.{IsNamed};
+ghost use Rattle.strokes_top.specs.declared.asked.Asked.{Asked};
 
+use crate::asked::Asked;
 use crate::words::Words;
 use clap::builder::ValueParser;
 use clap::error::ErrorKind;
 use clap::{Arg, ArgMatches, Command};
 use std::alloc::{AllocError, Global};
 use std::str::FromStr;
+
+/// How many workers paint where the words don't say it.
+const WORKERS: u8 = 4;
 
 /// What a run writes.
 #[derive(Clone, Copy, Debug, PartialEq, Eq)]
@@ -35,7 +40,7 @@ pub struct Choice {
 }
 
 /// Why there is no choice.
-#[derive(Clone, Copy, Debug, PartialEq, Eq)]
+#[derive(Clone, Copy)]
 pub enum ChoiceError {
     /// The command doesn't take the words.
     Usage,
@@ -113,20 +118,39 @@ fn choice_in(matches: &ArgMatches<'_>) -> Option<Choice>
     Some(Choice { emit, demo })
 }
 
-/// What the words ask for: `--workers N`, 0 to 16, which has no effect yet, `--emit WHAT`, and
-/// `--demo NUMBER`, each at most once.
+/// How many workers are asked for.
+fn workers_in(matches: &ArgMatches<'_>) -> u8
+    ensures { result ≤ 16 }
+{
+    match matches.try_get_one::<u8>("workers") {
+        Ok(Some(workers)) => workers.min(16),
+        Ok(None) => WORKERS,
+        Err(_) => WORKERS,
+    }
+}
+
+/// What the values of the options ask for, with the number of workers.
+fn asked_in(matches: &ArgMatches<'_>) -> Option<Asked>
+    ensures { option_map (λ (a : Asked). a.choice) result ≡ choice_by (rows_of (found_of matches.now)) }
+{
+    let choice = choice_in(matches)?;
+    let workers = workers_in(matches);
+    Some(Asked { choice, workers })
+}
+
+/// What the words ask for: `--workers N`, 0 to 16, `--emit WHAT`, and `--demo NUMBER`, each at most once.
 ///
 /// # Errors
 /// `Usage` exactly where the command doesn't take the words, and `NoMemory` where memory ran out.
-pub(crate) fn choice_of(alloc: Global, words: &Words) -> Result<Choice, ChoiceError>
-    ensures ok { IfOk result (λ c. choice words.now ≡ Some c) }
+pub(crate) fn choice_of(alloc: Global, words: &Words) -> Result<Asked, ChoiceError>
+    ensures ok { IfOk result (λ a. choice words.now ≡ Some a.choice) }
     ensures usage { IsErrOf result ChoiceError.Usage → choice words.now ≡ None }
 {
     let Ok(command) = command(alloc) else {
         return Err(ChoiceError::NoMemory);
     };
     match command.try_get_matches_from(words.texts()) {
-        Ok(matches) => choice_in(&matches).ok_or(ChoiceError::Usage),
+        Ok(matches) => asked_in(&matches).ok_or(ChoiceError::Usage),
         Err(error) if error.kind() == ErrorKind::OutOfMemory => Err(ChoiceError::NoMemory),
         Err(_) => Err(ChoiceError::Usage),
     }

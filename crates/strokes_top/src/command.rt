@@ -1,6 +1,6 @@
 //! One run of the command.
 
-ghost use Rattle.std.specs.Prelude.{◌≡◌, ◌≢◌, ◌≤◌, ℕ, None, true, false, is_some};
+ghost use Rattle.std.specs.Prelude.{◌≡◌, ◌≢◌, ◌≤◌, IfOk, ℕ, None, true, false, is_some};
 ghost use Rattle.std.specs.Io.KnownBytes.{Keeps, Appends};
 ghost use Rattle.io_edge.specs.Told.{AppendsPrefix, Rose};
 ghost use Rattle.script_lines.specs.declared.cause.Cause.{Cause};
@@ -9,18 +9,22 @@ ghost use Rattle.strokes_top.specs.Run.{IsAnswered, IsFaulty, asks_for_demo, IsO
 ghost use Rattle.strokes_top.specs.Status.{is_done, may_write, told_by};
 ghost use Rattle.strokes_top.specs.Ends.{is_painted};
 ghost use Rattle.doc_model.specs.Meaning.{some_refused as said_refused};
+ghost use Rattle.solo_run.specs.Shows.{Shows};
 
-use crate::choice::{ChoiceError, Emit, choice_of};
+use crate::asked::Asked;
+use crate::choice::{ChoiceError, choice_of};
 use crate::source::take_script;
 use crate::status::Status;
 use crate::telling::report;
 use crate::transfer::{CHUNK, LIMIT};
 use crate::words::Words;
 use crate::writing::{room_for, write_output};
+use crew_run::run_shown;
 use doc_model::Outcome;
+use geom_core::NoMemory;
 use io_edge::{Failed, Gate, Sink, Source};
 use script_text::Script;
-use solo_run::run_solo;
+use solo_run::{Shown, run_solo};
 use std::alloc::Global;
 use std::sync::Wait;
 use std::thread::Threads;
@@ -32,18 +36,48 @@ fn some_refused(outcomes: &[Outcome]) -> bool
     outcomes.iter().any(|o| o.refused())
 }
 
+/// How many commands a desk takes at most.
+const MOST: usize = 4_294_967_295;
+
+/// What the script shows, painted by so many workers and the caller. Without workers the caller's own way
+/// is the quicker one.
+fn painted<R: Threads + Wait + Sync, G: Gate>(
+    rt: &R,
+    alloc: Global,
+    script: &Script,
+    workers: u8,
+    gate: &G,
+) -> Result<Shown, NoMemory>
+    requires workers { workers ≤ 16 }
+    ensures shows { IfOk result (λ s. Shows script.now s.film s.outcomes.items) }
+{
+    if workers == 0 || script.len() > MOST {
+        run_solo(alloc, script)
+    } else {
+        run_shown(rt, alloc, script, workers, gate)
+    }
+}
+
 /// Paints the script, and then writes what is asked for. All memory is taken before the first byte
 /// is written.
-fn paint<K: Sink>(alloc: Global, emit: Emit, script: &Script, out: &mut K) -> Status
-    ensures done { result ≡ Status.Done → IsOutput false (K.taken out.old) (K.taken out.new) emit script.now }
-    ensures done_with_refusals { result ≡ Status.DoneWithRefusals → IsOutput true (K.taken out.old) (K.taken out.new) emit script.now }
-    ensures begun { result ≡ Status.WriteFault → IsBegun (K.taken out.old) (K.taken out.new) emit script.now }
+fn paint<R: Threads + Wait + Sync, K: Sink, G: Gate>(
+    rt: &R,
+    alloc: Global,
+    asked: &Asked,
+    script: &Script,
+    out: &mut K,
+    gate: &G,
+) -> Status
+    ensures done { result ≡ Status.Done → IsOutput false (K.taken out.old) (K.taken out.new) asked.now.choice.emit script.now }
+    ensures done_with_refusals { result ≡ Status.DoneWithRefusals → IsOutput true (K.taken out.old) (K.taken out.new) asked.now.choice.emit script.now }
+    ensures begun { result ≡ Status.WriteFault → IsBegun (K.taken out.old) (K.taken out.new) asked.now.choice.emit script.now }
     ensures write_fault { result ≡ Status.WriteFault → Rose (K.faults out.old) (K.faults out.new) }
     ensures nothing { may_write result ≡ false → Keeps (K.taken out.old) (K.taken out.new) }
     ensures statuses { is_painted result ≡ true }
     ensures later { K.faults out.old ≤ K.faults out.new }
 {
-    let Ok(shown) = run_solo(alloc, script) else {
+    let emit = asked.choice.emit;
+    let Ok(shown) = painted(rt, alloc, script, asked.workers, gate) else {
         return Status::NoMemory;
     };
     let Ok(mut room) = room_for(alloc, emit, script.canvas()) else {
@@ -58,7 +92,14 @@ fn paint<K: Sink>(alloc: Global, emit: Emit, script: &Script, out: &mut K) -> St
 }
 
 /// Reads the words and the script, paints it, and writes what is asked for.
-fn answer<S: Source, K: Sink>(alloc: Global, words: &Words, source: &mut S, out: &mut K) -> Status
+fn answer<R: Threads + Wait + Sync, S: Source, K: Sink, G: Gate>(
+    rt: &R,
+    alloc: Global,
+    words: &Words,
+    source: &mut S,
+    out: &mut K,
+    gate: &G,
+) -> Status
     ensures done { result ≡ Status.Done → IsAnswered (IsOutput false (K.taken out.old) (K.taken out.new)) words.now (S.left source.old) (S.left source.new) }
     ensures done_with_refusals { result ≡ Status.DoneWithRefusals → IsAnswered (IsOutput true (K.taken out.old) (K.taken out.new)) words.now (S.left source.old) (S.left source.new) }
     ensures usage { result ≡ Status.Usage → choice words.now ≡ None }
@@ -75,30 +116,30 @@ fn answer<S: Source, K: Sink>(alloc: Global, words: &Words, source: &mut S, out:
     ensures source_count { S.faults source.old ≤ S.faults source.new }
     ensures out_count { K.faults out.old ≤ K.faults out.new }
 {
-    let choice = match choice_of(alloc, words) {
-        Ok(choice) => choice,
+    let asked = match choice_of(alloc, words) {
+        Ok(asked) => asked,
         Err(ChoiceError::Usage) => return Status::Usage,
         Err(ChoiceError::NoMemory) => return Status::NoMemory,
     };
-    match take_script(alloc, choice.demo, source) {
-        Ok(script) => paint(alloc, choice.emit, &script, out),
+    match take_script(alloc, asked.choice.demo, source) {
+        Ok(script) => paint(rt, alloc, &asked, &script, out, gate),
         Err(status) => status,
     }
 }
 
 /// Runs the command: `words` are the command line's without the program's name. The script comes
-/// from `source`, or is the generated one where `--demo` is given. It is painted on the caller's
-/// thread, and what `--emit` names goes to `out`: a pixmap for each export, a line for each entry,
-/// or a summary. One line on what went wrong goes to `err`, whose faults change no status. So far
-/// `--workers` has no effect, and no thread is started.
+/// from `source`, or is the generated one where `--demo` is given. It is painted by the caller and as
+/// many workers as `--workers` names, and what `--emit` names goes to `out`: a pixmap for each export, a
+/// line for each entry, or a summary. One line on what went wrong goes to `err`, whose faults change no
+/// status.
 pub fn run<R: Threads + Wait + Sync, S: Source, K: Sink, E: Sink, G: Gate>(
-    _rt: &R,
+    rt: &R,
     alloc: Global,
     words: &Words,
     source: &mut S,
     out: &mut K,
     err: &mut E,
-    _gate: &G,
+    gate: &G,
 ) -> Status
     // The words were taken, the script was read or generated, and just what is asked for was written. Where the source
     // doesn't tell what it has left, that is so of some bytes.
@@ -130,6 +171,6 @@ pub fn run<R: Threads + Wait + Sync, S: Source, K: Sink, E: Sink, G: Gate>(
     ensures out_count { K.faults out.old ≤ K.faults out.new }
     ensures err_count { E.faults err.old ≤ E.faults err.new }
 {
-    let status = answer(alloc, words, source, out);
+    let status = answer(rt, alloc, words, source, out, gate);
     report(alloc, err, status)
 }

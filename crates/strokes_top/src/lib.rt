@@ -1,6 +1,7 @@
 //! The command: from words and a source of bytes to a status and what was written.
 #![tactic(auto)]
 
+mod asked;
 mod choice;
 mod command;
 mod intake;

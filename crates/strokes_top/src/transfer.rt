@@ -14,7 +14,7 @@ pub const LIMIT: usize = 1_048_576;
 pub const CHUNK: usize = 16_384;
 
 /// Why a source wasn't read to its end.
-#[derive(Clone, Copy, Debug, PartialEq, Eq)]
+#[derive(Clone, Copy)]
 pub enum ReadError {
     /// A read failed.
     Failed,

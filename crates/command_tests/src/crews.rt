@@ -1,0 +1,47 @@
+//! Who paints: the crew that the words ask for, or the caller alone.
+
+use crate::runs::{ran_at, sink_of, source_of};
+use io_edge::Gate;
+use std::sync::atomic::{AtomicU64, Ordering};
+use std::test::*;
+
+/// Counts the jobs that enter it. The crew alone enters a gate.
+#[derive(Drop)]
+struct Counter {
+    entered: AtomicU64,
+}
+
+impl Gate for Counter {
+    fn painting(&self, _stroke: u32, _job: u32) {
+        self.entered.fetch_add(1, Ordering::SeqCst);
+    }
+}
+
+/// A done stroke of three jobs, and one of a single job.
+const FOUR_JOBS: &[u8] =
+    b"canvas 64 1\nlayer 1 0 0\nstroke 1 1\nfill 1 con 0 0 32 1 ff0000ff over 255\nfill 1 con 32 0 32 1 0000ffff over 255\nblur 1 seq 0 0 8 1 1\nend 1\nstroke 2 1\nfill 2 con 0 0 1 1 00ff00ff over 255\nend 2\nexport\n";
+
+/// How many jobs enter the gate by these words: where there are workers, each does once.
+#[test]
+fn the_workers_that_are_asked_for(rt: HostRuntime) -> Result<(), Fail> {
+    let alloc = rt.alloc();
+    for (words, jobs) in [
+        ("--workers 0", 0),
+        ("--workers 1", 4),
+        ("--workers 2", 4),
+        ("", 4),
+        ("--workers 16 --emit log", 4),
+    ] {
+        let gate = Counter {
+            entered: AtomicU64::new(0),
+        };
+        let source = source_of(alloc, FOUR_JOBS)?;
+        let out = sink_of(alloc, 256)?;
+        let got = ran_at(&rt, alloc, words, source, out, sink_of(alloc, 128)?, &gate)?;
+        assert!(rt;
+            got.code == 0 && gate.entered.load(Ordering::SeqCst) == jobs,
+            "{words}"
+        );
+    }
+    Ok(())
+}
