@@ -3,11 +3,9 @@
 use crate::easel::EaselError;
 use desk_core::{Desk, SlotId, Taken, WalkTicket};
 use doc_model::Command;
-use geom_core::{NoMemory, TileKey};
 use memento_core::Steps;
 use std::alloc::Global;
 use std::sync::ledger::Ledger;
-use walker_core::Composed;
 use whole_tiles::Painting;
 
 /// How many commands a desk takes at most.
@@ -81,33 +79,6 @@ impl Board {
             Taken::Idle | Taken::Settled if self.at_work > 0 => Ok(Turn::Wait),
             Taken::Idle | Taken::Settled => Ok(Turn::Rest),
         }
-    }
-
-    /// Publishes a patch that was composed, and ends its walk.
-    pub(crate) fn put_walk(
-        &mut self,
-        ticket: &WalkTicket,
-        composed: &Composed<'_>,
-    ) -> Result<(), NoMemory> {
-        let rect = ticket.inputs.patch().rect;
-        for i in 0..rect.tile_count() {
-            self.put_tile(ticket, composed, rect.tile_at(i))?;
-        }
-        let _ended = self.desk.end(ticket.slot);
-        Ok(())
-    }
-
-    /// Publishes one tile of it, for each group.
-    fn put_tile(
-        &mut self,
-        ticket: &WalkTicket,
-        composed: &Composed<'_>,
-        key: TileKey,
-    ) -> Result<(), NoMemory> {
-        for group in ticket.inputs.path() {
-            let _published = self.desk.publish_walk(ticket.slot, composed, *group, key)?;
-        }
-        Ok(())
     }
 
     /// Work came back.

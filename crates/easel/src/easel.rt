@@ -141,7 +141,7 @@ impl Easel {
     fn compose<R: Wait>(&self, rt: &R, ticket: &WalkTicket) -> Result<(), EaselError> {
         let composed = compose_walk(self.alloc, &ticket.inputs)?;
         let mut board = self.board.lock(rt);
-        board.put_walk(ticket, &composed)?;
+        let _published = board.desk.commit_walk(ticket.slot, &composed)?;
         board.is_back();
         drop(board);
         self.changed.notify_all();
