@@ -245,7 +245,9 @@ fn generated_pictures(rt: HostRuntime) -> Result<(), Fail> {
         "--demo 1",
         "--demo 1 --workers 0",
         "--demo 1 --workers 1",
+        "--demo 1 --workers 2",
         "--demo 1 --workers 8",
+        "--demo 1 --workers 16",
     ] {
         let got = ran_over(
             &rt,

@@ -14,6 +14,8 @@ mod fixtures;
 #[cfg(test)]
 mod queues;
 #[cfg(test)]
+mod reverts;
+#[cfg(test)]
 mod stores;
 #[cfg(test)]
 mod strokes;
