@@ -101,19 +101,20 @@ pub fn same_part(tile: &[Pixel], other: &[Pixel], part: Part) -> bool
     true
 }
 
-/// Whether both tiles have the same `n` pixels from a place on.
+/// Whether both tiles have the same `n` pixels from a place on. It goes through all of them, with no branch.
 fn same_row(tile: &[Pixel], other: &[Pixel], from: usize, n: usize) -> bool
     requires whole { length tile.now ≡ 4096 }
     requires other { length other.now ≡ 4096 }
     requires inside { from + n ≤ 4096 }
     ensures { IsTrue result ↔ RowIs tile.now (λ k. slice_index_or other.now k clear) from n }
 {
+    let row = &tile[from..from + n];
+    let others = &other[from..from + n];
+    let mut all = true;
     for i in 0..n {
-        if tile[from + i] != other[from + i] {
-            return false;
-        }
+        all = all & (row[i] == others[i]);
     }
-    true
+    all
 }
 
 /// Whether every pixel of the part is `p`.
@@ -133,18 +134,18 @@ pub fn is_plain_part(tile: &[Pixel], part: Part, p: Pixel) -> bool
     true
 }
 
-/// Whether the `n` pixels from a place on are all `p`.
+/// Whether the `n` pixels from a place on are all `p`. It goes through all of them, with no branch.
 fn is_plain_row(tile: &[Pixel], from: usize, n: usize, p: Pixel) -> bool
     requires whole { length tile.now ≡ 4096 }
     requires inside { from + n ≤ 4096 }
     ensures { IsTrue result ↔ RowIs tile.now (λ _. p) from n }
 {
+    let row = &tile[from..from + n];
+    let mut all = true;
     for i in 0..n {
-        if tile[from + i] != p {
-            return false;
-        }
+        all = all & (row[i] == p);
     }
-    true
+    all
 }
 
 /// Whether all 4,096 pixels are `p`. Where the first or the last one isn't, it looks no further.

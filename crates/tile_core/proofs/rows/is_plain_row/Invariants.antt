@@ -1,6 +1,7 @@
+use Rattle.std.specs.Prelude.{◌↔◌, IsTrue}
 use Rattle.tile_core.specs.Same.{RowIs}
 use Rattle.tile_core.proofs.rows.is_plain_row.Given as goal
 
--- the pixels so far are those
+-- whether the pixels so far are those
 abbrev pub invariant-loop-i : goal.invariant-loop-i
-invariant-loop-i l = RowIs l.tile (λ _. l.p) l.from l.i
+invariant-loop-i l = IsTrue l.all ↔ RowIs l.tile (λ _. l.p) l.from l.i
