@@ -196,13 +196,19 @@ fn fnv(bytes: &[u8]) -> u64 {
     hash
 }
 
-/// Words for generated scripts, and the summaries of what these paint. The sums were worked out by a
-/// plain painter in another language.
-const GENERATED: [(&str, &[u8]); 4] = [
-    (
-        "--demo 0 --emit sum",
-        b"entries 66 done 60 cancelled 6 refused 0\nframe 1 800 600 311312768\nframe 2 800 600 290302180\n",
-    ),
+/// The summary of what the generated script 0 paints.
+const DEMO_0: &[u8] =
+    b"entries 66 done 60 cancelled 6 refused 0\nframe 1 800 600 311312768\nframe 2 800 600 290302180\n";
+
+/// Words for generated scripts, and the summaries of what these paint, with any number of workers. The sums
+/// were worked out by a plain painter in another language.
+const GENERATED: [(&str, &[u8]); 9] = [
+    ("--demo 0 --emit sum", DEMO_0),
+    ("--demo 0 --emit sum --workers 0", DEMO_0),
+    ("--demo 0 --emit sum --workers 1", DEMO_0),
+    ("--demo 0 --emit sum --workers 2", DEMO_0),
+    ("--demo 0 --emit sum --workers 8", DEMO_0),
+    ("--demo 0 --emit sum --workers 16", DEMO_0),
     (
         "--demo 1 --emit sum",
         b"entries 66 done 60 cancelled 6 refused 0\nframe 1 800 600 314472656\nframe 2 800 600 300007123\n",
