@@ -4,11 +4,11 @@ ghost use Rattle.std.specs.Prelude.{◌≡◌};
 ghost use Rattle.script_text.specs.Script.{Contents};
 ghost use Rattle.crew_run.specs.Front.{IsFront, nothing};
 
-use crate::calls::{Took, put_job, put_walk, take};
+use crate::calls::{Took, end_walk, put_job, put_rows, take};
 use crate::feeding::feed_ahead;
-use crate::pieces::Piece;
-use crate::work::{TakenJob, Tiles, Work};
-use desk_core::{Desk, Published, SlotId, WalkTicket};
+use crate::pieces::{Piece, Walking};
+use crate::work::{Rows, TakenJob, Tiles, Work};
+use desk_core::{Desk, Ended, Published, SlotId, WalkTicket};
 use geom_core::NoMemory;
 use memento_core::Steps;
 use script_text::Script;
@@ -43,8 +43,8 @@ pub(crate) struct Board<J: Following> {
     pieces: Vec<Piece>,
     /// How many jobs were taken and not published.
     jobs: usize,
-    /// How many walks were.
-    walks: usize,
+    /// The walks that were taken and aren't ended.
+    walks: Vec<Walking>,
     /// Whether another job could start beside the one that was taken last.
     run_goes_on: bool,
     /// How many threads sleep.
@@ -99,7 +99,7 @@ impl<J: Following> Board<J> {
             threads,
             pieces: Vec::new(alloc),
             jobs: 0,
-            walks: 0,
+            walks: Vec::new(alloc),
             run_goes_on: false,
             asleep: 0,
             is_over: false,
@@ -116,7 +116,7 @@ impl<J: Following> Board<J> {
         desk
     }
 
-    /// Tiles of a job under way, or new work, or one event. Where that can't be done, the threads are to stop.
+    /// Tiles of work under way, or new work, or one event. Where that can't be done, the threads are to stop.
     pub(crate) fn look<L: Ledger>(&mut self, script: &Script, steps: &mut Steps<L>) -> Next
         requires { script.now ≡ J.script }
     {
@@ -137,7 +137,7 @@ impl<J: Following> Board<J> {
         }
     }
 
-    /// Tiles of a job under way.
+    /// Tiles of work under way.
     fn join(&mut self) -> Result<Option<Part>, NoMemory> {
         for piece in &mut self.pieces {
             if piece.is_open() {
@@ -145,6 +145,20 @@ impl<J: Following> Board<J> {
                 return Ok(Some(Part {
                     leaves: piece.is_open(),
                     work: Work::Tiles(tiles),
+                }));
+            }
+        }
+        self.join_walk()
+    }
+
+    /// Tiles of a walk under way.
+    fn join_walk(&mut self) -> Result<Option<Part>, NoMemory> {
+        for walk in &mut self.walks {
+            if walk.is_open() {
+                let rows = walk.give()?;
+                return Ok(Some(Part {
+                    leaves: walk.is_open(),
+                    work: Work::Rows(rows),
                 }));
             }
         }
@@ -164,9 +178,9 @@ impl<J: Following> Board<J> {
         }
         match take(self.alloc, &mut self.desk, steps)? {
             Took::Job(job) => self.begin_job(job),
-            Took::Walk(walk) => Ok(Next::Part(self.begin_walk(walk))),
+            Took::Walk(walk) => self.begin_walk(walk),
             Took::Did => Ok(Next::Again),
-            Took::Idle if self.jobs > 0 || self.walks > 0 => Ok(Next::Wait),
+            Took::Idle if self.jobs > 0 || !self.walks.is_empty() => Ok(Next::Wait),
             Took::Idle | Took::Settled => Ok(Next::Stop),
         }
     }
@@ -210,15 +224,20 @@ impl<J: Following> Board<J> {
         }))
     }
 
-    /// A new walk.
-    fn begin_walk(&mut self, walk: WalkTicket) -> Part {
-        self.walks = self.walks.saturating_add(1);
+    /// The first tiles of a new walk. Whoever looks next finds those that are left, or another walk.
+    fn begin_walk(&mut self, walk: WalkTicket) -> Result<Next, NoMemory> {
         let rect = walk.inputs.patch().rect;
         let points = u64::from(rect.w()).saturating_mul(u64::from(rect.h()));
-        Part {
-            work: Work::Walk(walk),
-            leaves: points > WORTH_TWO,
+        let mut walk = Walking::new(Arc::new(self.alloc, walk)?, self.threads);
+        if !walk.is_open() {
+            return Err(NoMemory);
         }
+        let rows = walk.give()?;
+        self.walks.push(walk)?;
+        Ok(Next::Part(Part {
+            work: Work::Rows(rows),
+            leaves: points > WORTH_TWO,
+        }))
     }
 
     /// Takes what was painted of some tiles of a job.
@@ -245,12 +264,27 @@ impl<J: Following> Board<J> {
         }
     }
 
-    /// Publishes all groups of a walk. Where that can't be done the threads are to stop.
-    pub(crate) fn put_walk(&mut self, slot: SlotId, composed: &Composed<'_>) {
-        self.walks = self.walks.saturating_sub(1);
-        match put_walk(&mut self.desk, slot, composed) {
-            Ok(Published::Stored) => {}
+    /// Publishes tiles of a walk, and ends it where they are its last. Where that can't be done the threads are
+    /// to stop.
+    pub(crate) fn put_rows(&mut self, rows: &Rows, composed: &Composed<'_>) {
+        match put_rows(&mut self.desk, rows, composed) {
+            Ok(Published::Stored) => self.tell_done(rows),
             Ok(Published::Nothing) | Err(NoMemory) => self.is_over = true,
+        }
+    }
+
+    /// Ends a walk where these were its last tiles.
+    fn tell_done(&mut self, rows: &Rows) {
+        let slot = rows.walk.slot;
+        let Some(i) = self.walks.iter().position(|w| w.serial() == slot.serial) else {
+            self.is_over = true;
+            return;
+        };
+        if self.walks[i].tell_done(rows.to.saturating_sub(rows.from)) {
+            let _ended = self.walks.swap_remove(i);
+            if end_walk(&mut self.desk, slot) == Ended::Nothing {
+                self.is_over = true;
+            }
         }
     }
 

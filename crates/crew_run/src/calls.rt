@@ -2,8 +2,8 @@
 
 ghost use Rattle.crew_run.specs.Front.{KeepsFed};
 
-use crate::work::TakenJob;
-use desk_core::{Desk, Published, SlotId, Taken, WalkTicket};
+use crate::work::{Rows, TakenJob};
+use desk_core::{Desk, Ended, Published, SlotId, Taken, WalkTicket};
 use geom_core::NoMemory;
 use memento_core::Steps;
 use std::alloc::Global;
@@ -48,14 +48,29 @@ pub(crate) fn put_job(desk: &mut Desk, slot: SlotId, tiles: &[Whole]) -> Result<
     desk.commit(slot, tiles)
 }
 
-/// Publishes all groups of a walk, and ends it, in one hold of the lock. `Nothing` where they aren't all of
-/// the work in that slot.
-pub(crate) fn put_walk(
+/// Publishes some tiles of a walk of all its groups, in one hold of the lock. `Nothing` where one isn't of the
+/// work in that slot.
+pub(crate) fn put_rows(
     desk: &mut Desk,
-    slot: SlotId,
+    rows: &Rows,
     composed: &Composed<'_>,
 ) -> Result<Published, NoMemory>
     ensures { KeepsFed desk.old desk.new }
 {
-    desk.commit_walk(slot, composed)
+    let rect = rows.walk.inputs.patch().rect;
+    let to = rows.to.min(rect.tile_count() as usize);
+    for i in rows.from..to {
+        let key = rect.tile_at(i as u32);
+        if desk.publish_row(rows.walk.slot, composed, key)? == Published::Nothing {
+            return Ok(Published::Nothing);
+        }
+    }
+    Ok(Published::Stored)
+}
+
+/// Ends a walk whose tiles are all published.
+pub(crate) fn end_walk(desk: &mut Desk, slot: SlotId) -> Ended
+    ensures { KeepsFed desk.old desk.new }
+{
+    desk.end(slot)
 }

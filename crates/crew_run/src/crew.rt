@@ -6,8 +6,8 @@ ghost use Rattle.crew_run.specs.Front.{IsFront};
 
 use crate::board::{Board, Brought, Following, Next, Part};
 use crate::feeding::finish;
-use crate::work::{TakenJob, Tiles, Work};
-use desk_core::{Desk, WalkTicket};
+use crate::work::{Rows, TakenJob, Tiles, Work};
+use desk_core::Desk;
 use geom_core::NoMemory;
 use io_edge::Gate;
 use memento_core::Steps;
@@ -18,7 +18,6 @@ use std::sync::ledger::{Blank, Ledger};
 use std::sync::{Condvar, Mutex, MutexGuard, Wait};
 use std::thread;
 use std::thread::Threads;
-use walker_core::compose_walk;
 use whole_tiles::Whole;
 
 /// What the threads share.
@@ -83,7 +82,7 @@ impl<'s, 'g, J: Following, G: Gate> Crew<'s, 'g, J, G> {
     ) -> Option<Part> {
         match work {
             Work::Tiles(tiles) => self.paint(rt, alloc, tiles, steps),
-            Work::Walk(walk) => self.compose(rt, alloc, walk, steps),
+            Work::Rows(rows) => self.compose(rt, alloc, rows, steps),
         }
     }
 
@@ -129,19 +128,19 @@ impl<'s, 'g, J: Following, G: Gate> Crew<'s, 'g, J, G> {
         self.next(rt, board, steps)
     }
 
-    /// Composes a walk, and publishes it in one hold.
+    /// Composes tiles of a walk, and publishes them in one hold.
     fn compose<L: Ledger, R: Wait>(
         &self,
         rt: &R,
         alloc: Global,
-        walk: &WalkTicket,
+        rows: &Rows,
         steps: &mut Steps<L>,
     ) -> Option<Part> {
-        let Ok(composed) = compose_walk(alloc, &walk.inputs) else {
+        let Ok(composed) = rows.compose(alloc) else {
             return self.give_up(rt);
         };
         let mut board = self.board.lock(rt);
-        board.put_walk(walk.slot, &composed);
+        board.put_rows(rows, &composed);
         self.next(rt, board, steps)
     }
 

@@ -1,30 +1,69 @@
-//! Jobs that several threads paint.
+//! Jobs and walks that several threads share.
 
 ghost use Rattle.std.specs.Prelude.{◌≡◌, ◌≤◌, ◌<◌, nat_lt, IfOk, OnErr};
 
-use crate::work::{TakenJob, Tiles};
+use crate::work::{Rows, TakenJob, Tiles};
+use desk_core::WalkTicket;
 use geom_core::NoMemory;
 use std::alloc::Global;
 use std::sync::Arc;
 use whole_tiles::Whole;
 
-/// How many points a job writes at most that one thread paints alone.
+/// How many points work has at most that one thread does alone.
 const ALONE: u64 = 60_000;
 
-/// Into how many ranges of tiles a job is cut for each thread.
+/// Into how many ranges of tiles work is cut for each thread.
 const RANGES: usize = 6;
+
+/// Tiles that are given out in ranges, from the first on.
+#[derive(Drop)]
+struct Ranges {
+    tiles: usize,
+    /// How many were given out.
+    next: usize,
+    step: usize,
+    ghost within: { next ≤ tiles },
+    ghost goes_on: { 1 ≤ step },
+}
+
+impl Ranges {
+    /// Tiles that are cut into about so many ranges.
+    fn new(tiles: usize, count: usize) -> Ranges
+        ensures { result.next ≡ 0 }
+    {
+        Ranges {
+            tiles,
+            next: 0,
+            step: (tiles / count.max(1)).max(1),
+        }
+    }
+
+    /// Whether some tiles weren't given out.
+    fn is_open(&self) -> bool
+        ensures { result ≡ nat_lt self.now.next self.now.tiles }
+    {
+        self.next < self.tiles
+    }
+
+    /// The place behind the next range, which begins right behind the ones before.
+    fn give(&mut self) -> usize
+        requires open { self.old.next < self.old.tiles }
+        ensures to { result ≡ self.new.next }
+        ensures some { self.old.next < result }
+        ensures within { result ≤ self.old.tiles }
+        ensures tiles { self.new.tiles ≡ self.old.tiles }
+    {
+        self.next = self.next.saturating_add(self.step).min(self.tiles);
+        self.next
+    }
+}
 
 /// A job that several threads paint, tile by tile. What they painted is gathered here.
 #[derive(Drop)]
 pub(crate) struct Piece {
     job: Arc<TakenJob, Global>,
-    tiles: usize,
-    /// How many tiles were given out: the first ones.
-    next: usize,
-    step: usize,
+    ranges: Ranges,
     made: Vec<Whole>,
-    ghost within: { next ≤ tiles },
-    ghost goes_on: { 1 ≤ step },
 }
 
 impl Piece {
@@ -39,14 +78,12 @@ impl Piece {
         job: Arc<TakenJob, Global>,
         threads: usize,
     ) -> Result<Piece, NoMemory>
-        ensures { IfOk result (λ p. p.next ≡ 0) }
+        ensures { IfOk result (λ p. p.ranges.next ≡ 0) }
     {
         let tiles = job.painting.tile_count();
         Ok(Piece {
             job,
-            tiles,
-            next: 0,
-            step: (tiles / RANGES / threads.max(1)).max(1),
+            ranges: Ranges::new(tiles, threads.saturating_mul(RANGES)),
             made: Vec::with_capacity(alloc, tiles)?,
         })
     }
@@ -58,9 +95,9 @@ impl Piece {
 
     /// Whether some tiles weren't given out.
     pub(crate) fn is_open(&self) -> bool
-        ensures { result ≡ nat_lt self.now.next self.now.tiles }
+        ensures { result ≡ nat_lt self.now.ranges.next self.now.ranges.tiles }
     {
-        self.next < self.tiles
+        self.ranges.is_open()
     }
 
     /// The next tiles: those right behind the ones that were given out before.
@@ -68,18 +105,17 @@ impl Piece {
     /// # Errors
     /// `NoMemory`; nothing is given out.
     pub(crate) fn give(&mut self) -> Result<Tiles, NoMemory>
-        requires open { self.old.next < self.old.tiles }
-        ensures from { IfOk result (λ t. t.from ≡ self.old.next) }
-        ensures to { IfOk result (λ t. t.to ≡ self.new.next) }
+        requires open { self.old.ranges.next < self.old.ranges.tiles }
+        ensures from { IfOk result (λ t. t.from ≡ self.old.ranges.next) }
+        ensures to { IfOk result (λ t. t.to ≡ self.new.ranges.next) }
         ensures some { IfOk result (λ t. t.from < t.to) }
-        ensures within { IfOk result (λ t. t.to ≤ self.old.tiles) }
-        ensures tiles { self.new.tiles ≡ self.old.tiles }
-        ensures err { OnErr result (self.new.next ≡ self.old.next) }
+        ensures within { IfOk result (λ t. t.to ≤ self.old.ranges.tiles) }
+        ensures tiles { self.new.ranges.tiles ≡ self.old.ranges.tiles }
+        ensures err { OnErr result (self.new.ranges.next ≡ self.old.ranges.next) }
     {
         let job = Arc::try_clone(&self.job)?;
-        let from = self.next;
-        let to = from.saturating_add(self.step).min(self.tiles);
-        self.next = to;
+        let from = self.ranges.next;
+        let to = self.ranges.give();
         Ok(Tiles {
             job,
             from,
@@ -94,12 +130,76 @@ impl Piece {
     /// `NoMemory`; the job can't be published then.
     pub(crate) fn gather(&mut self, made: &mut Vec<Whole>) -> Result<bool, NoMemory> {
         self.made.append(made)?;
-        Ok(self.made.len() >= self.tiles)
+        Ok(self.made.len() >= self.ranges.tiles)
     }
 
     /// The job, with all that was painted of it.
     pub(crate) fn into_results(self) -> (Arc<TakenJob, Global>, Vec<Whole>) {
         let Piece { job, made, .. } = self;
         (job, made)
+    }
+}
+
+/// A walk, whose tiles several threads compose. What is composed of a tile is published at once.
+#[derive(Drop)]
+pub(crate) struct Walking {
+    walk: Arc<WalkTicket, Global>,
+    ranges: Ranges,
+    /// How many tiles are published.
+    done: usize,
+}
+
+impl Walking {
+    /// A walk of which no tile was given out. One whose patch has few points is for one thread.
+    pub(crate) fn new(walk: Arc<WalkTicket, Global>, threads: usize) -> Walking
+        ensures { result.ranges.next ≡ 0 }
+    {
+        let rect = walk.inputs.patch().rect;
+        let points = u64::from(rect.w()).saturating_mul(u64::from(rect.h()));
+        let count = if threads > 1 && points > ALONE {
+            threads.saturating_mul(RANGES)
+        } else {
+            1
+        };
+        Walking {
+            walk,
+            ranges: Ranges::new(rect.tile_count() as usize, count),
+            done: 0,
+        }
+    }
+
+    /// The serial of the walk's slot.
+    pub(crate) fn serial(&self) -> u64 {
+        self.walk.slot.serial
+    }
+
+    /// Whether some tiles weren't given out.
+    pub(crate) fn is_open(&self) -> bool
+        ensures { result ≡ nat_lt self.now.ranges.next self.now.ranges.tiles }
+    {
+        self.ranges.is_open()
+    }
+
+    /// The next tiles: those right behind the ones that were given out before.
+    ///
+    /// # Errors
+    /// `NoMemory`; nothing is given out.
+    pub(crate) fn give(&mut self) -> Result<Rows, NoMemory>
+        requires open { self.old.ranges.next < self.old.ranges.tiles }
+        ensures from { IfOk result (λ r. r.from ≡ self.old.ranges.next) }
+        ensures to { IfOk result (λ r. r.to ≡ self.new.ranges.next) }
+        ensures some { IfOk result (λ r. r.from < r.to) }
+        ensures err { OnErr result (self.new.ranges.next ≡ self.old.ranges.next) }
+    {
+        let walk = Arc::try_clone(&self.walk)?;
+        let from = self.ranges.next;
+        let to = self.ranges.give();
+        Ok(Rows { walk, from, to })
+    }
+
+    /// So many more tiles are published. `true` where none is missing then.
+    pub(crate) fn tell_done(&mut self, tiles: usize) -> bool {
+        self.done = self.done.saturating_add(tiles);
+        self.done >= self.ranges.tiles
     }
 }

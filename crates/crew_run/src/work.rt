@@ -1,4 +1,4 @@
-//! What a thread does outside the lock: it paints tiles of a job or composes a walk.
+//! What a thread does outside the lock: it paints tiles of a job or composes those of a walk.
 
 ghost use Rattle.std.specs.Prelude.{◌≡◌, true};
 ghost use Rattle.doc_model.specs.Jobs.{checks, reads};
@@ -10,6 +10,7 @@ use geom_core::NoMemory;
 use std::alloc::Global;
 use std::sync::Arc;
 use tile_core::Tile;
+use walker_core::{Composed, compose_keys};
 use whole_tiles::{Painting, Whole};
 
 /// A job that was taken. Several threads may paint tiles of it.
@@ -86,9 +87,30 @@ fn newest(made: &[Whole]) -> Option<&Tile> {
     }
 }
 
+/// Some tiles of a walk: those of its patch from one place to before another.
+#[derive(Drop)]
+pub(crate) struct Rows {
+    pub(crate) walk: Arc<WalkTicket, Global>,
+    pub(crate) from: usize,
+    pub(crate) to: usize,
+}
+
+impl Rows {
+    /// Composes them, of all groups of the walk.
+    pub(crate) fn compose(&self, alloc: Global) -> Result<Composed<'_>, NoMemory> {
+        let rect = self.walk.inputs.patch().rect;
+        let to = self.to.min(rect.tile_count() as usize);
+        let mut keys = Vec::with_capacity(alloc, to.saturating_sub(self.from))?;
+        for i in self.from..to {
+            keys.push(rect.tile_at(i as u32))?;
+        }
+        compose_keys(alloc, &self.walk.inputs, &keys)
+    }
+}
+
 /// Work that was taken from the board.
 #[derive(Drop)]
 pub(crate) enum Work {
     Tiles(Tiles),
-    Walk(WalkTicket),
+    Rows(Rows),
 }

@@ -28,7 +28,7 @@ use Rattle.desk_parts.proofs.KeyTests.{pass_all}
 use Rattle.desk_parts.proofs.Places.{IsPaintingAs, painting_as, painting_at}
 use Rattle.desk_parts.proofs.Taking.{job_is}
 use Rattle.desk_work.specs.Lacking.{IsOfJob, AreLacking}
-use Rattle.desk_machine.specs.Commits.{MayCommit, TakesWhole, RunsFront, lacking_in, pair_events, commit_walk_events}
+use Rattle.desk_machine.specs.Commits.{MayCommit, TakesWhole, RunsFront, lacking_in, lacking_at, pair_events, row_events, commit_walk_events}
 use Rattle.desk_core.specs.Commits.{commit_events}
 use Rattle.desk_parts.proofs.SettlingRuns.{run_then}
 
@@ -116,3 +116,15 @@ walk_settles place a b run = record { events = commit_walk_events a place; no_fe
 -- the pairs, and the end
 pub walk_run : (place : ℕ) (a b c : State) → Run a (pair_events place (lacking_in (slice_get a.slots place))) b → Step b (WalkEnd place) c → Run a (commit_walk_events a place) c
 walk_run place a b c run step = run_then (pair_events place (lacking_in (slice_get a.slots place))) (WalkEnd place ∷ []) a b c run (c, step, refl)
+
+-- ---- a tile of a walk
+
+row_none_fed : (place : ℕ) (ps : List (ℕ × Key)) → list_all (λ e. not (is_feed e)) (pair_events place ps) ≡ true
+row_none_fed place [] = refl
+row_none_fed place (p ∷ ps) = row_none_fed place ps
+
+pub row_front_settles : (place : ℕ) (key : Key) (a b : State) → RunsFront a (row_events a place key) b → Settles a b
+row_front_settles place key a b front = record { events = take front.count (row_events a place key); no_feed = taken_none_fed (row_events a place key) front.count (row_none_fed place (lacking_at (slice_get a.slots place) key)); run = front.run }
+
+pub row_settles : (place : ℕ) (key : Key) (a b : State) → Run a (row_events a place key) b → Settles a b
+row_settles place key a b run = record { events = row_events a place key; no_feed = row_none_fed place (lacking_at (slice_get a.slots place) key); run = run }

@@ -2,8 +2,10 @@
 
 ghost use Rattle.std.specs.Prelude.{◌≡◌, Ok, OnErr};
 ghost use Rattle.machine_model.specs.Event.{WalkPublish};
-ghost use Rattle.machine_model.specs.Step.{Step};
+ghost use Rattle.machine_model.specs.Step.{Step, Run};
 ghost use Rattle.desk_parts.specs.Enabled.{TakesWalk};
+ghost use Rattle.desk_parts.specs.Settles.{Settles};
+ghost use Rattle.desk_machine.specs.Commits.{MayPublishRow, RunsFront, row_events};
 ghost use Rattle.desk_core.specs.declared.answers.Published.TheVariants as answers;
 
 use crate::answers::Published;
@@ -35,6 +37,34 @@ impl Desk {
             return Ok(Published::Nothing);
         }
         self.machine.lay_walk(slot, composed, group, key)?;
+        Ok(Published::Stored)
+    }
+
+    /// Publishes a tile of the walk in a slot, of all its groups of which it isn't published: so several threads
+    /// may compose the tiles of one walk. Where a whole tile is laid, no pixel is copied. `Nothing` exactly where
+    /// the slot hasn't that work, the walk's patch doesn't meet the tile, or not all its groups were composed there,
+    /// of the same as the walk reads.
+    ///
+    /// # Errors
+    /// `NoMemory`; of the groups some, from the first on, are published, or none.
+    pub fn publish_row(
+        &mut self,
+        slot: SlotId,
+        composed: &Composed<'_>,
+        key: TileKey,
+    ) -> Result<Published, NoMemory>
+        ensures stored { result ≡ Ok answers.Stored → Run self.old (row_events self.old slot.place key) self.new }
+        ensures nothing { result ≡ Ok answers.Nothing → self.new ≡ self.old }
+        ensures refused { result ≡ Ok answers.Nothing → MayPublishRow self.old slot.place slot.serial composed.now key → ⊥ }
+        ensures front { OnErr result (RunsFront self.old (row_events self.old slot.place key) self.new) }
+        ensures runs { Settles self.old self.new }
+        ensures canvas { self.new.canvas ≡ self.old.canvas }
+        ensures fed { self.new.fed ≡ self.old.fed }
+    {
+        if !self.machine.may_publish_row(slot, composed, key) {
+            return Ok(Published::Nothing);
+        }
+        self.machine.lay_walked_row(slot, composed, key)?;
         Ok(Published::Stored)
     }
 }

@@ -4,7 +4,7 @@ use Rattle.std.specs.Prelude.{slice_get, slice_set}
 use Rattle.std.specs.Ordering.{nat_cmp}
 use Rattle.std.specs.List.{list_any, list_all}
 use Rattle.std.specs.FinMap.{FinMap}
-use Rattle.geom_core.specs.Grid.{Key, keys_of}
+use Rattle.geom_core.specs.Grid.{Key, same_key, keys_of}
 use Rattle.geom_core.proofs.Tests.{both_true, or_left, or_right}
 use Rattle.geom_core.proofs.Tiles.{key_is}
 use Rattle.doc_model.specs.Layers.{Layer}
@@ -31,10 +31,10 @@ use Rattle.desk_parts.proofs.KeyTests.{own_place}
 use Rattle.desk_parts.proofs.Places.{set_twice}
 use Rattle.desk_parts.proofs.Taking.{walk_is}
 use Rattle.desk_parts.proofs.WalkPlaces.{walking_at}
-use Rattle.desk_work.specs.LaidTiles.{Laid, laid, laid_as, laid_all, lacking, pairs_on, Lays, LaysFront}
-use Rattle.desk_work.specs.OfWalk.{IsOfWalk}
-use Rattle.desk_machine.specs.Commits.{MayCommitWalk, RunsFront, lacking_in, pair_events, commit_walk_events}
-use Rattle.desk_machine.proofs.PairRuns.{IsRun, all_pairs, own_on, next_lacking, front_next, walk_run}
+use Rattle.desk_work.specs.LaidTiles.{Laid, laid, laid_as, laid_all, lacking, pairs_at, pairs_on, Lays, LaysFront}
+use Rattle.desk_work.specs.OfWalk.{IsOfWalk, IsRowOfWalk}
+use Rattle.desk_machine.specs.Commits.{MayCommitWalk, MayPublishRow, RunsFront, lacking_in, lacking_at, pair_events, row_events, commit_walk_events}
+use Rattle.desk_machine.proofs.PairRuns.{IsRun, all_pairs, own_on, own_at, next_lacking, front_next, walk_run}
 
 -- ---- the walk in the slot
 
@@ -47,6 +47,16 @@ module _ (d : Parts) (place serial : ℕ) (w : Walker) (c : Composition) (h : wo
 
   pub walk_of : MayCommitWalk (state_of d) place serial c → IsOfWalk w.inputs c
   walk_of m = subst (λ (q : state.Walker). IsOfWalk (readings q.patch q.shot) c) (sym (walk_is d place w m.walker h m.runs)) m.of
+
+module _ (d : Parts) (place serial : ℕ) (w : Walker) (c : Composition) (key : Key) (h : work_at place d.slots ≡ Some (work.Walk w)) where
+  pub row_may : IsDesk d → w.serial ≡ serial → IsRowOfWalk w.inputs c key → MayPublishRow (state_of d) place serial c key
+  row_may desk drawn of = record { walker = walker_of w; runs = held d place _ (walking_at d.slots place w desk.slots h); drawn = drawn; of = of }
+
+  pub row_drawn : MayPublishRow (state_of d) place serial c key → w.serial ≡ serial
+  row_drawn m = ap (λ (q : state.Walker). q.serial) (walk_is d place w m.walker h m.runs) ∙ m.drawn
+
+  pub row_of : MayPublishRow (state_of d) place serial c key → IsRowOfWalk w.inputs c key
+  row_of m = subst (λ (q : state.Walker). IsRowOfWalk (readings q.patch q.shot) c key) (sym (walk_is d place w m.walker h m.runs)) m.of
 
 -- ---- all pairs are published afterwards
 
@@ -122,3 +132,45 @@ whole_at {A = A} {E = E} d place w pairs r caches slots desk h laid_ok front fil
         (sym (all_pairs (λ (p : ℕ × Key). list_any (same_pair p.0 p.1) pairs) (path_in w.inputs) (keys_of w.inputs.patch.rect))
         ∙ ap (λ (l : Laid). list_all (λ (p : ℕ × Key). list_any (same_pair p.0 p.1) l.published) own) told
         ∙ all_laid w.inputs own (laid_as d.caches w.published))
+
+-- ---- a tile of it
+
+first_events : (place : ℕ) (front rest : List (ℕ × Key)) → take (length front) (pair_events place (front ++ rest)) ≡ pair_events place front
+first_events place [] rest = refl
+first_events place (p ∷ front) rest = ap (λ fs. WalkPublish place p.0 p.1 ∷ fs) (first_events place front rest)
+
+-- the desk after a walk laid a tile of the groups of which it lacked it, or of some of them
+pub record IsRowAt {A E : Type 0} (d new : Parts) (place : ℕ) (key : Key) (r : Result A E) : Type 0 where
+  pub desk : IsDesk new
+  pub all : OnOk r (Run (state_of d) (row_events (state_of d) place key) (state_of new))
+  pub front : RunsFront (state_of d) (row_events (state_of d) place key) (state_of new)
+
+pub row_at : {A E : Type 0} (d : Parts) (place : ℕ) (w : Walker) (key : Key) (pairs : List (ℕ × Key)) (r : Result A E) (caches : FinMap nat_cmp Layer) (slots : List (Option (Busy Work))) → IsDesk d → work_at place d.slots ≡ Some (work.Walk w)
+    → list_any (same_key key) (keys_of w.inputs.patch.rect) ≡ true
+    → OnOk r (Lays w.inputs (pairs_at (path_in w.inputs) key) (laid_as d.caches w.published) (laid_as caches pairs)) → LaysFront w.inputs (pairs_at (path_in w.inputs) key) (laid_as d.caches w.published) (laid_as caches pairs)
+    → slots ≡ slice_set (slice_set d.slots place None) place (Some (busy_walker (record w { published = pairs }))) → IsRowAt d (record d { caches = caches; slots = slots }) place key r
+row_at {A = A} {E = E} d place w key pairs r caches slots desk h in_patch laid_ok front filled = record {
+  desk = front_run.desk;
+  all = go r laid_ok;
+  front = record {
+    count = length front.front;
+    run = subst (λ es. Run (state_of d) es (state_of new)) (sym (first_events place front.front front.rest) ∙ ap (λ ps. take (length front.front) (pair_events place ps)) (front.are ∙ sym lacks)) front_run.run;
+  };
+}
+  where
+    own : List (ℕ × Key)
+    own = pairs_at (path_in w.inputs) key
+
+    new : Parts
+    new = record d { caches = caches; slots = slots }
+
+    lacks : lacking_at (slice_get (state_of d).slots place) key ≡ lacking w.published own
+    lacks = ap (λ s. lacking_at s key) (held d place _ (walking_at d.slots place w desk.slots h))
+
+    front_run : IsRun d new (pair_events place front.front)
+    front_run = walk_run d place w (record w { published = pairs }) front.front caches slots desk h (front_next w.inputs w.published own front.front front.rest (own_at w.inputs key in_patch) front.are) front.lays refl filled
+
+    go : (o : Result A E) → OnOk o (Lays w.inputs own (laid_as d.caches w.published) (laid_as caches pairs)) → OnOk o (Run (state_of d) (row_events (state_of d) place key) (state_of new))
+    go (Err x) told = tt
+    go (Ok x) told = subst (λ ps. Run (state_of d) (pair_events place ps) (state_of new)) (sym lacks)
+        (walk_run d place w (record w { published = pairs }) (lacking w.published own) caches slots desk h (next_lacking w.inputs w.published own (own_at w.inputs key in_patch)) told refl filled).run

@@ -10,8 +10,8 @@ use Rattle.machine_model.specs.Step.{Run}
 use Rattle.walker_core.specs.Readings.{readings}
 use Rattle.walker_core.specs.Composing.{Composition}
 use Rattle.desk_work.specs.Lacking.{IsOfJob, AreLacking}
-use Rattle.desk_work.specs.LaidTiles.{lacking, pairs_on}
-use Rattle.desk_work.specs.OfWalk.{IsOfWalk}
+use Rattle.desk_work.specs.LaidTiles.{lacking, pairs_at, pairs_on}
+use Rattle.desk_work.specs.OfWalk.{IsOfWalk, IsRowOfWalk}
 
 -- the job with that serial is at work in the slot, and the tiles are just those that it lacks, made of it and from the pixels that it was started with
 pub record MayCommit (s : State) (place serial : ℕ) (tiles : List Entire) : Type 0 where
@@ -53,3 +53,19 @@ pair_events place (p ∷ ps) = WalkPublish place p.0 p.1 ∷ pair_events place p
 -- it publishes all pairs that it lacks, and ends
 abbrev pub commit_walk_events : State → ℕ → List Event
 commit_walk_events s place = pair_events place (lacking_in (slice_get s.slots place)) ++ WalkEnd place ∷ []
+
+-- the walk with that serial is at work in the slot, its patch has points in the tile, and all its groups were composed there, of the same as the walk reads
+pub record MayPublishRow (s : State) (place serial : ℕ) (c : Composition) (key : Key) : Type 0 where
+  pub walker : Walker
+  pub runs : slice_get s.slots place ≡ Some (Walks walker)
+  pub drawn : walker.serial ≡ serial
+  pub of : IsRowOfWalk (readings walker.patch walker.shot) c key
+
+-- the pairs of a group and that tile that the walk in a slot hasn't published, in the order of its path
+abbrev pub lacking_at : Option Slot → Key → List (ℕ × Key)
+lacking_at (Some (Walks w)) key = lacking w.published (pairs_at (map (λ (e : ℕ × List Child). e.0) w.shot) key)
+lacking_at slot key = []
+
+-- it publishes those
+abbrev pub row_events : State → ℕ → Key → List Event
+row_events s place key = pair_events place (lacking_at (slice_get s.slots place) key)

@@ -11,6 +11,7 @@ mod laying;
 mod machine;
 mod own_work;
 mod readers;
+mod rows;
 mod stroke_events;
 mod tickets;
 mod walks;

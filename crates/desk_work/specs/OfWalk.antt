@@ -11,6 +11,11 @@ pub record IsOfWalkAt (r : Readings) (c : Composition) (key : Key) : Type 0 wher
   pub same : ReadTheSame r c.readings key
   pub all : list_all (λ g. has_pair c g key) (path_in r) ≡ true
 
+-- the same, and the walk's patch has points in the tile
+pub record IsRowOfWalk (r : Readings) (c : Composition) (key : Key) : Type 0 where
+  pub in_patch : list_any (same_key key) (keys_of r.patch.rect) ≡ true
+  pub of : IsOfWalkAt r c key
+
 -- they were on each tile that the patch meets
 abbrev pub IsOfWalk : Readings → Composition → Type 0
 IsOfWalk r c = (key : Key) → list_any (same_key key) (keys_of r.patch.rect) ≡ true → IsOfWalkAt r c key

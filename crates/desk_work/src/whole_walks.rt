@@ -6,9 +6,9 @@ ghost use Rattle.geom_core.specs.Grid.{IsWorldKey, keys_of};
 ghost use Rattle.walker_core.specs.Readings.{path_in};
 ghost use Rattle.walker_core.specs.Composing.{has_pair};
 ghost use Rattle.desk_work.specs.LaidTiles.{Lays, LaysFront, laid_as, pairs_at, pairs_on};
-ghost use Rattle.desk_work.specs.OfWalk.{IsOfWalk, IsOfWalkAt};
+ghost use Rattle.desk_work.specs.OfWalk.{IsOfWalk, IsOfWalkAt, IsRowOfWalk};
 
-use crate::walking::lay_composed;
+use crate::walking::{is_tile_of, lay_composed};
 use desk_parts::{Newest, has_pair as was_published};
 use geom_core::{NoMemory, TileKey};
 use group_caches::Caches;
@@ -29,7 +29,16 @@ pub fn is_of_walk(inputs: &Inputs, composed: &Composed<'_>) -> bool
     true
 }
 
-/// The same on one tile.
+/// Whether a walk's patch has points in the tile, and all its groups were composed there, of the same as the
+/// walk reads there. No memory.
+pub fn is_row_of_walk(inputs: &Inputs, composed: &Composed<'_>, key: TileKey) -> bool
+    ensures some { result ≡ true → IsRowOfWalk inputs.now composed.now key }
+    ensures none { result ≡ false → IsRowOfWalk inputs.now composed.now key → ⊥ }
+{
+    is_tile_of(&inputs.patch().rect, key) && is_of_walk_at(inputs, composed, key)
+}
+
+/// Whether all groups of a walk were composed on the tile, of the same as the walk reads there.
 fn is_of_walk_at(inputs: &Inputs, composed: &Composed<'_>, key: TileKey) -> bool
     requires { IsWorldKey key }
     ensures some { result ≡ true → IsOfWalkAt inputs.now composed.now key }
@@ -67,9 +76,28 @@ pub fn lay_walk(
 {
     let rect = inputs.patch().rect;
     for i in 0..rect.tile_count() {
-        lay_groups(caches, published, composed, inputs.path(), rect.tile_at(i))?;
+        lay_row(caches, published, composed, inputs, rect.tile_at(i))?;
     }
     Ok(())
+}
+
+/// Lays what a walk composed on a tile on the cache of each of its groups of which it isn't published.
+///
+/// # Errors
+/// `NoMemory`; it is laid of some of the groups, from the first on.
+pub fn lay_row(
+    caches: &mut Caches,
+    published: &mut Newest<(u16, TileKey)>,
+    composed: &Composed<'_>,
+    inputs: &Inputs,
+    key: TileKey,
+) -> Result<(), NoMemory>
+    requires of { IsOfWalkAt inputs.now composed.now key }
+    requires world { IsWorldKey key }
+    ensures all { OnOk result (Lays inputs.now (pairs_at (path_in inputs.now) key) (laid_as caches.old published.old) (laid_as caches.new published.new)) }
+    ensures front { LaysFront inputs.now (pairs_at (path_in inputs.now) key) (laid_as caches.old published.old) (laid_as caches.new published.new) }
+{
+    lay_groups(caches, published, composed, inputs.path(), key)
 }
 
 /// Lays what was composed on a tile on the cache of each of the groups of which it isn't published.

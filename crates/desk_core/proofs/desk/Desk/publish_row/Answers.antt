@@ -1,0 +1,24 @@
+use Rattle.desk_parts.proofs.SettlingRuns.{canvas_stays, fed_stays}
+use Rattle.desk_core.proofs.Committing.{row_front_settles, row_settles}
+use Rattle.desk_core.proofs.desk.Desk.publish_row.Goals as goal
+
+pub lay_walked_row-requires : goal.lay_walked_row-requires
+lay_walked_row-requires c = c.may_publish_row.ensures.some c.if-not-may_publish_row.false
+
+pub returns-in_err-lay_walked_row-clause-runs : goal.returns-in_err-lay_walked_row-clause-runs
+returns-in_err-lay_walked_row-clause-runs c = rw (← c.self.view_is) (row_front_settles c.args.slot.place c.args.key c.self.inside.machine c.lay_walked_row.new.self c.lay_walked_row.ensures.front)
+
+pub returns-in_err-lay_walked_row-clause-canvas : goal.returns-in_err-lay_walked_row-clause-canvas
+returns-in_err-lay_walked_row-clause-canvas c = rw (← c.self.view_is) (canvas_stays (row_front_settles c.args.slot.place c.args.key c.self.inside.machine c.lay_walked_row.new.self c.lay_walked_row.ensures.front))
+
+pub returns-in_err-lay_walked_row-clause-fed : goal.returns-in_err-lay_walked_row-clause-fed
+returns-in_err-lay_walked_row-clause-fed c = rw (← c.self.view_is) (fed_stays (row_front_settles c.args.slot.place c.args.key c.self.inside.machine c.lay_walked_row.new.self c.lay_walked_row.ensures.front))
+
+pub returns-clause-runs : goal.returns-clause-runs
+returns-clause-runs c = rw (← c.self.view_is) (row_settles c.args.slot.place c.args.key c.self.inside.machine c.lay_walked_row.new.self c.in_ok-lay_walked_row.ensures.all)
+
+pub returns-clause-canvas : goal.returns-clause-canvas
+returns-clause-canvas c = rw (← c.self.view_is) (canvas_stays (row_settles c.args.slot.place c.args.key c.self.inside.machine c.lay_walked_row.new.self c.in_ok-lay_walked_row.ensures.all))
+
+pub returns-clause-fed : goal.returns-clause-fed
+returns-clause-fed c = rw (← c.self.view_is) (fed_stays (row_settles c.args.slot.place c.args.key c.self.inside.machine c.lay_walked_row.new.self c.in_ok-lay_walked_row.ensures.all))

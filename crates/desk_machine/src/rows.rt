@@ -1,0 +1,61 @@
+//! A tile of a walk that was composed outside is laid of all its groups.
+
+ghost use Rattle.std.specs.Prelude.{◌≡◌, true, false, OnOk};
+ghost use Rattle.machine_model.specs.Step.{Run};
+ghost use Rattle.desk_machine.specs.Commits.{MayPublishRow, RunsFront, row_events};
+
+use crate::machine::Machine;
+use crate::tickets::SlotId;
+use desk_parts::Work;
+use desk_work::{is_row_of_walk, lay_row};
+use geom_core::{NoMemory, TileKey};
+use walker_core::Composed;
+
+impl Machine {
+    /// Whether the walk with that serial is at work in the slot, its patch has points in the tile, and all its
+    /// groups were composed there, of the same as the walk reads. No memory.
+    pub fn may_publish_row(&self, slot: SlotId, composed: &Composed<'_>, key: TileKey) -> bool
+        ensures some { result ≡ true → MayPublishRow self.now slot.place slot.serial composed.now key }
+        ensures none { result ≡ false → MayPublishRow self.now slot.place slot.serial composed.now key → ⊥ }
+    {
+        match self.slots.work(slot.place) {
+            Some(Work::Walk(walker)) => {
+                walker.serial == slot.serial && is_row_of_walk(&walker.inputs, composed, key)
+            }
+            Some(Work::Paint(_)) => false,
+            None => false,
+        }
+    }
+
+    /// Publishes the tile of each group of which the walk in a slot hasn't published it.
+    ///
+    /// # Errors
+    /// `NoMemory`; it is published of some of the groups, from the first on.
+    pub fn lay_walked_row(
+        &mut self,
+        slot: SlotId,
+        composed: &Composed<'_>,
+        key: TileKey,
+    ) -> Result<(), NoMemory>
+        requires { MayPublishRow self.old slot.place slot.serial composed.now key }
+        ensures all { OnOk result (Run self.old (row_events self.old slot.place key) self.new) }
+        ensures front { RunsFront self.old (row_events self.old slot.place key) self.new }
+    {
+        match self.slots.clear(slot.place) {
+            Some(Work::Walk(mut walker)) => {
+                let rect = walker.inputs.patch().rect;
+                let laid = lay_row(
+                    &mut self.caches,
+                    &mut walker.published,
+                    composed,
+                    &walker.inputs,
+                    key,
+                );
+                self.slots.put(slot.place, Work::Walk(walker), Some(rect));
+                laid
+            }
+            Some(Work::Paint(_)) => unreachable!(),
+            None => unreachable!(),
+        }
+    }
+}
