@@ -2,6 +2,7 @@ use Rattle.std.proofs.Common.{◌≡◌, true, sym, subst}
 use Rattle.std.specs.List.{list_all}
 use Rattle.walker_core.specs.Readings.{path_in}
 use Rattle.walker_core.specs.Composing.{has_pair}
+use Rattle.desk_steps.proofs.Devices.{more_ok}
 use Rattle.desk_work.specs.LaidTiles.{Lays, LaysFront, laid_as, pairs_at}
 use Rattle.desk_work.proofs.PairsLaid.{same_lays, same_lays_front}
 use Rattle.desk_work.proofs.whole_walks.lay_row.Goals as goal
@@ -14,4 +15,7 @@ returns-clause-front c = same_lays_front c.args.inputs.now c.args.composed.now.r
     (subst (λ gs. LaysFront c.args.composed.now.readings (pairs_at gs c.args.key) (laid_as c.args.caches.now c.args.published.now) (laid_as c.lay_groups.new.caches c.lay_groups.new.published)) c.path.ensures c.lay_groups.ensures.front)
 
 pub returns-clause-all : goal.returns-clause-all
-returns-clause-all c = ?
+returns-clause-all c = more_ok c.lay_groups.result
+    (λ all. same_lays c.args.inputs.now c.args.composed.now.readings c.args.key (path_in c.args.inputs.now) _ _ c.requires.of.same
+      (subst (λ gs. Lays c.args.composed.now.readings (pairs_at gs c.args.key) (laid_as c.args.caches.now c.args.published.now) (laid_as c.lay_groups.new.caches c.lay_groups.new.published)) c.path.ensures all))
+    c.lay_groups.ensures.all
