@@ -1,7 +1,7 @@
 -- What was composed, beside the walk that is to be published by it.
 use Rattle.std.specs.Prelude.{◌≡◌, true}
 use Rattle.std.specs.List.{list_any, list_all}
-use Rattle.geom_core.specs.Grid.{Key, same_key, keys_of}
+use Rattle.geom_core.specs.Grid.{Key, IsWorldKey, same_key, keys_of}
 use Rattle.walker_core.specs.Readings.{Readings, path_in}
 use Rattle.walker_core.specs.Sameness.{ReadTheSame}
 use Rattle.walker_core.specs.Composing.{Composition, has_pair}
@@ -11,8 +11,9 @@ pub record IsOfWalkAt (r : Readings) (c : Composition) (key : Key) : Type 0 wher
   pub same : ReadTheSame r c.readings key
   pub all : list_all (λ g. has_pair c g key) (path_in r) ≡ true
 
--- the same, and the walk's patch has points in the tile
+-- the same, and the walk's patch has points in the tile, which lies in the world
 pub record IsRowOfWalk (r : Readings) (c : Composition) (key : Key) : Type 0 where
+  pub world : IsWorldKey key
   pub in_patch : list_any (same_key key) (keys_of r.patch.rect) ≡ true
   pub of : IsOfWalkAt r c key
 

@@ -15,6 +15,9 @@ use Rattle.desk_machine.proofs.machine.Machine.lay_walked_row.Goals as goal
 pub lay_row-laid-requires-clause-of : goal.lay_row-laid-requires-clause-of
 lay_row-laid-requires-clause-of c = (row_of (parts c.self.inside.canvas c.self.inside.fed.items c.self.inside.queue c.self.inside.store c.self.inside.caches c.self.inside.updates c.self.inside.slots c.self.inside.frames.items c.self.inside.way c.self.inside.next) c.args.slot.place c.args.slot.serial c.in-Some-Walk.walker c.args.composed.now c.args.key (sym c.clear.ensures.work ∙ c.in-Some-Walk.is ∙ ap Some c.in-Some-Walk.field-0-is) (subst (λ s. MayPublishRow s c.args.slot.place c.args.slot.serial c.args.composed.now c.args.key) (sym c.self.view_is) c.requires)).of
 
+pub lay_row-laid-requires-clause-world : goal.lay_row-laid-requires-clause-world
+lay_row-laid-requires-clause-world c = (row_of (parts c.self.inside.canvas c.self.inside.fed.items c.self.inside.queue c.self.inside.store c.self.inside.caches c.self.inside.updates c.self.inside.slots c.self.inside.frames.items c.self.inside.way c.self.inside.next) c.args.slot.place c.args.slot.serial c.in-Some-Walk.walker c.args.composed.now c.args.key (sym c.clear.ensures.work ∙ c.in-Some-Walk.is ∙ ap Some c.in-Some-Walk.field-0-is) (subst (λ s. MayPublishRow s c.args.slot.place c.args.slot.serial c.args.composed.now c.args.key) (sym c.self.view_is) c.requires)).world
+
 pub put-requires : goal.put-requires
 put-requires c = rw c.clear.ensures.left (get_set c.self.inside.slots c.args.slot.place _ None (walking_at c.self.inside.slots c.args.slot.place c.in-Some-Walk.walker c.self.invariant.slots (sym c.clear.ensures.work ∙ c.in-Some-Walk.is ∙ ap Some c.in-Some-Walk.field-0-is)))
 
