@@ -1,0 +1,109 @@
+#!/bin/sh
+# Refuses each growth of memory in turn, in runs of worked scripts without workers and with two, and tells how they ended.
+# No gate calls it.
+#
+# By a small library of its own over the C library's allocator each growth alone is refused, then each and all after it,
+# and then each second, third, tenth and thirty-seventh. (`rt try --fail-alloc N` refuses one, and builds anew for each N.)
+#
+# Each run is to end with code 6, one line that says so and nothing written, or with the script's whole output, within
+# 20 seconds. PROGRAM is the program, by default crates/strokes/out/strokes. The status is 1 where a run did otherwise.
+here=$(cd "$(dirname "$0")/.." && pwd) || exit 70
+program=${PROGRAM:-$here/crates/strokes/out/strokes}
+tmp=$(mktemp -d) || exit 70
+trap 'rm -rf "$tmp"' EXIT
+status=0
+
+# A stroke that is undone, one that is cancelled after three jobs, and a redo; a stroke that is undone and redone between
+# exports; a group that is removed and comes back.
+printf 'canvas 3 1\nlayer 1 0 0\nstroke 1 1\nfill 1 seq 0 0 3 1 ff0000ff over 255\nend 1\nundo\nstroke 2 1\nfill 2 con 0 0 1 1 00ff00ff over 255\nfill 2 con 1 0 1 1 00ff00ff over 255\nfill 2 con 2 0 1 1 00ff00ff over 255\ncancel 2\nredo\nexport\n' >"$tmp/cancelled"
+printf 'canvas 1 1\nlayer 1 0 0\nstroke 1 1\nfill 1 seq 0 0 1 1 ff0000ff over 255\nend 1\nexport\nundo\nexport\nredo\nexport\n' >"$tmp/undone"
+printf 'canvas 1 1\ngroup 1 0 0\nlayer 2 1 0\nlook 1 77 over on\nstroke 1 2\nfill 1 seq 0 0 1 1 000000ff over 255\nend 1\nremove 1\nexport\nundo\nexport\n' >"$tmp/removed"
+# One of them in larger: several threads paint a job, and walks wait beside it.
+{
+    printf 'canvas 700 500\ngroup 1 0 0\nlayer 2 1 0\nlayer 3 0 0 2040ff80\nstroke 1 2\n'
+    printf 'fill 1 con %s 0 200 500 ff0000c0 over 255\n' 0 200 400
+    printf 'blur 1 bar 20 20 600 400 5\nmove 1 seq 0 0 300 300 200 100\nend 1\nexport\nstroke 2 3\n'
+    printf 'dab 2 con %s 200 60 soft 00ff00ff over 255\n' 100 300 500
+    printf 'cancel 2\nundo\nexport\nredo\nremove 1\nundo\nexport\n'
+} >"$tmp/large"
+
+# Counts the calls that ask for memory, and refuses those that FAIL_AT, FAIL_FROM or FAIL_EACH names.
+shim() {
+    cat >"$tmp/shim.c" <<'C'
+#define _GNU_SOURCE
+#include <errno.h>
+#include <stdatomic.h>
+#include <stdlib.h>
+void *__libc_malloc(size_t), *__libc_calloc(size_t, size_t), *__libc_realloc(void *, size_t), *__libc_memalign(size_t, size_t);
+static atomic_long calls;
+static long at, from, each;
+static long number(const char *name) { const char *s = getenv(name); return s ? atol(s) : 0; }
+__attribute__((constructor)) static void begin(void) {
+    at = number("FAIL_AT"), from = number("FAIL_FROM"), each = number("FAIL_EACH");
+    atomic_store(&calls, 0);
+}
+static int fails(void) {
+    long n = atomic_fetch_add(&calls, 1) + 1;
+    int no = n == at || (from && n >= from) || (each && n % each == 0);
+    if (no) errno = ENOMEM;
+    return no;
+}
+void *malloc(size_t n) { return fails() ? 0 : __libc_malloc(n); }
+void *calloc(size_t m, size_t n) { return fails() ? 0 : __libc_calloc(m, n); }
+void *realloc(void *p, size_t n) { return n && fails() ? 0 : __libc_realloc(p, n); }
+void *memalign(size_t a, size_t n) { return fails() ? 0 : __libc_memalign(a, n); }
+void *aligned_alloc(size_t a, size_t n) { return fails() ? 0 : __libc_memalign(a, n); }
+int posix_memalign(void **p, size_t a, size_t n) { if (fails()) return ENOMEM; *p = __libc_memalign(a, n); return *p ? 0 : ENOMEM; }
+C
+    cc -O1 -shared -fPIC -o "$tmp/shim.so" "$tmp/shim.c" || exit 70
+}
+
+# ended WHAT SCRIPT: whether the last run ended as it should.
+ended() {
+    runs=$((runs + 1))
+    case $code in
+    0) if cmp -s "$tmp/out" "$tmp/right"; then whole=$((whole + 1)); return; fi ;;
+    6) if [ ! -s "$tmp/out" ] && [ "$(cat "$tmp/err")" = 'strokes: out of memory' ]; then none=$((none + 1)); return; fi ;;
+    esac
+    status=1
+    echo "ODD $1 of $2: code $code, $(wc -c <"$tmp/out") bytes, told: $(head -c 200 "$tmp/err")"
+}
+
+# refusing NAME=N WORKERS SCRIPT WORDS..: one run in which that is refused.
+refusing() {
+    which=$1 workers=$2 file=$3
+    shift 3
+    env "$which" LD_PRELOAD="$tmp/shim.so" timeout 20 "$program" --workers "$workers" "$@" <"$file" >"$tmp/out" 2>"$tmp/err"
+    code=$?
+    ended "$which, $workers workers" "$(basename "$file") $*"
+}
+
+built() {
+    [ -x "$program" ] || { echo "fail-alloc: $program isn't there" >&2; exit 70; }
+    shim
+    for file in "$tmp/cancelled" "$tmp/undone" "$tmp/removed" "$tmp/large"; do
+        step=1
+        [ "$file" != "$tmp/large" ] || step=7
+        for emit in picture log; do
+            "$program" --workers 0 --emit $emit <"$file" >"$tmp/right"
+            for workers in 0 2; do
+                # until thirty in a row have the whole output: then there are no more growths to refuse
+                runs=0 whole=0 none=0 n=1 row=0
+                while [ $row -lt 30 ]; do
+                    before=$whole
+                    refusing FAIL_AT=$n $workers "$file" --emit $emit
+                    refusing FAIL_FROM=$n $workers "$file" --emit $emit
+                    if [ $whole -eq $((before + 2)) ]; then row=$((row + 1)); else row=0; fi
+                    n=$((n + step))
+                done
+                for each in 2 3 10 37; do
+                    refusing FAIL_EACH=$each $workers "$file" --emit $emit
+                done
+                echo "$(basename "$file") as $emit with $workers workers: growths up to some $((n - 30 * step)), of which each ${step}th was refused: $runs runs, $none ended with code 6, $whole with the whole output"
+            done
+        done
+    done
+}
+
+built
+exit $status
