@@ -144,7 +144,8 @@ impl<'s, 'g, 'w, J: Following, G: Gate, W: Watching> Crew<'s, 'g, 'w, J, G, W> {
         };
         let mut board = self.board.lock(rt);
         board.put_walk(walk.slot, &composed);
-        self.watch.composed(rt, board.desk(), &walk.inputs.patch().rect);
+        self.watch
+            .composed(rt, board.desk(), &walk.inputs.patch().rect);
         self.next(rt, board, steps)
     }
 
@@ -208,13 +209,7 @@ impl<'s, 'g, 'w, J: Following, G: Gate, W: Watching> Crew<'s, 'g, 'w, J, G, W> {
 }
 
 /// So many threads and the caller work until nothing is left to be done.
-fn together<
-    J: Following + Send + Sync,
-    L: Ledger,
-    R: Threads + Wait + Sync,
-    G: Gate,
-    W: Watching,
->(
+fn together<J: Following + Send + Sync, L: Ledger, R: Threads + Wait + Sync, G: Gate, W: Watching>(
     rt: &R,
     alloc: Global,
     crew: &Crew<'_, '_, '_, J, G, W>,
@@ -232,13 +227,7 @@ fn together<
 }
 
 /// The caller works on the desk, with so many threads from the first work on that is worth it.
-fn with_crew<
-    J: Following + Send + Sync,
-    L: Ledger,
-    R: Threads + Wait + Sync,
-    G: Gate,
-    W: Watching,
->(
+fn with_crew<J: Following + Send + Sync, L: Ledger, R: Threads + Wait + Sync, G: Gate, W: Watching>(
     rt: &R,
     alloc: Global,
     script: &Script,
@@ -333,8 +322,9 @@ fn run_on<L: Ledger, R: Threads + Wait + Sync, G: Gate, W: Watching>(
 {
     let mut steps = Steps::<L>::new(blank);
     let desk = new_desk(alloc, script, workers + 1)?;
-    let mut desk =
-        with_crew::<Brand, L, R, G, W>(rt, alloc, script, workers, gate, watch, desk, &mut steps);
+    let mut desk = with_crew::<Brand, L, R, G, W>(
+        rt, alloc, script, workers, gate, watch, desk, &mut steps,
+    );
     finish(&mut desk, script, &mut steps)?;
     Ok(desk)
 }

@@ -38,12 +38,7 @@ pub(crate) fn show<R: Wait>(
 }
 
 /// Puts each tile of the rectangle as the root's cache has it.
-fn put_root(
-    live: &mut LiveWriter,
-    blank: &Tile,
-    desk: &Desk,
-    rect: &Rect,
-) -> Result<(), NoMemory>
+fn put_root(live: &mut LiveWriter, blank: &Tile, desk: &Desk, rect: &Rect) -> Result<(), NoMemory>
     requires { blank.now ≡ replicate 4096 clear }
     ensures { OnOk result (ShowsTiles (all_updates live.new) desk.now (keys_of rect.now)) }
 {
@@ -54,12 +49,7 @@ fn put_root(
 }
 
 /// Puts a tile as the root's cache has it.
-fn put_tile(
-    live: &mut LiveWriter,
-    blank: &Tile,
-    desk: &Desk,
-    key: TileKey,
-) -> Result<(), NoMemory>
+fn put_tile(live: &mut LiveWriter, blank: &Tile, desk: &Desk, key: TileKey) -> Result<(), NoMemory>
     requires { blank.now ≡ replicate 4096 clear }
     ensures { OnOk result (PutsRoot (all_updates live.old) (all_updates live.new) desk.now key) }
 {

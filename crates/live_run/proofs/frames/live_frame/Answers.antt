@@ -43,7 +43,7 @@ loop-i-preserved c =
     let area_is : c.rect-shown.result ≡ canvas_area c.args.desk.now.canvas = c.rect-shown.ensures ∙ ap canvas_area c.canvas-canvas.ensures in
     record {
       drawn = drawn_more c.args.desk.now.caches c.args.desk.now.canvas c.loop-i.i c.tile_at.result c.loop-i.frame c.put_seen.new.frame c.requires.limits
-      (ap (λ (a : Area). slice_get (keys_of a) c.loop-i.i) (sym area_is) ∙ c.tile_at.ensures.value) c.loop-i.invariant.drawn c.in_ok-put_seen.ensures.ok;
+          (ap (λ (a : Area). slice_get (keys_of a) c.loop-i.i) (sym area_is) ∙ c.tile_at.ensures.value) c.loop-i.invariant.drawn c.in_ok-put_seen.ensures.ok;
       kept = c.put_seen.ensures.kept ∙ c.loop-i.invariant.kept;
     }
 
