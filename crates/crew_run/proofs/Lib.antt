@@ -1,3 +1,3 @@
 mod Fronts
 mod Kept
-mod ShownScripts
+pub mod ShownScripts

@@ -108,6 +108,11 @@ impl<J: Following> Board<J> {
     }
 
     /// The desk.
+    pub(crate) fn desk(&self) -> &Desk {
+        &self.desk
+    }
+
+    /// The desk on its own.
     pub(crate) fn into_desk(self) -> Desk
         ensures canvas { result.canvas ≡ J.script.canvas }
         ensures front { IsFront result.fed J.script.commands }

@@ -6,6 +6,7 @@ ghost use Rattle.crew_run.specs.Front.{IsFront};
 
 use crate::board::{Board, Brought, Following, Next, Part};
 use crate::feeding::finish;
+use crate::watching::{Unwatched, Watching};
 use crate::work::{Rows, TakenJob, Tiles, Work};
 use desk_core::Desk;
 use geom_core::NoMemory;
@@ -22,15 +23,16 @@ use whole_tiles::Whole;
 
 /// What the threads share.
 #[derive(Drop)]
-struct Crew<'s, 'g, J: Following, G> {
+struct Crew<'s, 'g, 'w, J: Following, G, W> {
     script: &'s Script,
     gate: &'g G,
+    watch: &'w W,
     board: Mutex<Board<J>>,
     changed: Condvar,
     ghost script_is: { script.now ≡ J.script },
 }
 
-impl<'s, 'g, J: Following, G: Gate> Crew<'s, 'g, J, G> {
+impl<'s, 'g, 'w, J: Following, G: Gate, W: Watching> Crew<'s, 'g, 'w, J, G, W> {
     /// The first work of a thread.
     fn first<L: Ledger, R: Wait>(&self, rt: &R, steps: &mut Steps<L>) -> Option<Part> {
         self.next(rt, self.board.lock(rt), steps)
@@ -128,7 +130,7 @@ impl<'s, 'g, J: Following, G: Gate> Crew<'s, 'g, J, G> {
         self.next(rt, board, steps)
     }
 
-    /// Composes tiles of a walk, and publishes them in one hold.
+    /// Composes tiles of a walk, publishes them in one hold, and tells who watches.
     fn compose<L: Ledger, R: Wait>(
         &self,
         rt: &R,
@@ -141,6 +143,7 @@ impl<'s, 'g, J: Following, G: Gate> Crew<'s, 'g, J, G> {
         };
         let mut board = self.board.lock(rt);
         board.put_rows(rows, &composed);
+        self.watch.composed(rt, board.desk(), &rows.bound());
         self.next(rt, board, steps)
     }
 
@@ -204,10 +207,10 @@ impl<'s, 'g, J: Following, G: Gate> Crew<'s, 'g, J, G> {
 }
 
 /// So many threads and the caller work until nothing is left to be done.
-fn together<J: Following + Send + Sync, L: Ledger, R: Threads + Wait + Sync, G: Gate>(
+fn together<J: Following + Send + Sync, L: Ledger, R: Threads + Wait + Sync, G: Gate, W: Watching>(
     rt: &R,
     alloc: Global,
-    crew: &Crew<'_, '_, J, G>,
+    crew: &Crew<'_, '_, '_, J, G, W>,
     workers: u8,
     part: Part,
     steps: &mut Steps<L>,
@@ -222,12 +225,13 @@ fn together<J: Following + Send + Sync, L: Ledger, R: Threads + Wait + Sync, G: 
 }
 
 /// The caller works on the desk, with so many threads from the first work on that is worth it.
-fn with_crew<J: Following + Send + Sync, L: Ledger, R: Threads + Wait + Sync, G: Gate>(
+fn with_crew<J: Following + Send + Sync, L: Ledger, R: Threads + Wait + Sync, G: Gate, W: Watching>(
     rt: &R,
     alloc: Global,
     script: &Script,
     workers: u8,
     gate: &G,
+    watch: &W,
     desk: Desk,
     steps: &mut Steps<L>,
 ) -> Desk
@@ -238,9 +242,10 @@ fn with_crew<J: Following + Send + Sync, L: Ledger, R: Threads + Wait + Sync, G:
     ensures canvas { result.canvas ≡ J.script.canvas }
     ensures front { IsFront result.fed J.script.commands }
 {
-    let crew: Crew<'_, '_, J, G> = Crew {
+    let crew: Crew<'_, '_, '_, J, G, W> = Crew {
         script,
         gate,
+        watch,
         board: Mutex::new(Board::new(alloc, desk, usize::from(workers) + 1)),
         changed: Condvar::new(),
     };
@@ -269,16 +274,39 @@ pub fn run_crew<R: Threads + Wait + Sync, G: Gate>(
     ensures canvas { IfOk result (λ d. d.canvas ≡ script.now.canvas) }
     ensures fed { IfOk result (λ d. d.fed ≡ script.now.commands) }
 {
-    run_on::<Brand, R, G>(rt, alloc, script, workers, gate, Blank::new(1))
+    run_watched(rt, alloc, script, workers, gate, &Unwatched)
 }
 
-/// The same, with the caller's steps on that ledger.
-fn run_on<L: Ledger, R: Threads + Wait + Sync, G: Gate>(
+/// The same, with somebody who watches: after each walk that the crew composes it is told where the root's
+/// cache may be new. What the caller composes at the end isn't told.
+///
+/// # Errors
+/// `NoMemory`.
+pub fn run_watched<R: Threads + Wait + Sync, G: Gate, W: Watching>(
     rt: &R,
     alloc: Global,
     script: &Script,
     workers: u8,
     gate: &G,
+    watch: &W,
+) -> Result<Desk, NoMemory>
+    requires workers { workers ≤ 16 }
+    requires few { length script.now.commands ≤ 2 ^ 32 - 1 }
+    ensures settled { IfOk result (λ d. IsSettled d) }
+    ensures canvas { IfOk result (λ d. d.canvas ≡ script.now.canvas) }
+    ensures fed { IfOk result (λ d. d.fed ≡ script.now.commands) }
+{
+    run_on::<Brand, R, G, W>(rt, alloc, script, workers, gate, watch, Blank::new(1))
+}
+
+/// The same, with the caller's steps on that ledger.
+fn run_on<L: Ledger, R: Threads + Wait + Sync, G: Gate, W: Watching>(
+    rt: &R,
+    alloc: Global,
+    script: &Script,
+    workers: u8,
+    gate: &G,
+    watch: &W,
     blank: Blank,
 ) -> Result<Desk, NoMemory>
     requires workers { workers ≤ 16 }
@@ -292,7 +320,9 @@ fn run_on<L: Ledger, R: Threads + Wait + Sync, G: Gate>(
 {
     let mut steps = Steps::<L>::new(blank);
     let desk = new_desk(alloc, script, workers + 1)?;
-    let mut desk = with_crew::<Brand, L, R, G>(rt, alloc, script, workers, gate, desk, &mut steps);
+    let mut desk = with_crew::<Brand, L, R, G, W>(
+        rt, alloc, script, workers, gate, watch, desk, &mut steps,
+    );
     finish(&mut desk, script, &mut steps)?;
     Ok(desk)
 }

@@ -8,7 +8,9 @@ mod crew;
 mod feeding;
 mod pieces;
 mod shown;
+mod watching;
 mod work;
 
-pub use crew::run_crew;
+pub use crew::{run_crew, run_watched};
 pub use shown::run_shown;
+pub use watching::Watching;

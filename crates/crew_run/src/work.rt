@@ -6,7 +6,7 @@ ghost use Rattle.doc_model.specs.Lawful.{within_limits};
 
 use desk_core::{PaintTicket, SlotId, WalkTicket};
 use doc_model::Job;
-use geom_core::NoMemory;
+use geom_core::{NoMemory, Rect};
 use std::alloc::Global;
 use std::sync::Arc;
 use tile_core::Tile;
@@ -105,6 +105,25 @@ impl Rows {
             keys.push(rect.tile_at(i as u32))?;
         }
         compose_keys(alloc, &self.walk.inputs, &keys)
+    }
+
+    /// A rectangle round them.
+    pub(crate) fn bound(&self) -> Rect {
+        let rect = self.walk.inputs.patch().rect;
+        let to = self.to.min(rect.tile_count() as usize);
+        let mut bound = None;
+        for i in self.from..to {
+            bound = Some(round(bound, rect.tile_at(i as u32).rect()));
+        }
+        bound.unwrap_or(rect)
+    }
+}
+
+/// The least rectangle round both.
+fn round(bound: Option<Rect>, rect: Rect) -> Rect {
+    match bound {
+        Some(bound) => bound.bound(&rect),
+        None => rect,
     }
 }
 

@@ -15,5 +15,5 @@ mod walks;
 pub use answers::{Ended, Fresh, Published};
 pub use desk::Desk;
 pub use desk_machine::{PaintTicket, SlotId, WalkTicket};
-pub use laws::settled_has_meaning;
+pub use laws::{settled_has_meaning, settled_shows_picture};
 pub use tickets::Taken;

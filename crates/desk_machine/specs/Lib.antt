@@ -2,3 +2,4 @@ pub mod Tickets
 pub mod OwnWork
 pub mod Commits
 pub mod Asks
+pub mod Shown

@@ -2,12 +2,20 @@
 
 ghost use Rattle.machine_model.specs.MeaningLaws.{HasMeaning};
 ghost use Rattle.machine_model.specs.State.{IsSettled};
+ghost use Rattle.desk_machine.specs.Shown.{ShowsPicture};
 
 use crate::machine::Machine;
 
 /// A machine that is settled has what the commands that were fed mean one after another.
 pub fn settled_has_meaning(machine: &Machine)
     ensures { IsSettled machine.now → HasMeaning machine.now }
+{
+    let _ = &machine.alloc;
+}
+
+/// Its root's cache is the picture of the document that these make.
+pub fn settled_shows_picture(machine: &Machine)
+    ensures { IsSettled machine.now → ShowsPicture machine.now }
 {
     let _ = &machine.alloc;
 }

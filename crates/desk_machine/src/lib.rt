@@ -18,7 +18,7 @@ mod walks;
 mod whole_jobs;
 mod whole_walks;
 
-pub use laws::settled_has_meaning;
+pub use laws::{settled_has_meaning, settled_shows_picture};
 pub use machine::Machine;
 pub use own_work::Lack;
 pub use tickets::{PaintTicket, SlotId, WalkTicket};

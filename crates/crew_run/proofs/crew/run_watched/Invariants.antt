@@ -1,4 +1,4 @@
-use Rattle.crew_run.proofs.crew.run_crew.Given as goal
+use Rattle.crew_run.proofs.crew.run_watched.Given as goal
 
 abbrev pub ghosts-run_on : goal.ghosts-run_on
 ghosts-run_on g a = record { name = a.blank.name; parts = a.blank.parts }

@@ -1,0 +1,2 @@
+mod RootTiles
+mod LastPictures
