@@ -1,0 +1,7 @@
+use Rattle.std.specs.Prelude.{All}
+use Rattle.geom_core.specs.Grid.{IsWorldKey}
+use Rattle.crew_run.proofs.work.Rows.compose.Given as goal
+
+-- the keys so far lie in the world
+abbrev pub invariant-loop-i : goal.invariant-loop-i
+invariant-loop-i l = All IsWorldKey l.keys.items
