@@ -64,14 +64,14 @@ marked_put caches g rect key f frames old new marks so s e x y h k on none =
 
 root_found : (caches : FinMap nat_cmp Layer) (gs : List ℕ) → find nat_cmp 0 (kept_entries caches (gs ++ 0 ∷ [])) ≡ Some (cache caches 0)
 root_found caches [] = taken (eq_by_cmp nat_cmp 0 0) (Some (cache caches 0)) None (by_number 0 0)
-root_found caches (g ∷ gs) = go (eq_by_cmp nat_cmp 0 g) refl
+root_found caches (g ∷ gs) = go (eq_by_cmp nat_cmp 0 g) refl (root_found caches gs)
   where
     equal : eq_by_cmp nat_cmp 0 g ≡ true → g ≡ 0
     equal e = let same : eqb 0 g ≡ true = sym (by_number 0 g) ∙ e in grind (arith, nat_tests)
 
-    go : (b : Bool) → eq_by_cmp nat_cmp 0 g ≡ b → find nat_cmp 0 (kept_entries caches ((g ∷ gs) ++ 0 ∷ [])) ≡ Some (cache caches 0)
-    go true e = taken (eq_by_cmp nat_cmp 0 g) (Some (cache caches g)) _ e ∙ ap (λ c. Some (cache caches c)) (equal e)
-    go false e = kept (eq_by_cmp nat_cmp 0 g) (Some (cache caches g)) _ e ∙ root_found caches gs
+    go : (b : Bool) → eq_by_cmp nat_cmp 0 g ≡ b → find nat_cmp 0 (kept_entries caches (gs ++ 0 ∷ [])) ≡ Some (cache caches 0) → find nat_cmp 0 (kept_entries caches ((g ∷ gs) ++ 0 ∷ [])) ≡ Some (cache caches 0)
+    go true e rest = taken (eq_by_cmp nat_cmp 0 g) (Some (cache caches g)) _ e ∙ ap (λ c. Some (cache caches c)) (equal e)
+    go false e rest = kept (eq_by_cmp nat_cmp 0 g) (Some (cache caches g)) _ e ∙ rest
 
 -- the root's cache stays
 root_kept : (caches : FinMap nat_cmp Layer) (doc : Doc) → cache (caches_for caches doc) 0 ≡ cache caches 0

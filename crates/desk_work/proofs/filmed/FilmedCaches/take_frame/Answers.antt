@@ -10,8 +10,11 @@ push-requires c = λ before newest. subst (Renews c.in_ok-frame.frame before) (s
     (shown_renews c.self.inside.caches c.args.canvas c.self.inside.film c.self.inside.fresh c.in_ok-frame.frame c.requires c.self.invariant c.in_ok-frame.ensures before newest)
 
 pub invariant_of-self : goal.invariant_of-self
-invariant_of-self c = subst (λ frames. IsMarked c.self.inside.caches frames c.none.result) (sym c.in_ok-push.ensures.ok)
-    (marked_shown c.self.inside.caches c.args.canvas c.self.inside.film c.none.result c.in_ok-frame.frame c.in_ok-frame.ensures)
+invariant_of-self c = subst (λ frames. IsMarked c.self.inside.caches frames c.self.inside.fresh) (sym c.in_err-push.ensures.err) c.self.invariant
+
+pub invariant_of-self-2 : goal.invariant_of-self-2
+invariant_of-self-2 c = subst (λ frames. IsMarked c.self.inside.caches frames c.none-self-inside.result) (sym c.in_ok-push.ensures.ok)
+    (marked_shown c.self.inside.caches c.args.canvas c.self.inside.film c.none-self-inside.result c.in_ok-frame.frame c.in_ok-frame.ensures)
 
 pub returns-clause-ok : goal.returns-clause-ok
 returns-clause-ok c = record {
