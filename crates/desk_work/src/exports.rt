@@ -14,7 +14,11 @@ use tile_core::Frame;
 pub(crate) const ROOT: u16 = 0;
 
 /// The root's cache on the canvas's paper. Tiles are shared.
-pub(crate) fn frame_of_cache(alloc: Global, caches: &Caches, canvas: Canvas) -> Result<Frame, NoMemory>
+pub(crate) fn frame_of_cache(
+    alloc: Global,
+    caches: &Caches,
+    canvas: Canvas,
+) -> Result<Frame, NoMemory>
     requires { IsOfLimits canvas }
     ensures { IfOk result (ShowsCache caches.now canvas) }
 {
