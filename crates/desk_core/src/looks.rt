@@ -17,7 +17,7 @@ use crate::desk::Desk;
 use doc_model::{Canvas, Command, Outcome};
 use geom_core::TileKey;
 use pixel_core::Pixel;
-use tile_core::{Frame, Tile};
+use tile_core::{Film, Frame, Tile};
 
 impl Desk {
     /// The pixel of the root's cache at a point of the canvas, and whether it is up to date: `Dirty`
@@ -54,13 +54,13 @@ impl Desk {
         self.machine.frames()
     }
 
-    /// The frames on their own.
-    pub fn into_frames(self) -> Vec<Frame>
-        ensures frames { map colours_of result.items ≡ self.frames }
-        ensures sides { All (HasSides self.canvas) result.items }
+    /// The film of the frames. Of each the tiles are marked that may differ from the frame before.
+    pub fn into_film(self) -> Film
+        ensures frames { map colours_of result ≡ self.frames }
+        ensures sides { All (HasSides self.canvas) result }
     {
         let Desk { machine } = self;
-        machine.into_frames()
+        machine.into_film()
     }
 
     /// The outcomes so far, in order.

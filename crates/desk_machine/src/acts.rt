@@ -11,7 +11,7 @@ ghost use Rattle.desk_parts.specs.Choices.{takes_memory};
 
 use crate::machine::Machine;
 use desk_steps::TreeRefusal;
-use desk_work::{frame_of_cache, move_by, renew};
+use desk_work::{move_by, renew};
 use doc_model::{Change, Command, Outcome};
 use entry_queue::Entry;
 use geom_core::NoMemory;
@@ -64,7 +64,7 @@ impl Machine {
         match self.store.change(self.alloc, change) {
             Ok(_) => {
                 let canvas = self.canvas;
-                renew(&self.store, &mut self.caches, &mut self.updates, canvas);
+                renew(&self.store, &mut self.filmed, &mut self.updates, canvas);
                 self.queue.pop(Outcome::Done);
                 Ok(())
             }
@@ -89,7 +89,7 @@ impl Machine {
                 move_by(
                     back,
                     &self.store,
-                    &mut self.caches,
+                    &mut self.filmed,
                     &mut self.updates,
                     self.canvas,
                 );
@@ -111,7 +111,7 @@ impl Machine {
                 move_by(
                     reach,
                     &self.store,
-                    &mut self.caches,
+                    &mut self.filmed,
                     &mut self.updates,
                     self.canvas,
                 );
@@ -138,8 +138,7 @@ impl Machine {
         ensures ok { OnOk result (Step self.old Act self.new) }
         ensures err { OnErr result (self.new ≡ self.old) }
     {
-        let frame = frame_of_cache(self.alloc, &self.caches, self.canvas)?;
-        self.frames.push(frame)?;
+        self.filmed.take_frame(self.alloc, self.canvas)?;
         self.queue.pop(Outcome::Done);
         Ok(())
     }

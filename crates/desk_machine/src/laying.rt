@@ -87,7 +87,7 @@ impl Machine {
                 let rect = walker.inputs.patch().rect;
                 let _there = is_tile_of(&rect, key);
                 let laid = lay_composed(
-                    &mut self.caches,
+                    &mut self.filmed,
                     &mut walker.published,
                     composed,
                     group,

@@ -11,14 +11,13 @@ ghost use Rattle.machine_model.specs.Step.{Step};
 use command_log::CommandLog;
 use desk_parts::Work;
 use desk_steps::Store;
+use desk_work::FilmedCaches;
 use doc_model::{Canvas, Command};
 use entry_queue::Queue;
 use geom_core::NoMemory;
-use group_caches::Caches;
 use slot_core::Slots;
 use std::alloc::Global;
 use std::marker::Model;
-use tile_core::Frame;
 use update_queue::Updates;
 
 /// What a desk keeps: the commands that were fed, the entries that wait, the document
@@ -30,10 +29,9 @@ pub struct Machine {
     pub(crate) fed: CommandLog,
     pub(crate) queue: Queue,
     pub(crate) store: Store,
-    pub(crate) caches: Caches,
+    pub(crate) filmed: FilmedCaches,
     pub(crate) updates: Updates,
     pub(crate) slots: Slots<Work>,
-    pub(crate) frames: Vec<Frame>,
     /// How many jobs of the stroke under way were started.
     pub(crate) way: Option<u32>,
     /// The next serial.
@@ -51,9 +49,9 @@ impl Model for Machine {
     ghost use Rattle.desk_parts.specs.Parts.{parts, state_of};
     ghost use Rattle.desk_parts.specs.Tied.{IsDesk};
 
-    ghost view = { λ d. state_of (parts d.canvas d.fed.items d.queue d.store d.caches d.updates d.slots d.frames.items d.way d.next) };
+    ghost view = { λ d. state_of (parts d.canvas d.fed.items d.queue d.store d.filmed.caches d.updates d.slots d.filmed.frames d.way d.next) };
 
-    ghost invariant = { λ d. IsDesk (parts d.canvas d.fed.items d.queue d.store d.caches d.updates d.slots d.frames.items d.way d.next) };
+    ghost invariant = { λ d. IsDesk (parts d.canvas d.fed.items d.queue d.store d.filmed.caches d.updates d.slots d.filmed.frames d.way d.next) };
 }
 
 impl Machine {
@@ -65,7 +63,7 @@ impl Machine {
         ensures { IfOk result (λ d. d ≡ new_state canvas slots) }
     {
         let store = Store::new(alloc)?;
-        let caches = Caches::new(alloc)?;
+        let filmed = FilmedCaches::new(alloc)?;
         let free = Slots::new(alloc, slots)?;
         Ok(Machine {
             alloc,
@@ -73,10 +71,9 @@ impl Machine {
             fed: CommandLog::new(alloc),
             queue: Queue::new(alloc),
             store,
-            caches,
+            filmed,
             updates: Updates::new(canvas.rect()),
             slots: free,
-            frames: Vec::new(alloc),
             way: None,
             next: 0,
         })

@@ -88,7 +88,7 @@ impl Machine {
         match self.slots.clear(place) {
             Some(Work::Walk(mut walker)) => {
                 let rect = walker.inputs.patch().rect;
-                let laid = compose_own(self.alloc, &mut self.caches, &mut walker, key);
+                let laid = compose_own(self.alloc, &mut self.filmed, &mut walker, key);
                 self.slots.put(place, Work::Walk(walker), Some(rect));
                 laid
             }

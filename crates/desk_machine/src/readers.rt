@@ -18,7 +18,7 @@ use doc_model::{Canvas, Command, Outcome};
 use entry_queue::Entry;
 use geom_core::TileKey;
 use pixel_core::Pixel;
-use tile_core::{Frame, Tile};
+use tile_core::{Film, Frame, Tile};
 
 /// The id of the root.
 const ROOT: u16 = 0;
@@ -32,7 +32,7 @@ impl Machine {
         ensures pixel { result ≡ at (cache self.now.caches 0) (point (pos x) (pos y)) }
         ensures picture { covered self.now 0 (point (pos x) (pos y)) ≡ false → result ≡ picture self.now.present (point (pos x) (pos y)) }
     {
-        self.caches.at(ROOT, i32::from(x), i32::from(y))
+        self.filmed.caches().at(ROOT, i32::from(x), i32::from(y))
     }
 
     /// Whether something will compose the root anew at the point.
@@ -47,23 +47,23 @@ impl Machine {
         ensures some { IfSome result (λ t. (p : Point) → in_tile key p ≡ true → pixel_at t.now p ≡ at (cache self.now.caches 0) p) }
         ensures none { IfNone result ((p : Point) → in_tile key p ≡ true → at (cache self.now.caches 0) p ≡ clear) }
     {
-        self.caches.tile(ROOT, key)
+        self.filmed.caches().tile(ROOT, key)
     }
 
     /// The frames, one for each export so far.
     pub fn frames(&self) -> &[Frame]
         ensures { map colours_of result.now ≡ self.now.frames }
     {
-        &self.frames
+        self.filmed.frames()
     }
 
-    /// The frames on their own.
-    pub fn into_frames(self) -> Vec<Frame>
-        ensures frames { map colours_of result.items ≡ self.frames }
-        ensures sides { All (HasSides self.canvas) result.items }
+    /// The film of the frames. Of each the tiles are marked that may differ from the frame before.
+    pub fn into_film(self) -> Film
+        ensures frames { map colours_of result ≡ self.frames }
+        ensures sides { All (HasSides self.canvas) result }
     {
-        let Machine { frames, .. } = self;
-        frames
+        let Machine { filmed, .. } = self;
+        filmed.into_film()
     }
 
     /// The outcomes so far, in order.

@@ -45,7 +45,7 @@ impl Machine {
             Some(Work::Walk(mut walker)) => {
                 let rect = walker.inputs.patch().rect;
                 let laid = lay_row(
-                    &mut self.caches,
+                    &mut self.filmed,
                     &mut walker.published,
                     composed,
                     &walker.inputs,

@@ -92,6 +92,6 @@ impl Machine {
         ensures { IfOk result (λ r. r ≡ readings patch.now (walk_shot self.now patch.now)) }
     {
         let tree = self.store.tree();
-        gather(self.alloc, tree, &self.store, &self.caches, *patch)
+        gather(self.alloc, tree, &self.store, self.filmed.caches(), *patch)
     }
 }

@@ -43,7 +43,7 @@ impl Machine {
             Some(Work::Walk(mut walker)) => {
                 let rect = walker.inputs.patch().rect;
                 let laid = lay_walk(
-                    &mut self.caches,
+                    &mut self.filmed,
                     &mut walker.published,
                     composed,
                     &walker.inputs,

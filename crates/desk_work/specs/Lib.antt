@@ -1,3 +1,4 @@
 pub mod LaidTiles
 pub mod Lacking
 pub mod OfWalk
+pub mod Filmed

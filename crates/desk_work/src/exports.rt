@@ -11,10 +11,14 @@ use std::alloc::Global;
 use tile_core::Frame;
 
 /// The id of the root.
-const ROOT: u16 = 0;
+pub(crate) const ROOT: u16 = 0;
 
 /// The root's cache on the canvas's paper. Tiles are shared.
-pub fn frame_of_cache(alloc: Global, caches: &Caches, canvas: Canvas) -> Result<Frame, NoMemory>
+pub(crate) fn frame_of_cache(
+    alloc: Global,
+    caches: &Caches,
+    canvas: Canvas,
+) -> Result<Frame, NoMemory>
     requires { IsOfLimits canvas }
     ensures { IfOk result (ShowsCache caches.now canvas) }
 {

@@ -2,6 +2,7 @@
 #![tactic(auto)]
 
 mod exports;
+mod filmed;
 mod job_ends;
 mod own_work;
 mod painting;
@@ -13,7 +14,7 @@ mod walking;
 mod whole_walks;
 mod wholes;
 
-pub use exports::frame_of_cache;
+pub use filmed::FilmedCaches;
 pub use job_ends::{is_painted, widen, widen_all};
 pub use own_work::{compose_own, paint_own};
 pub use painting::{lay, takes_painted};

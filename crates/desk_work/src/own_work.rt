@@ -10,12 +10,12 @@ ghost use Rattle.desk_steps.specs.Archives.{with_put};
 ghost use Rattle.walker_core.specs.Readings.{path_in};
 ghost use Rattle.desk_work.specs.LaidTiles.{Lays, LaysFront, laid_as, pairs_at};
 
+use crate::filmed::FilmedCaches;
 use crate::painting::lay;
 use crate::whole_walks::lay_groups;
 use desk_parts::{Painter, Walker};
 use desk_steps::Store;
 use geom_core::{NoMemory, TileKey};
-use group_caches::Caches;
 use job_core::paint_tile;
 use std::alloc::Global;
 use walker_core::compose_key;
@@ -52,17 +52,18 @@ pub fn paint_own(
 /// `NoMemory`; it is laid of some of the groups.
 pub fn compose_own(
     alloc: Global,
-    caches: &mut Caches,
+    filmed: &mut FilmedCaches,
     walker: &mut Walker,
     key: TileKey,
 ) -> Result<(), NoMemory>
     requires { IsWorldKey key }
-    ensures all { OnOk result (Lays walker.old.inputs (pairs_at (path_in walker.old.inputs) key) (laid_as caches.old walker.old.published) (laid_as caches.new walker.new.published)) }
-    ensures front { LaysFront walker.old.inputs (pairs_at (path_in walker.old.inputs) key) (laid_as caches.old walker.old.published) (laid_as caches.new walker.new.published) }
+    ensures all { OnOk result (Lays walker.old.inputs (pairs_at (path_in walker.old.inputs) key) (laid_as filmed.old.caches walker.old.published) (laid_as filmed.new.caches walker.new.published)) }
+    ensures front { LaysFront walker.old.inputs (pairs_at (path_in walker.old.inputs) key) (laid_as filmed.old.caches walker.old.published) (laid_as filmed.new.caches walker.new.published) }
+    ensures frames { filmed.new.frames ≡ filmed.old.frames }
     ensures inputs { walker.new.inputs ≡ walker.old.inputs }
     ensures serial { walker.new.serial ≡ walker.old.serial }
 {
     let composed = compose_key(alloc, &walker.inputs, key)?;
     let path = walker.inputs.path();
-    lay_groups(caches, &mut walker.published, &composed, path, key)
+    lay_groups(filmed, &mut walker.published, &composed, path, key)
 }

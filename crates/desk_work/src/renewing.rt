@@ -7,10 +7,10 @@ ghost use Rattle.desk_steps.specs.Archives.{TellsReach};
 ghost use Rattle.machine_model.specs.State as machine;
 ghost use Rattle.desk_parts.specs.After.{moved_caches, moved_updates};
 
+use crate::filmed::FilmedCaches;
 use crate::job_ends::widen;
 use desk_steps::{Reach, Store};
 use doc_model::Canvas;
-use group_caches::Caches;
 use update_queue::Updates;
 use walker_core::all_groups;
 
@@ -18,31 +18,33 @@ use walker_core::all_groups;
 pub fn move_by(
     reach: Reach,
     store: &Store,
-    caches: &mut Caches,
+    filmed: &mut FilmedCaches,
     updates: &mut Updates,
     canvas: Canvas,
 )
     requires limits { IsOfLimits canvas }
     requires area { updates.old.canvas ≡ canvas_area canvas }
-    ensures caches { (r : machine.Reach) → TellsReach r store.now.present reach → caches.new ≡ moved_caches caches.old store.now.present r }
+    ensures caches { (r : machine.Reach) → TellsReach r store.now.present reach → filmed.new.caches ≡ moved_caches filmed.old.caches store.now.present r }
+    ensures frames { filmed.new.frames ≡ filmed.old.frames }
     ensures updates { (r : machine.Reach) → TellsReach r store.now.present reach → updates.new ≡ moved_updates updates.old store.now.present r }
 {
     match reach {
-        Reach::Whole => renew(store, caches, updates, canvas),
+        Reach::Whole => renew(store, filmed, updates, canvas),
         Reach::Part { group, touched } => widen(updates, group, touched.bound),
     }
 }
 
 /// Caches of the groups that there are now, and all of the canvas to be composed. No memory.
-pub fn renew(store: &Store, caches: &mut Caches, updates: &mut Updates, canvas: Canvas)
+pub fn renew(store: &Store, filmed: &mut FilmedCaches, updates: &mut Updates, canvas: Canvas)
     requires limits { IsOfLimits canvas }
     requires area { updates.old.canvas ≡ canvas_area canvas }
-    ensures caches { caches.new ≡ moved_caches caches.old store.now.present machine.Whole }
+    ensures caches { filmed.new.caches ≡ moved_caches filmed.old.caches store.now.present machine.Whole }
+    ensures frames { filmed.new.frames ≡ filmed.old.frames }
     ensures updates { updates.new ≡ moved_updates updates.old store.now.present machine.Whole }
 {
     let tree = store.tree();
     let _count = tree.node_count();
     let groups = all_groups(tree);
-    caches.keep(groups.as_slice());
+    filmed.keep(groups.as_slice());
     updates.refresh(canvas.rect());
 }

@@ -10,10 +10,10 @@ ghost use Rattle.walker_core.specs.Composing.{has_pair};
 ghost use Rattle.group_caches.specs.Kept.{with_picture};
 ghost use Rattle.desk_parts.specs.Painted.{TakesComposed};
 
+use crate::filmed::FilmedCaches;
 use crate::remaining::next_pair;
 use desk_parts::{Newest, Walker, has_pair as was_published};
 use geom_core::{NoMemory, Rect, TileKey};
-use group_caches::Caches;
 use walker_core::Composed;
 
 /// Whether the walk takes what was composed of a group on a tile: it is a pair of the walk, still to be
@@ -34,7 +34,7 @@ pub fn takes_composed(walker: &Walker, composed: &Composed<'_>, group: u16, key:
 /// # Errors
 /// `NoMemory`; the caches and what was noted are as they were.
 pub fn lay_composed(
-    caches: &mut Caches,
+    filmed: &mut FilmedCaches,
     published: &mut Newest<(u16, TileKey)>,
     composed: &Composed<'_>,
     group: u16,
@@ -42,16 +42,17 @@ pub fn lay_composed(
 ) -> Result<(), NoMemory>
     requires pair { has_pair composed.now group key ≡ true }
     requires world { IsWorldKey key }
-    ensures caches { OnOk result (caches.new ≡ with_picture caches.old group composed.now.readings.patch.rect key (walk_value composed.now.readings.groups group)) }
+    ensures caches { OnOk result (filmed.new.caches ≡ with_picture filmed.old.caches group composed.now.readings.patch.rect key (walk_value composed.now.readings.groups group)) }
     ensures noted { OnOk result (published.new ≡ (group, key) ∷ published.old) }
-    ensures same_caches { OnErr result (caches.new ≡ caches.old) }
+    ensures same_caches { OnErr result (filmed.new.caches ≡ filmed.old.caches) }
+    ensures frames { filmed.new.frames ≡ filmed.old.frames }
     ensures same_noted { OnErr result (published.new ≡ published.old) }
 {
     let Some(given) = composed.given(group, key) else {
         unreachable!()
     };
     published.note((group, key))?;
-    match caches.put(group, &composed.inputs().patch().rect, key, given) {
+    match filmed.put(group, &composed.inputs().patch().rect, key, given) {
         Ok(()) => Ok(()),
         Err(e) => {
             published.take_back();

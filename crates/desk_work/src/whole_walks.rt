@@ -8,10 +8,10 @@ ghost use Rattle.walker_core.specs.Composing.{has_pair};
 ghost use Rattle.desk_work.specs.LaidTiles.{Lays, LaysFront, laid_as, pairs_at, pairs_on};
 ghost use Rattle.desk_work.specs.OfWalk.{IsOfWalk, IsOfWalkAt, IsRowOfWalk};
 
+use crate::filmed::FilmedCaches;
 use crate::walking::{is_tile_of, lay_composed};
 use desk_parts::{Newest, has_pair as was_published};
 use geom_core::{NoMemory, TileKey};
-use group_caches::Caches;
 use walker_core::{Composed, Inputs};
 
 /// Whether a walk's groups were all composed on all tiles of its patch, of the same as the walk reads
@@ -65,18 +65,19 @@ fn has_all(composed: &Composed<'_>, path: &[u16], key: TileKey) -> bool
 /// # Errors
 /// `NoMemory`; some of it is laid, from the first on.
 pub fn lay_walk(
-    caches: &mut Caches,
+    filmed: &mut FilmedCaches,
     published: &mut Newest<(u16, TileKey)>,
     composed: &Composed<'_>,
     inputs: &Inputs,
 ) -> Result<(), NoMemory>
     requires { IsOfWalk inputs.now composed.now }
-    ensures all { OnOk result (Lays inputs.now (pairs_on (path_in inputs.now) (keys_of inputs.now.patch.rect)) (laid_as caches.old published.old) (laid_as caches.new published.new)) }
-    ensures front { LaysFront inputs.now (pairs_on (path_in inputs.now) (keys_of inputs.now.patch.rect)) (laid_as caches.old published.old) (laid_as caches.new published.new) }
+    ensures all { OnOk result (Lays inputs.now (pairs_on (path_in inputs.now) (keys_of inputs.now.patch.rect)) (laid_as filmed.old.caches published.old) (laid_as filmed.new.caches published.new)) }
+    ensures front { LaysFront inputs.now (pairs_on (path_in inputs.now) (keys_of inputs.now.patch.rect)) (laid_as filmed.old.caches published.old) (laid_as filmed.new.caches published.new) }
+    ensures frames { filmed.new.frames ≡ filmed.old.frames }
 {
     let rect = inputs.patch().rect;
     for i in 0..rect.tile_count() {
-        lay_row(caches, published, composed, inputs, rect.tile_at(i))?;
+        lay_row(filmed, published, composed, inputs, rect.tile_at(i))?;
     }
     Ok(())
 }
@@ -86,7 +87,7 @@ pub fn lay_walk(
 /// # Errors
 /// `NoMemory`; it is laid of some of the groups, from the first on.
 pub fn lay_row(
-    caches: &mut Caches,
+    filmed: &mut FilmedCaches,
     published: &mut Newest<(u16, TileKey)>,
     composed: &Composed<'_>,
     inputs: &Inputs,
@@ -94,10 +95,11 @@ pub fn lay_row(
 ) -> Result<(), NoMemory>
     requires of { IsOfWalkAt inputs.now composed.now key }
     requires world { IsWorldKey key }
-    ensures all { OnOk result (Lays inputs.now (pairs_at (path_in inputs.now) key) (laid_as caches.old published.old) (laid_as caches.new published.new)) }
-    ensures front { LaysFront inputs.now (pairs_at (path_in inputs.now) key) (laid_as caches.old published.old) (laid_as caches.new published.new) }
+    ensures all { OnOk result (Lays inputs.now (pairs_at (path_in inputs.now) key) (laid_as filmed.old.caches published.old) (laid_as filmed.new.caches published.new)) }
+    ensures front { LaysFront inputs.now (pairs_at (path_in inputs.now) key) (laid_as filmed.old.caches published.old) (laid_as filmed.new.caches published.new) }
+    ensures frames { filmed.new.frames ≡ filmed.old.frames }
 {
-    lay_groups(caches, published, composed, inputs.path(), key)
+    lay_groups(filmed, published, composed, inputs.path(), key)
 }
 
 /// Lays what was composed on a tile on the cache of each of the groups of which it isn't published.
@@ -105,7 +107,7 @@ pub fn lay_row(
 /// # Errors
 /// `NoMemory`; it is laid of some of the groups, from the first on.
 pub(crate) fn lay_groups(
-    caches: &mut Caches,
+    filmed: &mut FilmedCaches,
     published: &mut Newest<(u16, TileKey)>,
     composed: &Composed<'_>,
     path: &[u16],
@@ -113,18 +115,19 @@ pub(crate) fn lay_groups(
 ) -> Result<(), NoMemory>
     requires composed { list_all (λ g. has_pair composed.now g key) path.now ≡ true }
     requires world { IsWorldKey key }
-    ensures all { OnOk result (Lays composed.now.readings (pairs_at path.now key) (laid_as caches.old published.old) (laid_as caches.new published.new)) }
-    ensures front { LaysFront composed.now.readings (pairs_at path.now key) (laid_as caches.old published.old) (laid_as caches.new published.new) }
+    ensures all { OnOk result (Lays composed.now.readings (pairs_at path.now key) (laid_as filmed.old.caches published.old) (laid_as filmed.new.caches published.new)) }
+    ensures front { LaysFront composed.now.readings (pairs_at path.now key) (laid_as filmed.old.caches published.old) (laid_as filmed.new.caches published.new) }
+    ensures frames { filmed.new.frames ≡ filmed.old.frames }
 {
     for group in path {
-        lay_group(caches, published, composed, *group, key)?;
+        lay_group(filmed, published, composed, *group, key)?;
     }
     Ok(())
 }
 
 /// Lays it on the cache of one of the groups, if it isn't published of it.
 fn lay_group(
-    caches: &mut Caches,
+    filmed: &mut FilmedCaches,
     published: &mut Newest<(u16, TileKey)>,
     composed: &Composed<'_>,
     group: u16,
@@ -132,11 +135,12 @@ fn lay_group(
 ) -> Result<(), NoMemory>
     requires pair { has_pair composed.now group key ≡ true }
     requires world { IsWorldKey key }
-    ensures ok { OnOk result (Lays composed.now.readings ((group, key) ∷ []) (laid_as caches.old published.old) (laid_as caches.new published.new)) }
-    ensures err { OnErr result (laid_as caches.new published.new ≡ laid_as caches.old published.old) }
+    ensures ok { OnOk result (Lays composed.now.readings ((group, key) ∷ []) (laid_as filmed.old.caches published.old) (laid_as filmed.new.caches published.new)) }
+    ensures err { OnErr result (laid_as filmed.new.caches published.new ≡ laid_as filmed.old.caches published.old) }
+    ensures frames { filmed.new.frames ≡ filmed.old.frames }
 {
     if was_published(published, group, key) {
         return Ok(());
     }
-    lay_composed(caches, published, composed, group, key)
+    lay_composed(filmed, published, composed, group, key)
 }

@@ -15,7 +15,7 @@ use Rattle.geom_core.proofs.Tests.{taken, kept, true_or_false, none_left, none_r
 use Rattle.geom_core.proofs.Keys.{key_of_held}
 use Rattle.geom_core.proofs.Tiles.{key_same, key_is}
 use Rattle.geom_core.proofs.Axes.{tiles_met}
-use Rattle.tile_core.specs.Pixels.{Pixels, pixel_at}
+use Rattle.tile_core.specs.Pixels.{Pixels, pixel_at, pixel_or}
 use Rattle.tile_core.specs.Frames.{Scene, scene, put_at, colours_at, with_put}
 use Rattle.tile_core.specs.Marks.{Grid, has_mark}
 use Rattle.tile_core.specs.Damage.{Parts, part_at, is_damaged}
@@ -156,4 +156,4 @@ module _ {doc : Doc} {canvas : Canvas} {before : Scene} {stale : Parts} {f : Sce
 
 -- so the tiles that have a damaged part are all that may differ
 pub renews_marks : (f before : Scene) (stale : Parts) (marks : Grid) → ((k : Key) → has_mark marks k ≡ is_some (part_at stale k)) → RenewsTiles f before stale → Renews f before marks
-renews_marks f before stale marks told r x y h k m = r x y h k (is_some-None (part_at stale (key_of (point (pos x) (pos y)))) (sym (told (key_of (point (pos x) (pos y)))) ∙ m))
+renews_marks f before stale marks told r x y h k _ _ m = ap (λ o. pixel_or o clear (point (pos x) (pos y))) (r x y h k (is_some-None (part_at stale (key_of (point (pos x) (pos y)))) (sym (told (key_of (point (pos x) (pos y)))) ∙ m)))

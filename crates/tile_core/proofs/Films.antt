@@ -6,7 +6,8 @@ use Rattle.std.proofs.lemmas.Bool.Decides.{nat_tests}
 use Rattle.std.proofs.lemmas.Option.{slice_get_within}
 use Rattle.geom_core.specs.Areas.{point}
 use Rattle.geom_core.specs.Grid.{Key, key, key_of, key_cmp_total, same_key}
-use Rattle.tile_core.specs.Pixels.{Pixels}
+use Rattle.pixel_core.specs.Rgba.{clear}
+use Rattle.tile_core.specs.Pixels.{Pixels, pixel_or}
 use Rattle.tile_core.specs.Marks.{Grid, has_mark, on_canvas}
 use Rattle.tile_core.specs.Frames.{Scene, with_put}
 use Rattle.tile_core.specs.Films.{Renews, IsFilm, newest}
@@ -24,7 +25,7 @@ pub same_some : {A : Type 0} (x y : A) → Some x ≡ Some y → x ≡ y
 same_some x y e = cc
 
 -- the item at the end is the new one
-last_is : {A : Type 0} (xs : List A) (y z : A) (i : ℕ) → i ≡ length xs → slice_get (xs ++ y ∷ []) i ≡ Some z → y ≡ z
+pub last_is : {A : Type 0} (xs : List A) (y z : A) (i : ℕ) → i ≡ length xs → slice_get (xs ++ y ∷ []) i ≡ Some z → y ≡ z
 last_is xs y z i e h = same_some y z (sym (at_end xs y) ∙ ap (slice_get (xs ++ y ∷ [])) (sym e) ∙ h)
 
 pub one_more : (scenes : List Scene) (fresh : List Grid) (s : Scene) (g : Grid) → IsFilm scenes fresh → ((before : Scene) → newest scenes ≡ Some before → Renews s before g) → IsFilm (scenes ++ s ∷ []) (fresh ++ g ∷ [])
@@ -44,7 +45,7 @@ one_more scenes fresh s g film renews = record {
     either i = grind arith
 
 -- a tile of the largest canvas
-on_largest : (c r : ℕ) → c < 32 → r < 32 → on_canvas (key (pos c) (pos r)) ≡ true
+pub on_largest : (c r : ℕ) → c < 32 → r < 32 → on_canvas (key (pos c) (pos r)) ≡ true
 on_largest c r h k =
     let in_columns : nat_lt c 32 ≡ true = grind (arith, nat_tests) in
     let in_rows : nat_lt r 32 ≡ true = grind (arith, nat_tests) in
@@ -55,9 +56,9 @@ not_marked o s n h k = grind arith
 
 -- a tile that is put is marked
 pub renews_put : (s before : Scene) (k : Key) (t : Pixels) (old fresh : Grid) → s ≡ with_put before k t → before.width ≤ 2048 → before.height ≤ 2048 → ((q : Key) → has_mark fresh q ≡ (has_mark old q || (same_key q k && on_canvas q))) → Renews s before fresh
-renews_put s before k t old fresh e w h marks x y hx hy unmarked =
+renews_put s before k t old fresh e w h marks x y hx hy _ _ unmarked =
     let q : Key = key_of (point (pos x) (pos y)) in
     let columns : s.width ≡ before.width = ap (λ (v : Scene). v.width) e in
     let rows : s.height ≡ before.height = ap (λ (v : Scene). v.height) e in
     let other : same_key q k ≡ false = not_marked (has_mark old q) (same_key q k) (on_canvas q) (sym (marks q) ∙ unmarked) (on_largest (x / 64) (y / 64) (omega arith) (omega arith)) in
-    ap (λ (v : Scene). map.get v.tiles q) e ∙ map.get-insert key_cmp_total before.tiles k t q ∙ ap (λ b. cond b (Some t) (map.get before.tiles q)) other
+    ap (λ o. pixel_or o clear (point (pos x) (pos y))) (ap (λ (v : Scene). map.get v.tiles q) e ∙ map.get-insert key_cmp_total before.tiles k t q ∙ ap (λ b. cond b (Some t) (map.get before.tiles q)) other)

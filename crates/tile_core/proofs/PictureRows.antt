@@ -1,7 +1,6 @@
 -- Pictures of frames, row by row, and what stays of the picture of the frame before.
 use Rattle.std.proofs.Common.{◌≡◌, ℕ, suc, zero, ◌+◌, ◌-◌, ◌*◌, ◌/◌, ◌≤◌, ◌<◌, false, List, [], ◌∷◌, ◌++◌, length, take, drop, map, min, refl, sym, ap, subst, ◌∙◌, arith, append_assoc, append-nil, length-append}
 use Rattle.std.specs.List.{flat_map}
-use Rattle.std.specs.FinMap as finite
 use Rattle.std.specs.Prelude.{ℤ, pos, slice_range}
 use Rattle.std.proofs.Math.ListN.{drop_of_length-le}
 use borrow.Rule.Slice.PartMut.{put_mid}
@@ -12,12 +11,11 @@ use Rattle.std.proofs.lemmas.Slice.{drop-append-drop}
 use Rattle.std.proofs.lemmas.Grind.{flat_map-append}
 use Rattle.pixel_core.specs.Compose.{on_paper}
 use Rattle.geom_core.specs.Areas.{row, rows, Point, point}
-use Rattle.geom_core.specs.Grid.{key}
 use Rattle.tile_core.specs.Frames.{Scene, put_at, colours_at, row_colours, Shows, SameCanvas, LaysPoints}
 use Rattle.tile_core.specs.Marks.{Grid, mark_at, place_at}
 use Rattle.tile_core.specs.Films.{Renews}
 use Rattle.tile_core.proofs.LaidColours.{put_row}
-use Rattle.tile_core.proofs.FrameRows.{written, many_colours, length-row, point_pixel, row-add, RowSoFar}
+use Rattle.tile_core.proofs.FrameRows.{written, many_colours, length-row, row-add, RowSoFar}
 
 -- the colours of the first n rows
 abbrev pub first_rows : Scene → ℕ → List ℕ
@@ -118,22 +116,20 @@ row_before s b old mid y at across w so alike shows l ew ea =
     ap (λ i. take i (drop at mid)) many ∙ ap (λ l. take (3 * w) (drop at l)) so.laid ∙ ap (λ i. take (3 * w) (drop i (first_rows s y ++ drop at old))) (sym n) ∙ ap (take (3 * w)) (drop-append_seam (first_rows s y) (drop at old))
     ∙ row_shown b old y at (3 * w) shows (omega (arith, alike.height)) e (omega (arith, alike.width))
 
--- the same tile, or none, has the same pixels
-same_pixels_at : (s b : Scene) (i y c n : ℕ) → finite.get s.tiles (key (pos i) (pos (y / 64))) ≡ finite.get b.tiles (key (pos i) (pos (y / 64))) → c + n ≤ 64 → map (put_at b) (row (pos (64 * i + c)) (pos y) n) ≡ map (put_at s) (row (pos (64 * i + c)) (pos y) n)
-same_pixels_at s b i y c zero e h = refl
-same_pixels_at s b i y c (suc n) e h =
-    let next : 64 * i + (c + 1) ≡ 64 * i + c + 1 = omega arith in
-    let first : put_at b (point (pos (64 * i + c)) (pos y)) ≡ put_at s (point (pos (64 * i + c)) (pos y)) = point_pixel b (finite.get s.tiles (key (pos i) (pos (y / 64)))) i y c (sym e) (omega arith) ∙ sym (point_pixel s (finite.get s.tiles (key (pos i) (pos (y / 64)))) i y c refl (omega arith)) in
-    let rest : map (put_at b) (row (pos (64 * i + c + 1)) (pos y) n) ≡ map (put_at s) (row (pos (64 * i + c + 1)) (pos y) n) = ap (λ m. map (put_at b) (row (pos m) (pos y) n)) (sym next) ∙ same_pixels_at s b i y (c + 1) n e (omega arith) ∙ ap (λ m. map (put_at s) (row (pos m) (pos y) n)) next in
-    ap (λ v. v ∷ map (put_at b) (row (pos (64 * i + c + 1)) (pos y) n)) first ∙ ap (λ v. put_at s (point (pos (64 * i + c)) (pos y)) ∷ v) rest
+-- both frames have the same pixel at n points of a row, from x on
+abbrev SamePoints : Scene → Scene → ℕ → ℕ → ℕ → Type 0
+SamePoints s b y x n = (k : ℕ) → x ≤ k → k < x + n → put_at s (point (pos k) (pos y)) ≡ put_at b (point (pos k) (pos y))
 
-same_colours : (s b : Scene) (i y n : ℕ) → SameCanvas s b → finite.get s.tiles (key (pos i) (pos (y / 64))) ≡ finite.get b.tiles (key (pos i) (pos (y / 64))) → n ≤ 64
-    → flat_map (colours_at b) (row (pos (64 * i)) (pos y) n) ≡ flat_map (colours_at s) (row (pos (64 * i)) (pos y) n)
-same_colours s b i y n alike e h =
-    let z : 64 * i ≡ 64 * i + 0 = omega arith in
-    let ps : List Point = row (pos (64 * i)) (pos y) n in
-    let pixels : map (put_at b) (row (pos (64 * i)) (pos y) n) ≡ map (put_at s) (row (pos (64 * i)) (pos y) n) = ap (λ m. map (put_at b) (row (pos m) (pos y) n)) z ∙ same_pixels_at s b i y 0 n e (omega arith) ∙ ap (λ m. map (put_at s) (row (pos m) (pos y) n)) (sym z) in
-    sym (flat_map-map (λ q. on_paper q b.paper) (put_at b) ps) ∙ ap (λ v. flat_map (λ q. on_paper q v) (map (put_at b) ps)) alike.paper ∙ ap (flat_map (λ q. on_paper q s.paper)) pixels ∙ flat_map-map (λ q. on_paper q s.paper) (put_at s) ps
+same_pixels : (s b : Scene) (y x n : ℕ) → SamePoints s b y x n → map (put_at b) (row (pos x) (pos y) n) ≡ map (put_at s) (row (pos x) (pos y) n)
+same_pixels s b y x zero same = refl
+same_pixels s b y x (suc n) same =
+    ap (λ v. v ∷ map (put_at b) (row (pos (x + 1)) (pos y) n)) (sym (same x (omega arith) (omega arith)))
+    ∙ ap (λ v. put_at s (point (pos x) (pos y)) ∷ v) (same_pixels s b y (x + 1) n (λ k h l. same k (omega arith) (omega arith)))
+
+same_colours : (s b : Scene) (y x n : ℕ) → SameCanvas s b → SamePoints s b y x n → flat_map (colours_at b) (row (pos x) (pos y) n) ≡ flat_map (colours_at s) (row (pos x) (pos y) n)
+same_colours s b y x n alike same =
+    let ps : List Point = row (pos x) (pos y) n in
+    sym (flat_map-map (λ q. on_paper q b.paper) (put_at b) ps) ∙ ap (λ v. flat_map (λ q. on_paper q v) (map (put_at b) ps)) alike.paper ∙ ap (flat_map (λ q. on_paper q s.paper)) (same_pixels s b y x n same) ∙ flat_map-map (λ q. on_paper q s.paper) (put_at s) ps
 
 length-colours : (s : Scene) (x y : ℤ) (n : ℕ) → length (flat_map (colours_at s) (row x y n)) ≡ 3 * n
 length-colours s x y n = many_colours (colours_at s) (row x y n) (λ _. refl) ∙ ap (λ i. 3 * i) (length-row x y n)
@@ -167,15 +163,14 @@ stays s y x n old mid e d =
     let back : drop (3 * (x + n)) mid ≡ drop (3 * x + 3 * n) old = ap (λ i. drop i mid) sum ∙ ap (drop (3 * x + 3 * n)) e ∙ drop-append-drop (3 * x) old a (3 * x + 3 * n) (omega arith) na in
     e ∙ ap (λ l. a ++ l) d ∙ sym (append_assoc a f (drop (3 * x + 3 * n) old)) ∙ ap (λ l. (l ++ f) ++ drop (3 * x + 3 * n) old) (sym front) ∙ ap (λ l. (take (3 * x) mid ++ f) ++ l) (sym back)
 
--- a column of tiles that is the same stays
+-- a column of tiles whose points are the same stays
 pub column_stays : (s b : Scene) (y i : ℕ) (old mid : List ℕ) → RowSoFar s y old mid i → 64 * i < s.width → SameCanvas s b → old ≡ row_colours b y
-    → finite.get s.tiles (key (pos i) (pos (y / 64))) ≡ finite.get b.tiles (key (pos i) (pos (y / 64))) → LaysPoints s y mid mid (64 * i) (min 64 (s.width - 64 * i))
-column_stays s b y i old mid so h alike shown e =
+    → SamePoints s b y (64 * i) (min 64 (s.width - 64 * i)) → LaysPoints s y mid mid (64 * i) (min 64 (s.width - 64 * i))
+column_stays s b y i old mid so h alike shown same =
     let here : min (64 * i) s.width ≡ 64 * i = omega arith in
-    let small : min 64 (s.width - 64 * i) ≤ 64 = omega arith in
     let fits : 64 * i + min 64 (s.width - 64 * i) ≤ b.width = omega (arith, alike.width) in
     stays s y (64 * i) (min 64 (s.width - 64 * i)) old mid (so.laid ∙ ap (λ m. flat_map (colours_at s) (row (pos 0) (pos y) m) ++ drop (3 * m) old) here)
-    (behind s b y (64 * i) (min 64 (s.width - 64 * i)) old shown fits (same_colours s b i y (min 64 (s.width - 64 * i)) alike e small))
+    (behind s b y (64 * i) (min 64 (s.width - 64 * i)) old shown fits (same_colours s b y (64 * i) (min 64 (s.width - 64 * i)) alike same))
 
 -- a row with nothing behind it
 pub row_alone : (s : Scene) (y at w across : ℕ) (mid new : List ℕ) → w ≡ s.width → across ≡ at + 3 * w → new ≡ row_colours s y ++ drop (3 * s.width) (slice_range mid at across) → new ≡ row_colours s y
@@ -183,10 +178,10 @@ row_alone s y at w across mid new ew ea e =
     let h : length (slice_range mid at across) ≤ 3 * s.width = omega (arith, length-take (across - at) (drop at mid)) in
     e ∙ ap (λ l. row_colours s y ++ l) (drop_of_length-le (slice_range mid at across) h) ∙ append-nil (row_colours s y)
 
--- a tile that isn't marked is that of the frame before
-pub tile_stays : (s b : Scene) (fresh : Grid) (col y : ℕ) → Renews s b fresh → 64 * col < s.width → y < s.height → mark_at fresh (place_at (pos col) (pos (y / 64))) ≡ false
-    → finite.get s.tiles (key (pos col) (pos (y / 64))) ≡ finite.get b.tiles (key (pos col) (pos (y / 64)))
-tile_stays s b fresh col y renews h k unmarked =
-    let e : 64 * col / 64 ≡ col = omega arith in
-    subst (λ c. finite.get s.tiles (key (pos c) (pos (y / 64))) ≡ finite.get b.tiles (key (pos c) (pos (y / 64)))) e
-    (renews (64 * col) y h k (subst (λ c. mark_at fresh (place_at (pos c) (pos (y / 64))) ≡ false) (sym e) unmarked))
+-- a tile that isn't marked has the pixels of the frame before
+pub tile_stays : (s b : Scene) (fresh : Grid) (col y : ℕ) → SameCanvas s b → Renews s b fresh → y < s.height → mark_at fresh (place_at (pos col) (pos (y / 64))) ≡ false → SamePoints s b y (64 * col) (min 64 (s.width - 64 * col))
+tile_stays s b fresh col y alike renews h unmarked k from to =
+    let small : min 64 (s.width - 64 * col) ≤ 64 = omega arith in
+    let inside : k < s.width = omega arith in
+    let e : k / 64 ≡ col = omega arith in
+    renews k y inside h (omega (arith, alike.width)) (omega (arith, alike.height)) (subst (λ c. mark_at fresh (place_at (pos c) (pos (y / 64))) ≡ false) (sym e) unmarked)

@@ -10,8 +10,8 @@ use geom_core::NoMemory;
 use std::alloc::Global;
 use std::marker::Model;
 
-/// Frames, one after another. Of each it is known which tiles may differ from the frame before, so
-/// that the colours of one follow from those of the one before by these tiles alone.
+/// Frames, one after another. Of each it is known on which tiles it may differ from the frame before,
+/// so that the colours of one follow from those of the one before by these tiles alone.
 #[derive(Drop)]
 pub struct Film {
     frames: Vec<Frame>,
@@ -58,8 +58,8 @@ impl Film {
         self.frames.last()
     }
 
-    /// Adds a frame at the end. The tiles that may differ from those of the newest frame so far are
-    /// marked. After `NoMemory` all is as it was.
+    /// Adds a frame at the end. The tiles on which it may show other pixels than the newest frame so
+    /// far are marked. After `NoMemory` all is as it was.
     pub fn push(&mut self, frame: Frame, fresh: Marks) -> Result<(), NoMemory>
         requires { (before : Scene) → newest self.old ≡ Some before → Renews frame before fresh }
         ensures ok { OnOk result (self.new ≡ self.old ++ frame ∷ []) }

@@ -53,6 +53,13 @@ impl Marks {
         col < 32 && row < 32 && self.tiles[32 * row as usize + col as usize]
     }
 
+    /// The same marks once more.
+    pub fn copy(&self) -> Marks
+        ensures { result ≡ self.now }
+    {
+        Marks { tiles: self.tiles }
+    }
+
     /// Marks the key's tile, if it is one of the largest canvas.
     pub fn mark(&mut self, key: TileKey)
         ensures { (k : Key) → has_mark self.new k ≡ (has_mark self.old k || (same_key k key && on_canvas k)) }

@@ -14,7 +14,12 @@ keep-requires-clause-once c =
     let listed : c.as_slice.result.now ≡ order doc ++ 0 ∷ [] = c.as_slice.ensures.value ∙ c.all_groups-groups.ensures ∙ ap (λ t. order t ++ 0 ∷ []) c.tree-tree.ensures.value ∙ path_same All doc in
     subst (IsDistinct nat_eq) (sym listed) (path_distinct All doc (document_each (λ n x. tt) doc (subst IsDocument c.tree-tree.ensures.value c.node_count-count.ensures.limits)).tree)
 
+pub keep-requires-clause-of_tree : goal.keep-requires-clause-of_tree
+keep-requires-clause-of_tree c =
+    let doc = c.args.store.now.present in
+    (doc, c.as_slice.ensures.value ∙ c.all_groups-groups.ensures ∙ ap (λ t. order t ++ 0 ∷ []) c.tree-tree.ensures.value ∙ path_same All doc)
+
 pub returns-clause-caches : goal.returns-clause-caches
 returns-clause-caches c =
     let doc = c.args.store.now.present in
-    c.keep.ensures doc (c.as_slice.ensures.value ∙ c.all_groups-groups.ensures ∙ ap (λ t. order t ++ 0 ∷ []) c.tree-tree.ensures.value ∙ path_same All doc)
+    c.keep.ensures.caches doc (c.as_slice.ensures.value ∙ c.all_groups-groups.ensures ∙ ap (λ t. order t ++ 0 ∷ []) c.tree-tree.ensures.value ∙ path_same All doc)

@@ -12,10 +12,10 @@ lay_groups-requires-clause-composed c = subst (λ gs. list_all (λ g. has_pair c
 
 pub returns-clause-front : goal.returns-clause-front
 returns-clause-front c = same_lays_front c.args.inputs.now c.args.composed.now.readings c.args.key (path_in c.args.inputs.now) _ _ c.requires.of.same
-    (subst (λ gs. LaysFront c.args.composed.now.readings (pairs_at gs c.args.key) (laid_as c.args.caches.now c.args.published.now) (laid_as c.lay_groups.new.caches c.lay_groups.new.published)) c.path.ensures c.lay_groups.ensures.front)
+    (subst (λ gs. LaysFront c.args.composed.now.readings (pairs_at gs c.args.key) (laid_as c.args.filmed.now.caches c.args.published.now) (laid_as c.lay_groups.new.filmed.caches c.lay_groups.new.published)) c.path.ensures c.lay_groups.ensures.front)
 
 pub returns-clause-all : goal.returns-clause-all
 returns-clause-all c = more_ok c.lay_groups.result
     (λ all. same_lays c.args.inputs.now c.args.composed.now.readings c.args.key (path_in c.args.inputs.now) _ _ c.requires.of.same
-      (subst (λ gs. Lays c.args.composed.now.readings (pairs_at gs c.args.key) (laid_as c.args.caches.now c.args.published.now) (laid_as c.lay_groups.new.caches c.lay_groups.new.published)) c.path.ensures all))
+      (subst (λ gs. Lays c.args.composed.now.readings (pairs_at gs c.args.key) (laid_as c.args.filmed.now.caches c.args.published.now) (laid_as c.lay_groups.new.filmed.caches c.lay_groups.new.published)) c.path.ensures all))
     c.lay_groups.ensures.all

@@ -12,7 +12,7 @@ use Rattle.desk_machine.proofs.StepCounts.{none_started}
 use Rattle.desk_machine.proofs.machine.Machine.cancel_waiting.Goals as goal
 
 abbrev before : goal.After-pop → Parts
-before c = parts c.self.inside.canvas c.self.inside.fed.items c.self.inside.queue c.self.inside.store c.self.inside.caches c.self.inside.updates c.self.inside.slots c.self.inside.frames.items c.self.inside.way c.self.inside.next
+before c = parts c.self.inside.canvas c.self.inside.fed.items c.self.inside.queue c.self.inside.store c.self.inside.filmed.caches c.self.inside.updates c.self.inside.slots c.self.inside.filmed.frames c.self.inside.way c.self.inside.next
 
 does : (c : goal.After-pop) → Does (before c) Cancel (record (before c) { queue = c.pop.new.self })
 does c = cancel_waiting_does (before c) c.pop.new.self c.refusal-outcome.result c.self.invariant (subst (λ s. Enabled s Cancel) (sym c.self.view_is) c.requires.enabled) (ap (λ (s : State). s.way) c.self.view_is ∙ c.requires.way)

@@ -17,19 +17,19 @@ put-requires c = rw c.clear.ensures.left (get_set c.self.inside.slots c.args.pla
 
 -- the parts as they were
 abbrev before : goal.After-put → Parts
-before c = parts c.self.inside.canvas c.self.inside.fed.items c.self.inside.queue c.self.inside.store c.self.inside.caches c.self.inside.updates c.self.inside.slots c.self.inside.frames.items c.self.inside.way c.self.inside.next
+before c = parts c.self.inside.canvas c.self.inside.fed.items c.self.inside.queue c.self.inside.store c.self.inside.filmed.caches c.self.inside.updates c.self.inside.slots c.self.inside.filmed.frames c.self.inside.way c.self.inside.next
 
 -- and as they are
 abbrev after : goal.After-put → Parts
-after c = record (before c) { caches = c.compose_own-laid.new.caches; slots = c.put.new.self }
+after c = record (before c) { caches = c.compose_own-laid.new.filmed.caches; slots = c.put.new.self; frames = c.compose_own-laid.new.filmed.frames }
 
 composed : (c : goal.After-put) → IsComposedAt (before c) (after c) c.compose_own-laid.result
-composed c = composed_at (before c) c.args.place c.in-Some-Walk.walker c.compose_own-laid.new.walker c.args.key c.compose_own-laid.result c.compose_own-laid.new.caches c.put.new.self c.self.invariant
+composed c = subst (λ frames. IsComposedAt (before c) (record (after c) { frames = frames }) c.compose_own-laid.result) (sym c.compose_own-laid.ensures.frames) (composed_at (before c) c.args.place c.in-Some-Walk.walker c.compose_own-laid.new.walker c.args.key c.compose_own-laid.result c.compose_own-laid.new.filmed.caches c.put.new.self c.self.invariant
     (sym c.clear.ensures.work ∙ c.in-Some-Walk.is ∙ ap Some c.in-Some-Walk.field-0-is)
     (subst (λ s. WalkLacks s c.args.place c.args.key) (sym c.self.view_is) c.requires)
     c.compose_own-laid.ensures.all c.compose_own-laid.ensures.front c.compose_own-laid.ensures.inputs c.compose_own-laid.ensures.serial
     (c.put.ensures ∙ ap (λ xs. slice_set xs c.args.place (Some (record { work = Walk c.compose_own-laid.new.walker; walker = Some c.patch-rect.result.rect }))) c.clear.ensures.left
-    ∙ ap (λ (q : Patch). slice_set (slice_set c.self.inside.slots c.args.place None) c.args.place (Some (record { work = Walk c.compose_own-laid.new.walker; walker = Some q.rect }))) c.patch-rect.ensures)
+    ∙ ap (λ (q : Patch). slice_set (slice_set c.self.inside.slots c.args.place None) c.args.place (Some (record { work = Walk c.compose_own-laid.new.walker; walker = Some q.rect }))) c.patch-rect.ensures))
 
 pub invariant_of-self : goal.invariant_of-self
 invariant_of-self c = (composed c).desk
@@ -41,7 +41,7 @@ pub returns-clause-err : goal.returns-clause-err
 returns-clause-err c = subst (λ s. OnErr c.compose_own-laid.result (Settles s (state_of (after c)))) c.self.view_is (composed c).err
 
 pub unreachable-requires : goal.unreachable-requires
-unreachable-requires c = walk_at_job (parts c.self.inside.canvas c.self.inside.fed.items c.self.inside.queue c.self.inside.store c.self.inside.caches c.self.inside.updates c.self.inside.slots c.self.inside.frames.items c.self.inside.way c.self.inside.next) c.args.place _ c.requires.enabled.1.walker (sym c.clear.ensures.work ∙ c.in-Some-Paint.is ∙ ap Some c.in-Some-Paint.field-0-is) (ap (λ (s : State). slice_get s.slots c.args.place) c.self.view_is ∙ c.requires.enabled.1.runs)
+unreachable-requires c = walk_at_job (parts c.self.inside.canvas c.self.inside.fed.items c.self.inside.queue c.self.inside.store c.self.inside.filmed.caches c.self.inside.updates c.self.inside.slots c.self.inside.filmed.frames c.self.inside.way c.self.inside.next) c.args.place _ c.requires.enabled.1.walker (sym c.clear.ensures.work ∙ c.in-Some-Paint.is ∙ ap Some c.in-Some-Paint.field-0-is) (ap (λ (s : State). slice_get s.slots c.args.place) c.self.view_is ∙ c.requires.enabled.1.runs)
 
 pub unreachable-requires-in-None : goal.unreachable-requires-in-None
-unreachable-requires-in-None c = walk_at_none (parts c.self.inside.canvas c.self.inside.fed.items c.self.inside.queue c.self.inside.store c.self.inside.caches c.self.inside.updates c.self.inside.slots c.self.inside.frames.items c.self.inside.way c.self.inside.next) c.args.place c.requires.enabled.1.walker (sym c.clear.ensures.work ∙ c.in-None.is) (ap (λ (s : State). slice_get s.slots c.args.place) c.self.view_is ∙ c.requires.enabled.1.runs)
+unreachable-requires-in-None c = walk_at_none (parts c.self.inside.canvas c.self.inside.fed.items c.self.inside.queue c.self.inside.store c.self.inside.filmed.caches c.self.inside.updates c.self.inside.slots c.self.inside.filmed.frames c.self.inside.way c.self.inside.next) c.args.place c.requires.enabled.1.walker (sym c.clear.ensures.work ∙ c.in-None.is) (ap (λ (s : State). slice_get s.slots c.args.place) c.self.view_is ∙ c.requires.enabled.1.runs)

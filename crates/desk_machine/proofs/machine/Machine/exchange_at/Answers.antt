@@ -21,14 +21,14 @@ pub put-requires : goal.put-requires
 put-requires c = rw c.clear.ensures.left (get_set c.self.inside.slots c.args.place _ None (painting_at c.self.inside.slots c.args.place c.in-Some-Paint.painter c.self.invariant.slots (sym c.clear.ensures.work ∙ c.in-Some-Paint.is ∙ ap Some c.in-Some-Paint.field-0-is)).there)
 
 pub exchange_own-laid-requires-clause-begun : goal.exchange_own-laid-requires-clause-begun
-exchange_own-laid-requires-clause-begun c = begun_at_work (parts c.self.inside.canvas c.self.inside.fed.items c.self.inside.queue c.self.inside.store c.self.inside.caches c.self.inside.updates c.self.inside.slots c.self.inside.frames.items c.self.inside.way c.self.inside.next) c.args.place c.requires.painter c.self.invariant (ap (λ (s : State). slice_get s.slots c.args.place) c.self.view_is ∙ c.requires.runs)
+exchange_own-laid-requires-clause-begun c = begun_at_work (parts c.self.inside.canvas c.self.inside.fed.items c.self.inside.queue c.self.inside.store c.self.inside.filmed.caches c.self.inside.updates c.self.inside.slots c.self.inside.filmed.frames c.self.inside.way c.self.inside.next) c.args.place c.requires.painter c.self.invariant (ap (λ (s : State). slice_get s.slots c.args.place) c.self.view_is ∙ c.requires.runs)
 
 pub exchange_own-laid-requires-clause-of : goal.exchange_own-laid-requires-clause-of
-exchange_own-laid-requires-clause-of c = own_whole c.in-Some-Paint.painter c.requires.painter c.args.whole.now (job_is (parts c.self.inside.canvas c.self.inside.fed.items c.self.inside.queue c.self.inside.store c.self.inside.caches c.self.inside.updates c.self.inside.slots c.self.inside.frames.items c.self.inside.way c.self.inside.next) c.args.place c.in-Some-Paint.painter c.requires.painter (sym c.clear.ensures.work ∙ c.in-Some-Paint.is ∙ ap Some c.in-Some-Paint.field-0-is) (ap (λ (s : State). slice_get s.slots c.args.place) c.self.view_is ∙ c.requires.runs)) c.requires.of
+exchange_own-laid-requires-clause-of c = own_whole c.in-Some-Paint.painter c.requires.painter c.args.whole.now (job_is (parts c.self.inside.canvas c.self.inside.fed.items c.self.inside.queue c.self.inside.store c.self.inside.filmed.caches c.self.inside.updates c.self.inside.slots c.self.inside.filmed.frames c.self.inside.way c.self.inside.next) c.args.place c.in-Some-Paint.painter c.requires.painter (sym c.clear.ensures.work ∙ c.in-Some-Paint.is ∙ ap Some c.in-Some-Paint.field-0-is) (ap (λ (s : State). slice_get s.slots c.args.place) c.self.view_is ∙ c.requires.runs)) c.requires.of
 
 -- the parts as they were
 abbrev before : goal.After-put → Parts
-before c = parts c.self.inside.canvas c.self.inside.fed.items c.self.inside.queue c.self.inside.store c.self.inside.caches c.self.inside.updates c.self.inside.slots c.self.inside.frames.items c.self.inside.way c.self.inside.next
+before c = parts c.self.inside.canvas c.self.inside.fed.items c.self.inside.queue c.self.inside.store c.self.inside.filmed.caches c.self.inside.updates c.self.inside.slots c.self.inside.filmed.frames c.self.inside.way c.self.inside.next
 
 -- and as they are
 abbrev after : goal.After-put → Parts
@@ -56,7 +56,7 @@ pub returns-clause-err : goal.returns-clause-err
 returns-clause-err c = subst (λ s. OnErr c.exchange_own-laid.result (state_of (after c) ≡ s)) c.self.view_is (laid c).err
 
 pub unreachable-requires : goal.unreachable-requires
-unreachable-requires c = job_at_walk (parts c.self.inside.canvas c.self.inside.fed.items c.self.inside.queue c.self.inside.store c.self.inside.caches c.self.inside.updates c.self.inside.slots c.self.inside.frames.items c.self.inside.way c.self.inside.next) c.args.place _ c.requires.painter (sym c.clear.ensures.work ∙ c.in-Some-Walk.is ∙ ap Some c.in-Some-Walk.field-0-is) (ap (λ (s : State). slice_get s.slots c.args.place) c.self.view_is ∙ c.requires.runs)
+unreachable-requires c = job_at_walk (parts c.self.inside.canvas c.self.inside.fed.items c.self.inside.queue c.self.inside.store c.self.inside.filmed.caches c.self.inside.updates c.self.inside.slots c.self.inside.filmed.frames c.self.inside.way c.self.inside.next) c.args.place _ c.requires.painter (sym c.clear.ensures.work ∙ c.in-Some-Walk.is ∙ ap Some c.in-Some-Walk.field-0-is) (ap (λ (s : State). slice_get s.slots c.args.place) c.self.view_is ∙ c.requires.runs)
 
 pub unreachable-requires-in-None : goal.unreachable-requires-in-None
-unreachable-requires-in-None c = job_at_none (parts c.self.inside.canvas c.self.inside.fed.items c.self.inside.queue c.self.inside.store c.self.inside.caches c.self.inside.updates c.self.inside.slots c.self.inside.frames.items c.self.inside.way c.self.inside.next) c.args.place c.requires.painter (sym c.clear.ensures.work ∙ c.in-None.is) (ap (λ (s : State). slice_get s.slots c.args.place) c.self.view_is ∙ c.requires.runs)
+unreachable-requires-in-None c = job_at_none (parts c.self.inside.canvas c.self.inside.fed.items c.self.inside.queue c.self.inside.store c.self.inside.filmed.caches c.self.inside.updates c.self.inside.slots c.self.inside.filmed.frames c.self.inside.way c.self.inside.next) c.args.place c.requires.painter (sym c.clear.ensures.work ∙ c.in-None.is) (ap (λ (s : State). slice_get s.slots c.args.place) c.self.view_is ∙ c.requires.runs)

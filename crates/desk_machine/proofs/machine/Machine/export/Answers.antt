@@ -6,19 +6,27 @@ use Rattle.desk_parts.specs.Enabled.{Enabled}
 use Rattle.desk_parts.specs.Parts.{Parts, parts, state_of}
 use Rattle.desk_parts.specs.Tied.{IsDesk}
 use Rattle.desk_parts.proofs.Doing.{Does}
+use Rattle.desk_work.specs.Filmed.{Filmed, TakesFrame}
 use Rattle.desk_machine.proofs.Exported.{export_shows}
 use Rattle.desk_machine.proofs.machine.Machine.export.Goals as goal
 
 abbrev before : goal.After-pop → Parts
-before c = parts c.self.inside.canvas c.self.inside.fed.items c.self.inside.queue c.self.inside.store c.self.inside.caches c.self.inside.updates c.self.inside.slots c.self.inside.frames.items c.self.inside.way c.self.inside.next
+before c = parts c.self.inside.canvas c.self.inside.fed.items c.self.inside.queue c.self.inside.store c.self.inside.filmed.caches c.self.inside.updates c.self.inside.slots c.self.inside.filmed.frames c.self.inside.way c.self.inside.next
 
-does : (c : goal.After-pop) → Does (before c) Act (record (before c) { queue = c.pop.new.self; frames = c.self.inside.frames.items ++ c.in_ok-frame.frame ∷ [] })
-does c = export_shows (before c) c.in_ok-frame.frame c.pop.new.self c.self.invariant (subst (λ s. Enabled s Act) (sym c.self.view_is) c.requires.enabled) (ap head c.self.view_is ∙ c.requires.head)
-    (record { left = c.pop.ensures.left; outcomes = c.pop.ensures.outcomes }) c.in_ok-frame.ensures
+-- the parts as they are
+abbrev after : goal.After-pop → Filmed → Parts
+after c f = record (before c) { queue = c.pop.new.self; caches = f.caches; frames = f.frames }
+
+taken : (c : goal.After-pop) → TakesFrame c.self.inside.canvas c.self.inside.filmed c.take_frame.new.self
+taken c = c.in_ok-take_frame.ensures.ok
+
+does : (c : goal.After-pop) → Does (before c) Act (after c (record { caches = c.self.inside.filmed.caches; frames = c.self.inside.filmed.frames ++ (taken c).shown ∷ [] }))
+does c = export_shows (before c) (taken c).shown c.pop.new.self c.self.invariant (subst (λ s. Enabled s Act) (sym c.self.view_is) c.requires.enabled) (ap head c.self.view_is ∙ c.requires.head)
+    (record { left = c.pop.ensures.left; outcomes = c.pop.ensures.outcomes }) (taken c).shows
 
 pub invariant_of-self-2 : goal.invariant_of-self-2
-invariant_of-self-2 c = subst (λ frames. IsDesk (record (before c) { queue = c.pop.new.self; frames = frames })) (sym c.in_ok-push.ensures.items) (does c).desk
+invariant_of-self-2 c = subst (λ f. IsDesk (after c f)) (sym (taken c).new_is) (does c).desk
 
 pub returns-clause-ok : goal.returns-clause-ok
-returns-clause-ok c = subst (λ frames. ActStep c.args.self.now (state_of (record (before c) { queue = c.pop.new.self; frames = frames }))) (sym c.in_ok-push.ensures.items)
-    (subst (λ s. ActStep s (state_of (record (before c) { queue = c.pop.new.self; frames = c.self.inside.frames.items ++ c.in_ok-frame.frame ∷ [] }))) c.self.view_is (does c).step)
+returns-clause-ok c = subst (λ f. ActStep c.args.self.now (state_of (after c f))) (sym (taken c).new_is)
+    (subst (λ s. ActStep s (state_of (after c (record { caches = c.self.inside.filmed.caches; frames = c.self.inside.filmed.frames ++ (taken c).shown ∷ [] })))) c.self.view_is (does c).step)

@@ -9,7 +9,7 @@ use Rattle.desk_parts.proofs.Doing.{Does, refuse_does}
 use Rattle.desk_machine.proofs.machine.Machine.finish_refused.Goals as goal
 
 abbrev before : goal.After-pop → Parts
-before c = parts c.self.inside.canvas c.self.inside.fed.items c.self.inside.queue c.self.inside.store c.self.inside.caches c.self.inside.updates c.self.inside.slots c.self.inside.frames.items c.self.inside.way c.self.inside.next
+before c = parts c.self.inside.canvas c.self.inside.fed.items c.self.inside.queue c.self.inside.store c.self.inside.filmed.caches c.self.inside.updates c.self.inside.slots c.self.inside.filmed.frames c.self.inside.way c.self.inside.next
 
 abbrev after : goal.After-pop → Parts
 after c = record (before c) { queue = c.pop.new.self }

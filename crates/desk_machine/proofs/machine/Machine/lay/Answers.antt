@@ -19,7 +19,7 @@ put-requires c = rw c.clear.ensures.left (get_set c.self.inside.slots c.args.slo
 
 -- the parts as they were
 abbrev before : goal.After-put → Parts
-before c = parts c.self.inside.canvas c.self.inside.fed.items c.self.inside.queue c.self.inside.store c.self.inside.caches c.self.inside.updates c.self.inside.slots c.self.inside.frames.items c.self.inside.way c.self.inside.next
+before c = parts c.self.inside.canvas c.self.inside.fed.items c.self.inside.queue c.self.inside.store c.self.inside.filmed.caches c.self.inside.updates c.self.inside.slots c.self.inside.filmed.frames c.self.inside.way c.self.inside.next
 
 -- and as they are
 abbrev after : goal.After-put → Parts
@@ -42,7 +42,7 @@ pub returns-clause-err : goal.returns-clause-err
 returns-clause-err c = subst (λ s. OnErr c.lay-laid.result (state_of (after c) ≡ s)) c.self.view_is (laid c).err
 
 pub unreachable-requires : goal.unreachable-requires
-unreachable-requires c = job_at_walk (parts c.self.inside.canvas c.self.inside.fed.items c.self.inside.queue c.self.inside.store c.self.inside.caches c.self.inside.updates c.self.inside.slots c.self.inside.frames.items c.self.inside.way c.self.inside.next) c.args.slot.place _ c.requires.painter (sym c.clear.ensures.work ∙ c.in-Some-Walk.is ∙ ap Some c.in-Some-Walk.field-0-is) (ap (λ (s : State). slice_get s.slots c.args.slot.place) c.self.view_is ∙ c.requires.runs)
+unreachable-requires c = job_at_walk (parts c.self.inside.canvas c.self.inside.fed.items c.self.inside.queue c.self.inside.store c.self.inside.filmed.caches c.self.inside.updates c.self.inside.slots c.self.inside.filmed.frames c.self.inside.way c.self.inside.next) c.args.slot.place _ c.requires.painter (sym c.clear.ensures.work ∙ c.in-Some-Walk.is ∙ ap Some c.in-Some-Walk.field-0-is) (ap (λ (s : State). slice_get s.slots c.args.slot.place) c.self.view_is ∙ c.requires.runs)
 
 pub unreachable-requires-in-None : goal.unreachable-requires-in-None
-unreachable-requires-in-None c = job_at_none (parts c.self.inside.canvas c.self.inside.fed.items c.self.inside.queue c.self.inside.store c.self.inside.caches c.self.inside.updates c.self.inside.slots c.self.inside.frames.items c.self.inside.way c.self.inside.next) c.args.slot.place c.requires.painter (sym c.clear.ensures.work ∙ c.in-None.is) (ap (λ (s : State). slice_get s.slots c.args.slot.place) c.self.view_is ∙ c.requires.runs)
+unreachable-requires-in-None c = job_at_none (parts c.self.inside.canvas c.self.inside.fed.items c.self.inside.queue c.self.inside.store c.self.inside.filmed.caches c.self.inside.updates c.self.inside.slots c.self.inside.filmed.frames c.self.inside.way c.self.inside.next) c.args.slot.place c.requires.painter (sym c.clear.ensures.work ∙ c.in-None.is) (ap (λ (s : State). slice_get s.slots c.args.slot.place) c.self.view_is ∙ c.requires.runs)

@@ -13,29 +13,29 @@ use Rattle.desk_machine.proofs.WholeWalks.{IsRowAt, row_at, row_of}
 use Rattle.desk_machine.proofs.machine.Machine.lay_walked_row.Goals as goal
 
 pub lay_row-laid-requires-clause-of : goal.lay_row-laid-requires-clause-of
-lay_row-laid-requires-clause-of c = (row_of (parts c.self.inside.canvas c.self.inside.fed.items c.self.inside.queue c.self.inside.store c.self.inside.caches c.self.inside.updates c.self.inside.slots c.self.inside.frames.items c.self.inside.way c.self.inside.next) c.args.slot.place c.args.slot.serial c.in-Some-Walk.walker c.args.composed.now c.args.key (sym c.clear.ensures.work ∙ c.in-Some-Walk.is ∙ ap Some c.in-Some-Walk.field-0-is) (subst (λ s. MayPublishRow s c.args.slot.place c.args.slot.serial c.args.composed.now c.args.key) (sym c.self.view_is) c.requires)).of
+lay_row-laid-requires-clause-of c = (row_of (parts c.self.inside.canvas c.self.inside.fed.items c.self.inside.queue c.self.inside.store c.self.inside.filmed.caches c.self.inside.updates c.self.inside.slots c.self.inside.filmed.frames c.self.inside.way c.self.inside.next) c.args.slot.place c.args.slot.serial c.in-Some-Walk.walker c.args.composed.now c.args.key (sym c.clear.ensures.work ∙ c.in-Some-Walk.is ∙ ap Some c.in-Some-Walk.field-0-is) (subst (λ s. MayPublishRow s c.args.slot.place c.args.slot.serial c.args.composed.now c.args.key) (sym c.self.view_is) c.requires)).of
 
 pub lay_row-laid-requires-clause-world : goal.lay_row-laid-requires-clause-world
-lay_row-laid-requires-clause-world c = (row_of (parts c.self.inside.canvas c.self.inside.fed.items c.self.inside.queue c.self.inside.store c.self.inside.caches c.self.inside.updates c.self.inside.slots c.self.inside.frames.items c.self.inside.way c.self.inside.next) c.args.slot.place c.args.slot.serial c.in-Some-Walk.walker c.args.composed.now c.args.key (sym c.clear.ensures.work ∙ c.in-Some-Walk.is ∙ ap Some c.in-Some-Walk.field-0-is) (subst (λ s. MayPublishRow s c.args.slot.place c.args.slot.serial c.args.composed.now c.args.key) (sym c.self.view_is) c.requires)).world
+lay_row-laid-requires-clause-world c = (row_of (parts c.self.inside.canvas c.self.inside.fed.items c.self.inside.queue c.self.inside.store c.self.inside.filmed.caches c.self.inside.updates c.self.inside.slots c.self.inside.filmed.frames c.self.inside.way c.self.inside.next) c.args.slot.place c.args.slot.serial c.in-Some-Walk.walker c.args.composed.now c.args.key (sym c.clear.ensures.work ∙ c.in-Some-Walk.is ∙ ap Some c.in-Some-Walk.field-0-is) (subst (λ s. MayPublishRow s c.args.slot.place c.args.slot.serial c.args.composed.now c.args.key) (sym c.self.view_is) c.requires)).world
 
 pub put-requires : goal.put-requires
 put-requires c = rw c.clear.ensures.left (get_set c.self.inside.slots c.args.slot.place _ None (walking_at c.self.inside.slots c.args.slot.place c.in-Some-Walk.walker c.self.invariant.slots (sym c.clear.ensures.work ∙ c.in-Some-Walk.is ∙ ap Some c.in-Some-Walk.field-0-is)))
 
 -- the parts as they were
 abbrev before : goal.After-put → Parts
-before c = parts c.self.inside.canvas c.self.inside.fed.items c.self.inside.queue c.self.inside.store c.self.inside.caches c.self.inside.updates c.self.inside.slots c.self.inside.frames.items c.self.inside.way c.self.inside.next
+before c = parts c.self.inside.canvas c.self.inside.fed.items c.self.inside.queue c.self.inside.store c.self.inside.filmed.caches c.self.inside.updates c.self.inside.slots c.self.inside.filmed.frames c.self.inside.way c.self.inside.next
 
 -- and as they are
 abbrev after : goal.After-put → Parts
-after c = record (before c) { caches = c.lay_row-laid.new.caches; slots = c.put.new.self }
+after c = record (before c) { caches = c.lay_row-laid.new.filmed.caches; slots = c.put.new.self; frames = c.lay_row-laid.new.filmed.frames }
 
 row : (c : goal.After-put) → IsRowAt (before c) (after c) c.args.slot.place c.args.key c.lay_row-laid.result
-row c = row_at (before c) c.args.slot.place c.in-Some-Walk.walker c.args.key c.lay_row-laid.new.published c.lay_row-laid.result c.lay_row-laid.new.caches c.put.new.self c.self.invariant
+row c = subst (λ frames. IsRowAt (before c) (record (after c) { frames = frames }) c.args.slot.place c.args.key c.lay_row-laid.result) (sym c.lay_row-laid.ensures.frames) (row_at (before c) c.args.slot.place c.in-Some-Walk.walker c.args.key c.lay_row-laid.new.published c.lay_row-laid.result c.lay_row-laid.new.filmed.caches c.put.new.self c.self.invariant
     (sym c.clear.ensures.work ∙ c.in-Some-Walk.is ∙ ap Some c.in-Some-Walk.field-0-is)
     (row_of (before c) c.args.slot.place c.args.slot.serial c.in-Some-Walk.walker c.args.composed.now c.args.key (sym c.clear.ensures.work ∙ c.in-Some-Walk.is ∙ ap Some c.in-Some-Walk.field-0-is) (subst (λ s. MayPublishRow s c.args.slot.place c.args.slot.serial c.args.composed.now c.args.key) (sym c.self.view_is) c.requires)).in_patch
     c.lay_row-laid.ensures.all c.lay_row-laid.ensures.front
     (c.put.ensures ∙ ap (λ xs. slice_set xs c.args.slot.place (Some (record { work = Walk (record c.in-Some-Walk.walker { published = c.lay_row-laid.new.published }); walker = Some c.patch-rect.result.rect }))) c.clear.ensures.left
-    ∙ ap (λ (q : Patch). slice_set (slice_set c.self.inside.slots c.args.slot.place None) c.args.slot.place (Some (record { work = Walk (record c.in-Some-Walk.walker { published = c.lay_row-laid.new.published }); walker = Some q.rect }))) c.patch-rect.ensures)
+    ∙ ap (λ (q : Patch). slice_set (slice_set c.self.inside.slots c.args.slot.place None) c.args.slot.place (Some (record { work = Walk (record c.in-Some-Walk.walker { published = c.lay_row-laid.new.published }); walker = Some q.rect }))) c.patch-rect.ensures))
 
 pub invariant_of-self : goal.invariant_of-self
 invariant_of-self c = (row c).desk
@@ -47,7 +47,7 @@ pub returns-clause-front : goal.returns-clause-front
 returns-clause-front c = subst (λ s. RunsFront s (row_events s c.args.slot.place c.args.key) (state_of (after c))) c.self.view_is (row c).front
 
 pub unreachable-requires : goal.unreachable-requires
-unreachable-requires c = walk_at_job (parts c.self.inside.canvas c.self.inside.fed.items c.self.inside.queue c.self.inside.store c.self.inside.caches c.self.inside.updates c.self.inside.slots c.self.inside.frames.items c.self.inside.way c.self.inside.next) c.args.slot.place _ c.requires.walker (sym c.clear.ensures.work ∙ c.in-Some-Paint.is ∙ ap Some c.in-Some-Paint.field-0-is) (ap (λ (s : State). slice_get s.slots c.args.slot.place) c.self.view_is ∙ c.requires.runs)
+unreachable-requires c = walk_at_job (parts c.self.inside.canvas c.self.inside.fed.items c.self.inside.queue c.self.inside.store c.self.inside.filmed.caches c.self.inside.updates c.self.inside.slots c.self.inside.filmed.frames c.self.inside.way c.self.inside.next) c.args.slot.place _ c.requires.walker (sym c.clear.ensures.work ∙ c.in-Some-Paint.is ∙ ap Some c.in-Some-Paint.field-0-is) (ap (λ (s : State). slice_get s.slots c.args.slot.place) c.self.view_is ∙ c.requires.runs)
 
 pub unreachable-requires-in-None : goal.unreachable-requires-in-None
-unreachable-requires-in-None c = walk_at_none (parts c.self.inside.canvas c.self.inside.fed.items c.self.inside.queue c.self.inside.store c.self.inside.caches c.self.inside.updates c.self.inside.slots c.self.inside.frames.items c.self.inside.way c.self.inside.next) c.args.slot.place c.requires.walker (sym c.clear.ensures.work ∙ c.in-None.is) (ap (λ (s : State). slice_get s.slots c.args.slot.place) c.self.view_is ∙ c.requires.runs)
+unreachable-requires-in-None c = walk_at_none (parts c.self.inside.canvas c.self.inside.fed.items c.self.inside.queue c.self.inside.store c.self.inside.filmed.caches c.self.inside.updates c.self.inside.slots c.self.inside.filmed.frames c.self.inside.way c.self.inside.next) c.args.slot.place c.requires.walker (sym c.clear.ensures.work ∙ c.in-None.is) (ap (λ (s : State). slice_get s.slots c.args.slot.place) c.self.view_is ∙ c.requires.runs)

@@ -6,8 +6,8 @@ use Rattle.desk_parts.proofs.Making.{new_parts, new_desk, new_is}
 use Rattle.desk_machine.proofs.machine.Machine.new.Goals as goal
 
 -- the parts are those of a new desk
-made : (c : goal.After-new-7) → parts c.args.canvas c.new-4.result.items c.new-5.result c.in_ok-store.store c.in_ok-caches.caches c.new-6.result c.in_ok-free.free c.new-7.result.items None 0 ≡ new_parts c.args.canvas c.args.slots
-made c = λ i. parts c.args.canvas (c.new-4.ensures i) (c.new-5.ensures.value i) (c.in_ok-store.ensures i) (c.in_ok-caches.ensures i) ((c.new-6.ensures ∙ ap (λ a. record { canvas = a; patches = [] }) c.rect.ensures) i) (c.in_ok-free.ensures i) (c.new-7.ensures.items i) None 0
+made : (c : goal.After-new-6) → parts c.args.canvas c.new-4.result.items c.new-5.result c.in_ok-store.store c.in_ok-filmed.filmed.caches c.new-6.result c.in_ok-free.free c.in_ok-filmed.filmed.frames None 0 ≡ new_parts c.args.canvas c.args.slots
+made c = λ i. parts c.args.canvas (c.new-4.ensures i) (c.new-5.ensures.value i) (c.in_ok-store.ensures i) (c.in_ok-filmed.ensures i).caches ((c.new-6.ensures ∙ ap (λ a. record { canvas = a; patches = [] }) c.rect.ensures) i) (c.in_ok-free.ensures i) (c.in_ok-filmed.ensures i).frames None 0
 
 pub invariant_of-result : goal.invariant_of-result
 invariant_of-result c = subst IsDesk (sym (made c)) (new_desk c.args.canvas c.args.slots c.requires.canvas c.requires.some c.requires.few (subst (StandsFor []) c.new-5.ensures.value c.new-5.ensures.stands))

@@ -22,7 +22,7 @@ pub put-requires : goal.put-requires
 put-requires c = rw c.clear.ensures.left (get_set c.self.inside.slots c.args.place _ None (painting_at c.self.inside.slots c.args.place c.in-Some-Paint.painter c.self.invariant.slots (sym c.clear.ensures.work ∙ c.in-Some-Paint.is ∙ ap Some c.in-Some-Paint.field-0-is)).there)
 
 pub paint_own-laid-requires-clause-begun : goal.paint_own-laid-requires-clause-begun
-paint_own-laid-requires-clause-begun c = begun_at_work (parts c.self.inside.canvas c.self.inside.fed.items c.self.inside.queue c.self.inside.store c.self.inside.caches c.self.inside.updates c.self.inside.slots c.self.inside.frames.items c.self.inside.way c.self.inside.next) c.args.place c.requires.1.painter c.self.invariant (ap (λ (s : State). slice_get s.slots c.args.place) c.self.view_is ∙ c.requires.1.runs)
+paint_own-laid-requires-clause-begun c = begun_at_work (parts c.self.inside.canvas c.self.inside.fed.items c.self.inside.queue c.self.inside.store c.self.inside.filmed.caches c.self.inside.updates c.self.inside.slots c.self.inside.filmed.frames c.self.inside.way c.self.inside.next) c.args.place c.requires.1.painter c.self.invariant (ap (λ (s : State). slice_get s.slots c.args.place) c.self.view_is ∙ c.requires.1.runs)
 
 pub paint_own-laid-requires-clause-checked : goal.paint_own-laid-requires-clause-checked
 paint_own-laid-requires-clause-checked c = (painting_at c.self.inside.slots c.args.place c.in-Some-Paint.painter c.self.invariant.slots (sym c.clear.ensures.work ∙ c.in-Some-Paint.is ∙ ap Some c.in-Some-Paint.field-0-is)).kept.2
@@ -34,11 +34,11 @@ pub paint_own-laid-requires-clause-seen : goal.paint_own-laid-requires-clause-se
 paint_own-laid-requires-clause-seen c = (painting_at c.self.inside.slots c.args.place c.in-Some-Paint.painter c.self.invariant.slots (sym c.clear.ensures.work ∙ c.in-Some-Paint.is ∙ ap Some c.in-Some-Paint.field-0-is)).kept.1
 
 pub paint_own-laid-requires-clause-met : goal.paint_own-laid-requires-clause-met
-paint_own-laid-requires-clause-met c = ap (λ (q : state.Painter). list_any (same_key c.args.key) (all_keys_of (writes q.job))) (job_is (parts c.self.inside.canvas c.self.inside.fed.items c.self.inside.queue c.self.inside.store c.self.inside.caches c.self.inside.updates c.self.inside.slots c.self.inside.frames.items c.self.inside.way c.self.inside.next) c.args.place c.in-Some-Paint.painter c.requires.1.painter (sym c.clear.ensures.work ∙ c.in-Some-Paint.is ∙ ap Some c.in-Some-Paint.field-0-is) (ap (λ (s : State). slice_get s.slots c.args.place) c.self.view_is ∙ c.requires.1.runs)) ∙ c.requires.1.in_job
+paint_own-laid-requires-clause-met c = ap (λ (q : state.Painter). list_any (same_key c.args.key) (all_keys_of (writes q.job))) (job_is (parts c.self.inside.canvas c.self.inside.fed.items c.self.inside.queue c.self.inside.store c.self.inside.filmed.caches c.self.inside.updates c.self.inside.slots c.self.inside.filmed.frames c.self.inside.way c.self.inside.next) c.args.place c.in-Some-Paint.painter c.requires.1.painter (sym c.clear.ensures.work ∙ c.in-Some-Paint.is ∙ ap Some c.in-Some-Paint.field-0-is) (ap (λ (s : State). slice_get s.slots c.args.place) c.self.view_is ∙ c.requires.1.runs)) ∙ c.requires.1.in_job
 
 -- the parts as they were
 abbrev before : goal.After-put → Parts
-before c = parts c.self.inside.canvas c.self.inside.fed.items c.self.inside.queue c.self.inside.store c.self.inside.caches c.self.inside.updates c.self.inside.slots c.self.inside.frames.items c.self.inside.way c.self.inside.next
+before c = parts c.self.inside.canvas c.self.inside.fed.items c.self.inside.queue c.self.inside.store c.self.inside.filmed.caches c.self.inside.updates c.self.inside.slots c.self.inside.filmed.frames c.self.inside.way c.self.inside.next
 
 -- and as they are
 abbrev after : goal.After-put → Parts
@@ -61,7 +61,7 @@ pub returns-clause-err : goal.returns-clause-err
 returns-clause-err c = subst (λ s. OnErr c.paint_own-laid.result (state_of (after c) ≡ s)) c.self.view_is (laid c).err
 
 pub unreachable-requires : goal.unreachable-requires
-unreachable-requires c = job_at_walk (parts c.self.inside.canvas c.self.inside.fed.items c.self.inside.queue c.self.inside.store c.self.inside.caches c.self.inside.updates c.self.inside.slots c.self.inside.frames.items c.self.inside.way c.self.inside.next) c.args.place _ c.requires.1.painter (sym c.clear.ensures.work ∙ c.in-Some-Walk.is ∙ ap Some c.in-Some-Walk.field-0-is) (ap (λ (s : State). slice_get s.slots c.args.place) c.self.view_is ∙ c.requires.1.runs)
+unreachable-requires c = job_at_walk (parts c.self.inside.canvas c.self.inside.fed.items c.self.inside.queue c.self.inside.store c.self.inside.filmed.caches c.self.inside.updates c.self.inside.slots c.self.inside.filmed.frames c.self.inside.way c.self.inside.next) c.args.place _ c.requires.1.painter (sym c.clear.ensures.work ∙ c.in-Some-Walk.is ∙ ap Some c.in-Some-Walk.field-0-is) (ap (λ (s : State). slice_get s.slots c.args.place) c.self.view_is ∙ c.requires.1.runs)
 
 pub unreachable-requires-in-None : goal.unreachable-requires-in-None
-unreachable-requires-in-None c = job_at_none (parts c.self.inside.canvas c.self.inside.fed.items c.self.inside.queue c.self.inside.store c.self.inside.caches c.self.inside.updates c.self.inside.slots c.self.inside.frames.items c.self.inside.way c.self.inside.next) c.args.place c.requires.1.painter (sym c.clear.ensures.work ∙ c.in-None.is) (ap (λ (s : State). slice_get s.slots c.args.place) c.self.view_is ∙ c.requires.1.runs)
+unreachable-requires-in-None c = job_at_none (parts c.self.inside.canvas c.self.inside.fed.items c.self.inside.queue c.self.inside.store c.self.inside.filmed.caches c.self.inside.updates c.self.inside.slots c.self.inside.filmed.frames c.self.inside.way c.self.inside.next) c.args.place c.requires.1.painter (sym c.clear.ensures.work ∙ c.in-None.is) (ap (λ (s : State). slice_get s.slots c.args.place) c.self.view_is ∙ c.requires.1.runs)
