@@ -13,6 +13,7 @@ ghost use Rattle.solo_run.specs.Shows.{Shows};
 
 use crate::asked::Asked;
 use crate::choice::{ChoiceError, choice_of};
+use crate::size::is_for_many;
 use crate::source::take_script;
 use crate::status::Status;
 use crate::telling::report;
@@ -39,8 +40,8 @@ fn some_refused(outcomes: &[Outcome]) -> bool
 /// How many commands a desk takes at most.
 const MOST: usize = 4_294_967_295;
 
-/// What the script shows, painted by so many workers and the caller. Without workers the caller's own way
-/// is the quicker one.
+/// What the script shows, painted by so many workers and the caller. Without workers, or where its jobs are
+/// small, the caller's own way is the quicker one.
 fn painted<R: Threads + Wait + Sync, G: Gate>(
     rt: &R,
     alloc: Global,
@@ -51,7 +52,7 @@ fn painted<R: Threads + Wait + Sync, G: Gate>(
     requires workers { workers ≤ 16 }
     ensures shows { IfOk result (λ s. Shows script.now s.film s.outcomes.items) }
 {
-    if workers == 0 || script.len() > MOST {
+    if workers == 0 || script.len() > MOST || !is_for_many(script) {
         run_solo(alloc, script)
     } else {
         run_shown(rt, alloc, script, workers, gate)
