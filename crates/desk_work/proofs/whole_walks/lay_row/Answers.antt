@@ -17,5 +17,5 @@ returns-clause-front c = same_lays_front c.args.inputs.now c.args.composed.now.r
 pub returns-clause-all : goal.returns-clause-all
 returns-clause-all c = more_ok c.lay_groups.result
     (λ all. same_lays c.args.inputs.now c.args.composed.now.readings c.args.key (path_in c.args.inputs.now) _ _ c.requires.of.same
-      (subst (λ gs. Lays c.args.composed.now.readings (pairs_at gs c.args.key) (laid_as c.args.filmed.now.caches c.args.published.now) (laid_as c.lay_groups.new.filmed.caches c.lay_groups.new.published)) c.path.ensures all))
+    (subst (λ gs. Lays c.args.composed.now.readings (pairs_at gs c.args.key) (laid_as c.args.filmed.now.caches c.args.published.now) (laid_as c.lay_groups.new.filmed.caches c.lay_groups.new.published)) c.path.ensures all))
     c.lay_groups.ensures.all

@@ -19,6 +19,7 @@ returns-in_err-lay_row-clause-front c =
 
 pub loop-i-preserved : goal.loop-i-preserved
 loop-i-preserved c =
-    let at : slice_get (keys_of c.args.inputs.now.patch.rect) c.loop-i.i ≡ Some c.tile_at.result = ap (λ (p : Patch). slice_get (keys_of p.rect) c.loop-i.i) (sym c.patch-rect.ensures) ∙ c.tile_at.ensures.value in
-    (tiles_next c.args.inputs.now (path_in c.args.inputs.now) (keys_of c.args.inputs.now.patch.rect) c.loop-i.i c.tile_at.result _ _ _ at c.loop-i.invariant.0 c.in_ok-lay_row.ensures.all,
-    c.in_ok-lay_row.ensures.frames ∙ c.loop-i.invariant.1)
+    let at : slice_get (keys_of c.args.inputs.now.patch.rect) c.loop-i.i ≡ Some c.tile_at.result = ap (λ (p : Patch). slice_get (keys_of p.rect) c.loop-i.i) (sym c.patch-rect.ensures) ∙ c.tile_at.ensures.value in (
+      tiles_next c.args.inputs.now (path_in c.args.inputs.now) (keys_of c.args.inputs.now.patch.rect) c.loop-i.i c.tile_at.result _ _ _ at c.loop-i.invariant.0 c.in_ok-lay_row.ensures.all,
+      c.in_ok-lay_row.ensures.frames ∙ c.loop-i.invariant.1,
+    )
