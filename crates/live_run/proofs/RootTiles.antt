@@ -4,7 +4,9 @@ use Rattle.std.specs.Prelude.{ℤ, pos, negsuc, ◌+ℤ◌, ◌*ℤ◌, int_le, 
 use Rattle.std.specs.List.{list_any}
 use Rattle.std.proofs.lemmas.Bool.Decides.{nat_tests}
 use Rattle.std.proofs.lemmas.List.{take_all}
+use Rattle.std.proofs.lemmas.List.Folds.{list_any_more}
 use Rattle.std.proofs.lemmas.List.Sums.{fold-append}
+use Rattle.std.proofs.lemmas.Option.{slice_get_within, get_or_from_slice_get}
 use borrow.Author.Differences.{ints}
 use Rattle.pixel_core.specs.Rgba.{clear}
 use Rattle.geom_core.specs.Areas.{Point, meets}
@@ -24,12 +26,18 @@ use Rattle.machine_model.specs.State.{State}
 use Rattle.machine_model.specs.Groups.{cache}
 use Rattle.desk_work.proofs.KeyLists.{key_in}
 use Rattle.desk_machine.specs.Shown as desk
-use Rattle.crew_run.proofs.ShownScripts.{key_cases}
 use Rattle.live_view.specs.declared.update.Update.{Update}
 use Rattle.live_view.specs.Shown.{Rows, updates_of, newer, shown, with_row}
 use Rattle.live_view.specs.Views.{Feed, published, pending, all_updates}
 use Rattle.live_view.proofs.Laying.{updates_more, same_kept}
 use Rattle.live_run.specs.Showing.{ShowsTiles, ShowsRoot, ShowsPicture, PutsRoot}
+
+-- a key more, which is the one or stands before it
+key_cases : (ks : List Key) (i : ℕ) (key k : Key) → slice_get ks i ≡ Some key → list_any (same_key k) (take (i + 1) ks) ≡ true → (list_any (same_key k) (take i ks) ≡ true) ⊎ (same_key k key ≡ true)
+key_cases ks i key k at h = or_cases (list_any (same_key k) (take i ks)) (same_key k key) (sym more ∙ h)
+  where
+    more : list_any (same_key k) (take (i + 1) ks) ≡ (list_any (same_key k) (take i ks) || same_key k key)
+    more = list_any_more (same_key k) ks i key (slice_get_within ks i key at) ∙ ap (λ x. list_any (same_key k) (take i ks) || same_key k x) (get_or_from_slice_get ks i key key at)
 
 -- before the first
 pub none_shown : (us : List Update) (s : State) (keys : List Key) → ShowsTiles us s (take 0 keys)
