@@ -7,7 +7,7 @@ use Rattle.tile_core.specs.Marks.{has_mark}
 use Rattle.script_tests.proofs.pictures.push_point.Goals as goal
 
 pub push-requires : goal.push-requires
-push-requires c = λ before e x y h k m.
+push-requires c = λ before e x y h k _ _ m.
     let left : x ≡ 0 = omega (arith, h, ap (λ (s : Scene). s.width) c.in_ok-new.ensures) in
     let top : y ≡ 0 = omega (arith, k, ap (λ (s : Scene). s.height) c.in_ok-new.ensures) in
     let corner : Key = key_of (point (pos 0) (pos 0)) in
