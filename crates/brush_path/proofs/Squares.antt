@@ -1,5 +1,5 @@
 -- The squares of a track by their places.
-use Rattle.std.proofs.Common.{◌≡◌, ℕ, suc, zero, ◌+◌, Bool, true, false, ◌&&◌, List, [], ◌∷◌, ◌++◌, map, drop, Option, Some, None, refl, sym, ap, ◌∙◌, arith}
+use Rattle.std.proofs.Common.{◌≡◌, ℕ, suc, zero, ◌+◌, Bool, true, false, ◌&&◌, List, [], ◌∷◌, ◌++◌, map, drop, Option, Some, None, sym, ap, ◌∙◌, subst, arith}
 use Rattle.std.specs.Prelude.{ℤ, slice_get, Result, Ok, Err, OnErr, IsOk}
 use Rattle.std.specs.List.{list_all}
 use Rattle.std.specs.Option.{option_map}
@@ -8,10 +8,12 @@ use Rattle.geom_core.specs.Areas.{Point, point, Area}
 use Rattle.geom_core.specs.Grid.{Key, key_cmp, keys_of, all_keys_of}
 use Rattle.geom_core.proofs.Tests.{and_left, and_right}
 use Rattle.std.specs.BTreeSet.{insert_key}
+use Rattle.std.specs.List.Sorted.{IsStrictlySortedBy}
+use Rattle.brush_path.specs.declared.cells.Ends.{Ends}
 use Rattle.doc_model.specs.Trails.{Trail, centres}
 use Rattle.doc_model.specs.Jobs.{square, squares}
-use Rattle.brush_path.specs.Cells.{in_order}
-use Rattle.brush_path.proofs.Ordered.{in_order-append}
+use Rattle.brush_path.specs.Cells.{in_order, keys_between, cells}
+use Rattle.brush_path.proofs.Ordered.{in_order-append, in_order_again, none_sorted, sorted_in_order}
 
 pub get_square : (t : Trail) (i : ℕ) (x y : ℤ) → Some (point x y) ≡ slice_get (centres t) i → slice_get (squares t) i ≡ Some (square x y t.stamp.r)
 get_square t i x y e = slice_get-map (λ (c : Point). square c.x c.y t.stamp.r) (centres t) i ∙ ap (option_map (λ (c : Point). square c.x c.y t.stamp.r)) (sym e)
@@ -37,11 +39,47 @@ drop_at (x ∷ xs) (suc i) a e = let next : suc (i + 1) ≡ suc i + 1 = omega ar
 pub one_inserted : (ks keys new : List Key) (i : ℕ) (k : Key) → slice_get keys i ≡ Some k → new ≡ insert_key key_cmp ks k → in_order new (drop (i + 1) keys) ≡ in_order ks (drop i keys)
 one_inserted ks keys new i k e n = ap (λ m. in_order m (drop (i + 1) keys)) n ∙ sym (ap (in_order ks) (drop_at keys i k e))
 
-pub one_added : (ks new : List Key) (areas : List Area) (i : ℕ) (a : Area) → slice_get areas i ≡ Some a → new ≡ in_order ks (keys_of a) → in_order new (all_keys_of (drop (i + 1) areas)) ≡ in_order ks (all_keys_of (drop i areas))
-one_added ks new areas i a e n =
-    ap (λ m. in_order m (all_keys_of (drop (i + 1) areas))) n
-    ∙ sym (in_order-append ks (keys_of a) (all_keys_of (drop (i + 1) areas)))
+one_added : (ks : List Key) (areas : List Area) (i : ℕ) (a : Area) → slice_get areas i ≡ Some a → in_order (in_order ks (keys_of a)) (all_keys_of (drop (i + 1) areas)) ≡ in_order ks (all_keys_of (drop i areas))
+one_added ks areas i a e =
+    sym (in_order-append ks (keys_of a) (all_keys_of (drop (i + 1) areas)))
     ∙ sym (ap (λ xs. in_order ks (all_keys_of xs)) (drop_at areas i a e))
+
+-- the tiles of the first i dabs are there, in row order, and those of the dab before, by its ends, among them
+pub record AreAdded (t : Trail) (i : ℕ) (ks : List Key) (before : Option Ends) : Type 0 where
+  pub all : in_order ks (all_keys_of (drop i (squares t))) ≡ cells t
+  pub sorted : IsStrictlySortedBy key_cmp ks
+  pub again : (e : Ends) → before ≡ Some e → in_order ks (keys_between e.first e.last) ≡ ks
+
+pub none_added : (t : Trail) (ks : List Key) → ks ≡ [] → AreAdded t 0 ks None
+unfolding cells
+none_added t ks e = record {
+  all = ap (λ l. in_order l (all_keys_of (squares t))) e;
+  sorted = subst (IsStrictlySortedBy key_cmp) (sym e) none_sorted;
+  again = λ ends is. absurd (cc (is));
+}
+
+-- the tiles of one dab more
+pub one_more : (t : Trail) (i : ℕ) (ks new : List Key) (before : Option Ends) (a : Area) (ends : Ends) → slice_get (squares t) i ≡ Some a → keys_between ends.first ends.last ≡ keys_of a → new ≡ in_order ks (keys_of a)
+    → AreAdded t i ks before → AreAdded t (i + 1) new (Some ends)
+one_more t i ks new before a ends at is e so = record {
+  all = ap (λ l. in_order l (all_keys_of (drop (i + 1) (squares t)))) e ∙ one_added ks (squares t) i a at ∙ so.all;
+  sorted = subst (IsStrictlySortedBy key_cmp) (sym e) (sorted_in_order ks (keys_of a) so.sorted);
+  again = λ other same. there other (cc (same));
+}
+  where
+    there : (other : Ends) → ends ≡ other → in_order new (keys_between other.first other.last) ≡ new
+    there other same =
+        ap (λ (o : Ends). in_order new (keys_between o.first o.last)) (sym same) ∙ (λ j. in_order (e j) (is j))
+        ∙ in_order_again ks (keys_of a) so.sorted ∙ sym e
+
+-- a dab that meets the tiles of the one before
+pub one_again : (t : Trail) (i : ℕ) (ks : List Key) (before : Option Ends) (a : Area) (ends : Ends) → slice_get (squares t) i ≡ Some a → keys_between ends.first ends.last ≡ keys_of a → before ≡ Some ends
+    → AreAdded t i ks before → AreAdded t (i + 1) ks before
+one_again t i ks before a ends at is same so = record {
+  all = ap (λ l. in_order l (all_keys_of (drop (i + 1) (squares t)))) (sym (so.again ends same) ∙ ap (in_order ks) is) ∙ one_added ks (squares t) i a at ∙ so.all;
+  sorted = so.sorted;
+  again = so.again;
+}
 
 -- the same where the place and the radius are told otherwise
 pub get_square_as : (t : Trail) (i : ℕ) (x y u v : ℤ) (r : ℕ) → Some (point x y) ≡ slice_get (centres t) i → u ≡ x → v ≡ y → r ≡ t.stamp.r → slice_get (squares t) i ≡ Some (square u v r)

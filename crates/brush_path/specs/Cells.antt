@@ -3,7 +3,7 @@ use Rattle.std.specs.Prelude.{Bool, List, [], ◌∷◌, map}
 use Rattle.std.specs.List.{list_any}
 use Rattle.std.specs.BTreeSet.{insert_key}
 use Rattle.geom_core.specs.Areas.{Point, meets}
-use Rattle.geom_core.specs.Grid.{Key, key_cmp, tile, all_keys_of}
+use Rattle.geom_core.specs.Grid.{Key, key_cmp, tile, all_keys_of, count_from, how_many, keys_in_rows}
 use Rattle.doc_model.specs.declared.job.Job.{Job}
 use Rattle.doc_model.specs.declared.job.Job.TheVariants as job
 use Rattle.doc_model.specs.declared.track.Stamp.{Stamp}
@@ -18,6 +18,10 @@ is_met t k = list_any (λ a. meets a (tile k)) (squares t)
 abbrev pub in_order : List Key → List Key → List Key
 in_order ks [] = ks
 in_order ks (x ∷ xs) = in_order (insert_key key_cmp ks x) xs
+
+-- the tiles of the columns and rows from one tile to another, in row order
+abbrev pub keys_between : Key → Key → List Key
+keys_between a b = keys_in_rows (count_from a.col (how_many a.col b.col)) (count_from a.row (how_many a.row b.row))
 
 -- the tiles that some dab of the track meets, each once, in row order
 unfoldable pub cells : Trail → List Key

@@ -1,6 +1,6 @@
 //! The tiles that a track meets, and its jobs.
 
-ghost use Rattle.std.specs.Prelude.{◌≡◌, ◌≤◌, ◌<◌, ◌&&◌, None, Some, true, All, IfOk, OnOk, length, slice_get};
+ghost use Rattle.std.specs.Prelude.{◌≡◌, ◌≤◌, ◌<◌, ◌+◌, ◌&&◌, ◌≤ℤ◌, ◌+ℤ◌, ◌-ℤ◌, pos, None, Some, true, All, IfOk, OnOk, length, slice_get};
 ghost use Rattle.std.specs.List.{list_all};
 ghost use Rattle.geom_core.specs.Areas.{lies_in, world};
 ghost use Rattle.geom_core.specs.Grid.{keys_of};
@@ -9,11 +9,12 @@ ghost use Rattle.doc_model.specs.Layers.{Layer};
 ghost use Rattle.doc_model.specs.Jobs.{apply_all, squares, checks};
 ghost use Rattle.doc_model.specs.Lawful.{within_limits};
 ghost use Rattle.doc_model.specs.Strokes.{conflict};
-ghost use Rattle.brush_path.specs.Cells.{in_order, cells, jobs, jobs_in as tracks_in, dabs};
+ghost use Rattle.geom_core.specs.Place.{IsOffset};
+ghost use Rattle.brush_path.specs.Cells.{in_order, keys_between, cells, jobs, jobs_in as tracks_in, dabs};
 ghost use Rattle.brush_path.specs.Laws.{concurrent};
 
 use doc_model::{Job, Track, square_round, track_dab, track_len};
-use geom_core::{NoMemory, Rect, TileKey};
+use geom_core::{NoMemory, Rect, TileKey, tile_of};
 use std::alloc::Global;
 use std::collections::BTreeSet;
 
@@ -62,16 +63,64 @@ pub fn cells_of(alloc: Global, track: &Track) -> Result<Vec<TileKey>, NoMemory>
     Ok(cells)
 }
 
-/// The set of these tiles.
+/// The set of these tiles. A dab that meets the same tiles as the one before adds none.
 fn tiles_of(alloc: Global, track: &Track) -> Result<BTreeSet<TileKey>, NoMemory>
     requires { list_all (λ a. lies_in a world) (squares track.now) ≡ true }
     ensures { IfOk result (λ s. s.keys ≡ cells track.now) }
 {
     let mut tiles = BTreeSet::new(alloc);
+    let mut before = None;
     for i in 0..track_len(track) {
-        add_tiles(&mut tiles, &square_at(track, i))?;
+        let square = square_at(track, i);
+        let ends = ends_of(&square);
+        if !is_again(&before, ends) {
+            add_tiles(&mut tiles, &square)?;
+            before = Some(ends);
+        }
     }
     Ok(tiles)
+}
+
+/// The tiles of a square's first point and of its last.
+#[derive(Clone, Copy, PartialEq, Eq)]
+struct Ends {
+    first: TileKey,
+    last: TileKey,
+}
+
+/// The ends of a square, which tell all tiles that it meets.
+fn ends_of(square: &Rect) -> Ends
+    ensures { keys_between result.first result.last ≡ keys_of square.now }
+{
+    let (x, y) = (square.x(), square.y());
+    let right = last_from(x, square.left(), square.w());
+    let bottom = last_from(y, square.top(), square.h());
+    Ends {
+        first: tile_of(x, y),
+        last: tile_of(right, bottom),
+    }
+}
+
+/// The last of `size` columns, or rows, from `start` on, which lies `before` from the world's first.
+fn last_from(start: i32, before: u32, size: u32) -> i32
+    requires offset { IsOffset before start }
+    requires some { 1 ≤ size }
+    requires inside { before + size ≤ 32768 }
+    ensures value { result ≡ (start +ℤ pos size) -ℤ pos 1 }
+    ensures low { world.x ≤ℤ result }
+    ensures high { result ≤ℤ pos 16383 }
+{
+    start + (size - 1) as i32
+}
+
+/// Whether the ends are those of the square before, if there was one.
+fn is_again(before: &Option<Ends>, ends: Ends) -> bool
+    ensures { result ≡ true → before.now ≡ Some ends }
+{
+    match before {
+        Some(earlier) => *earlier == ends,
+        None => false,
+    }
 }
 
 /// The square of the dab with that place, which counts from 0.
