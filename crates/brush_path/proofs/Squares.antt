@@ -1,12 +1,15 @@
 -- The squares of a track by their places.
-use Rattle.std.proofs.Common.{◌≡◌, ℕ, suc, zero, ◌+◌, Bool, true, false, ◌&&◌, List, [], ◌∷◌, ◌++◌, map, drop, Option, Some, None, sym, ap, ◌∙◌, subst, arith}
-use Rattle.std.specs.Prelude.{ℤ, slice_get, Result, Ok, Err, OnErr, IsOk}
+use Rattle.std.proofs.Common.{rules, inl, inr, ◌≡◌, ℕ, suc, zero, ◌+◌, Bool, true, false, ◌&&◌, List, [], ◌∷◌, ◌++◌, map, drop, Option, Some, None, sym, ap, ◌∙◌, subst, arith}
+use borrow.Author.Differences.{ints}
+use Rattle.std.specs.Prelude.{ℤ, pos, ◌⊎◌, ◌≤ℤ◌, int_le, int_lt, slice_get, Result, Ok, Err, OnErr, IsOk}
 use Rattle.std.specs.List.{list_all}
 use Rattle.std.specs.Option.{option_map}
 use Rattle.std.proofs.lemmas.Option.{slice_get-map}
-use Rattle.geom_core.specs.Areas.{Point, point, Area}
+use Rattle.geom_core.specs.Areas.{Point, point, Area, holds, right, world}
+use Rattle.geom_core.specs.contracts.key.TileKeyPartialEq.TheImpl as keys
+use Rattle.brush_path.specs.contracts.cells.EndsPartialEq.TheImpl as derived
 use Rattle.geom_core.specs.Grid.{Key, key_cmp, keys_of, all_keys_of}
-use Rattle.geom_core.proofs.Tests.{and_left, and_right}
+use Rattle.geom_core.proofs.Tests.{and_left, and_right, both_true}
 use Rattle.std.specs.BTreeSet.{insert_key}
 use Rattle.std.specs.List.Sorted.{IsStrictlySortedBy}
 use Rattle.brush_path.specs.declared.cells.Ends.{Ends}
@@ -59,7 +62,7 @@ none_added t ks e = record {
 }
 
 -- the tiles of one dab more
-pub one_more : (t : Trail) (i : ℕ) (ks new : List Key) (before : Option Ends) (a : Area) (ends : Ends) → slice_get (squares t) i ≡ Some a → keys_between ends.first ends.last ≡ keys_of a → new ≡ in_order ks (keys_of a)
+one_more : (t : Trail) (i : ℕ) (ks new : List Key) (before : Option Ends) (a : Area) (ends : Ends) → slice_get (squares t) i ≡ Some a → keys_between ends.first ends.last ≡ keys_of a → new ≡ in_order ks (keys_of a)
     → AreAdded t i ks before → AreAdded t (i + 1) new (Some ends)
 one_more t i ks new before a ends at is e so = record {
   all = ap (λ l. in_order l (all_keys_of (drop (i + 1) (squares t)))) e ∙ one_added ks (squares t) i a at ∙ so.all;
@@ -73,13 +76,36 @@ one_more t i ks new before a ends at is e so = record {
         ∙ in_order_again ks (keys_of a) so.sorted ∙ sym e
 
 -- a dab that meets the tiles of the one before
-pub one_again : (t : Trail) (i : ℕ) (ks : List Key) (before : Option Ends) (a : Area) (ends : Ends) → slice_get (squares t) i ≡ Some a → keys_between ends.first ends.last ≡ keys_of a → before ≡ Some ends
+one_again : (t : Trail) (i : ℕ) (ks : List Key) (before : Option Ends) (a : Area) (ends : Ends) → slice_get (squares t) i ≡ Some a → keys_between ends.first ends.last ≡ keys_of a → before ≡ Some ends
     → AreAdded t i ks before → AreAdded t (i + 1) ks before
 one_again t i ks before a ends at is same so = record {
   all = ap (λ l. in_order l (all_keys_of (drop (i + 1) (squares t)))) (sym (so.again ends same) ∙ ap (in_order ks) is) ∙ one_added ks (squares t) i a at ∙ so.all;
   sorted = so.sorted;
   again = so.again;
 }
+
+-- either way
+pub one_step : (t : Trail) (i : ℕ) (ks new : List Key) (before : Option Ends) (a : Area) (ends : Ends) → slice_get (squares t) i ≡ Some a → keys_between ends.first ends.last ≡ keys_of a
+    → ((before ≡ Some ends) × (new ≡ ks)) ⊎ (new ≡ in_order ks (keys_of a)) → AreAdded t i ks before → AreAdded t (i + 1) new (Some ends)
+one_step t i ks new before a ends at is (inl same) so = subst (λ o. AreAdded t (i + 1) new o) same.0 (subst (λ l. AreAdded t (i + 1) l before) (sym same.1) (one_again t i ks before a ends at is same.0 so))
+one_step t i ks new before a ends at is (inr e) so = one_more t i ks new before a ends at is e so
+
+-- equal ends
+same_tile : (a b : Key) → (keys.ghosts).eq a b ≡ true → a ≡ b
+same_tile a b e = search rules
+
+pub same_ends : (a b : Ends) → (derived.ghosts).eq a b ≡ true → a ≡ b
+same_ends a b e =
+    let first = same_tile a.first b.first (and_left _ _ e) in
+    let last = same_tile a.last b.last (and_right ((keys.ghosts).eq a.first b.first) _ e) in
+    λ i. record { first = first i; last = last i }
+
+-- a point of the world
+pub world_holds : (x y : ℤ) → world.x ≤ℤ x → x ≤ℤ pos 16383 → world.y ≤ℤ y → y ≤ℤ pos 16383 → holds world (point x y) ≡ true
+world_holds x y a b c d = both_true _ _ (within x a b) (within y c d)
+  where
+    within : (x : ℤ) → world.x ≤ℤ x → x ≤ℤ pos 16383 → (int_le world.x x && int_lt x (right world)) ≡ true
+    within x a b = grind (arith, ints)
 
 -- the same where the place and the radius are told otherwise
 pub get_square_as : (t : Trail) (i : ℕ) (x y u v : ℤ) (r : ℕ) → Some (point x y) ≡ slice_get (centres t) i → u ≡ x → v ≡ y → r ≡ t.stamp.r → slice_get (squares t) i ≡ Some (square u v r)

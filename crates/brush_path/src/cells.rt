@@ -1,6 +1,6 @@
 //! The tiles that a track meets, and its jobs.
 
-ghost use Rattle.std.specs.Prelude.{◌≡◌, ◌≤◌, ◌<◌, ◌+◌, ◌&&◌, ◌≤ℤ◌, ◌+ℤ◌, ◌-ℤ◌, pos, None, Some, true, All, IfOk, OnOk, length, slice_get};
+ghost use Rattle.std.specs.Prelude.{◌≡◌, ◌⊎◌, ◌≤◌, ◌<◌, ◌+◌, ◌&&◌, ◌≤ℤ◌, ◌+ℤ◌, ◌-ℤ◌, pos, None, Some, true, All, IfOk, OnOk, length, slice_get};
 ghost use Rattle.std.specs.List.{list_all};
 ghost use Rattle.geom_core.specs.Areas.{lies_in, world};
 ghost use Rattle.geom_core.specs.Grid.{keys_of};
@@ -71,14 +71,27 @@ fn tiles_of(alloc: Global, track: &Track) -> Result<BTreeSet<TileKey>, NoMemory>
     let mut tiles = BTreeSet::new(alloc);
     let mut before = None;
     for i in 0..track_len(track) {
-        let square = square_at(track, i);
-        let ends = ends_of(&square);
-        if !is_again(&before, ends) {
-            add_tiles(&mut tiles, &square)?;
-            before = Some(ends);
-        }
+        before = Some(add_square(&mut tiles, &before, &square_at(track, i))?);
     }
     Ok(tiles)
+}
+
+/// Puts the tiles that a square meets into the set, unless they are those of the square before. Gives
+/// the square's ends.
+fn add_square(
+    tiles: &mut BTreeSet<TileKey>,
+    before: &Option<Ends>,
+    square: &Rect,
+) -> Result<Ends, NoMemory>
+    ensures ends { IfOk result (λ e. keys_between e.first e.last ≡ keys_of square.now) }
+    ensures tiles { IfOk result (λ e. (before.now ≡ Some e × tiles.new.keys ≡ tiles.old.keys) ⊎ tiles.new.keys ≡ in_order tiles.old.keys (keys_of square.now)) }
+{
+    let ends = ends_of(square);
+    if is_again(before, ends) {
+        return Ok(ends);
+    }
+    add_tiles(tiles, square)?;
+    Ok(ends)
 }
 
 /// The tiles of a square's first point and of its last.

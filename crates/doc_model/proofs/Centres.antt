@@ -1,10 +1,10 @@
 -- The centres of a track's dabs, segment by segment.
-use Rattle.std.proofs.Common.{◌≡◌, ℕ, suc, zero, ◌+◌, ◌-◌, ◌*◌, ◌≤◌, ◌<◌, List, [], ◌∷◌, ◌++◌, length, length-append, map, drop, Option, Some, None, get_or, arith, refl, sym, ap, ◌∙◌, subst, add-one}
-use Rattle.std.specs.Prelude.{ℤ, pos, slice_get}
+use Rattle.std.proofs.Common.{◌≡◌, ℕ, suc, zero, ◌+◌, ◌-◌, ◌*◌, ◌≤◌, ◌<◌, List, [], ◌∷◌, ◌++◌, length, length-append, map, drop, Some, arith, refl, sym, ap, ◌∙◌, subst, add-one}
+use Rattle.std.specs.Prelude.{ℤ, slice_get}
 use Rattle.std.specs.List.{range_with_len}
 use Rattle.std.proofs.lemmas.List.FromFn.{length-map-range_with_len, get_or-map-range_with_len}
 use Rattle.std.proofs.lemmas.Option.{slice_get-get_or}
-use Rattle.geom_core.specs.Areas.{Point, point}
+use Rattle.geom_core.specs.Areas.{Point}
 use Rattle.doc_model.specs.Trails.{along, how_many_on, on_segment, centres_along}
 use Rattle.doc_model.specs.Tracks.{point_of}
 
@@ -62,7 +62,7 @@ pub cut_next : (gap : ℕ) (ps : List (ℤ × ℤ)) (i : ℕ) (p q : ℤ × ℤ)
     → chain gap (drop i ps) ≡ on_segment gap (point_of p) (point_of q) ++ chain gap (drop (i + 1) ps)
 cut_next gap ps i p q e f =
     subst (λ k. chain gap (drop i ps) ≡ on_segment gap (point_of p) (point_of q) ++ chain gap (drop k ps)) (sym (add-one i))
-        (cut gap ps i p q e (subst (λ k. Some q ≡ slice_get ps k) (add-one i) f))
+    (cut gap ps i p q e (subst (λ k. Some q ≡ slice_get ps k) (add-one i) f))
 
 pub length-cut_next : (gap : ℕ) (ps : List (ℤ × ℤ)) (i : ℕ) (p q : ℤ × ℤ) → Some p ≡ slice_get ps i → Some q ≡ slice_get ps (i + 1)
     → length (chain gap (drop i ps)) ≡ how_many_on gap (point_of p) (point_of q) + length (chain gap (drop (i + 1) ps))

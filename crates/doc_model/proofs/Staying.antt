@@ -1,13 +1,13 @@
 -- A track whose points stay in the world has all its dabs there.
-use Rattle.std.proofs.Common.{◌≡◌, ◌≢◌, ℕ, suc, zero, ◌+◌, ◌-◌, ◌*◌, ◌/◌, ◌%◌, ◌≤◌, ◌<◌, min, max, Bool, true, false, ◌&&◌, List, [], ◌∷◌, ◌++◌, length, map, drop, Option, Some, None, arith, refl, sym, ap, ◌∙◌, subst, inl, inr, add-one}
-use Rattle.std.specs.Prelude.{ℤ, pos, ◌+ℤ◌, ◌-ℤ◌, ◌*ℤ◌, ◌≤ℤ◌, int_le, nat_abs, slice_get}
+use Rattle.std.proofs.Common.{◌≡◌, ℕ, suc, zero, ◌+◌, ◌*◌, ◌/◌, ◌%◌, ◌≤◌, ◌<◌, Bool, true, false, ◌&&◌, List, [], ◌∷◌, ◌++◌, map, drop, Some, arith, refl, sym, ap, ◌∙◌, inl, inr}
+use Rattle.std.specs.Prelude.{ℤ, pos, ◌+ℤ◌, ◌-ℤ◌, ◌*ℤ◌, ◌≤ℤ◌, int_le, slice_get}
 use Rattle.std.specs.Int.{div_ceil}
 use Rattle.std.specs.List.{list_all, range_with_len}
 use borrow.Author.Differences.{ints}
-use Rattle.geom_core.specs.Areas.{Point, point, Area, lies_in, world, right}
+use Rattle.geom_core.specs.Areas.{Point, point, lies_in, world, right}
 use Rattle.geom_core.specs.Grid.{floor_by}
 use Rattle.geom_core.proofs.Tests.{true_or_false, and_left, and_right, both_true}
-use Rattle.doc_model.specs.Trails.{Trail, distance, along, how_many_on, on_segment, centres_along, centres}
+use Rattle.doc_model.specs.Trails.{Trail, distance, along, how_many_on, on_segment, centres_along}
 use Rattle.doc_model.specs.Tracks.{point_of}
 use Rattle.doc_model.specs.Jobs.{square, squares}
 use Rattle.doc_model.proofs.Shares.{low, high, multiple_below}

@@ -1,6 +1,6 @@
 -- How a track is kept.
-use Rattle.std.specs.Prelude.{◌≡◌, ◌≤◌, ℕ, suc, ◌-◌, ℤ, pos, List, [], ◌∷◌, ◌++◌, map, length, take, replicate, refl}
-use Rattle.std.proofs.Common.{ap, sym, ◌∙◌}
+use Rattle.std.specs.Prelude.{◌≡◌, suc, ◌-◌, ℤ, pos, List, [], ◌∷◌, ◌++◌, map, length, take, replicate, refl}
+use Rattle.std.proofs.Common.{ap, ◌∙◌}
 use Rattle.geom_core.specs.Areas.{Point, point}
 use Rattle.doc_model.specs.declared.track.Track.TheInside.{Inside}
 use Rattle.doc_model.specs.Trails.{Trail, trail, IsTrail}

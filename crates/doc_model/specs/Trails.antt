@@ -1,5 +1,5 @@
 -- Tracks: dabs in a row along a polyline.
-use Rattle.std.specs.Prelude.{◌≡◌, ◌≤◌, ℕ, ◌*◌, ℤ, pos, negsuc, ◌≤ℤ◌, ◌+ℤ◌, ◌-ℤ◌, ◌*ℤ◌, nat_abs, max, All, List, [], ◌∷◌, ◌++◌, map, length, refl}
+use Rattle.std.specs.Prelude.{◌≤◌, ℕ, ◌*◌, pos, negsuc, ◌≤ℤ◌, ◌+ℤ◌, ◌-ℤ◌, ◌*ℤ◌, nat_abs, max, List, [], ◌∷◌, ◌++◌, map, length, refl}
 use Rattle.std.specs.Int.{div_ceil}
 use Rattle.std.specs.List.{range_with_len}
 use Rattle.std.specs.Coded.{Coded, code_by, coded×, coded_ℕ, coded_list}

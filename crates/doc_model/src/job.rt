@@ -6,8 +6,8 @@ ghost use Rattle.geom_core.specs.Grid.{tile, IsWorldKey};
 ghost use Rattle.doc_model.specs.Jobs.{square, squares, grown, reads, writes, checks};
 ghost use Rattle.doc_model.specs.Lawful.{of_limits, within_limits};
 
-use arrayvec::ArrayVec;
 use crate::track::{Track, track_len};
+use arrayvec::ArrayVec;
 use geom_core::{OutOfWorld, Rect, TileKey};
 use pixel_core::{Op, Pixel};
 

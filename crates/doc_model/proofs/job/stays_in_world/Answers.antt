@@ -1,9 +1,7 @@
-use Rattle.std.proofs.Common.{◌≡◌, ◌≤◌, ◌+◌, ◌<◌, ◌&&◌, pos, true, false, length, Bool, map, drop, get_or, Some, arith, sym, ap, ◌∙◌}
+use Rattle.std.proofs.Common.{◌≡◌, ◌+◌, ◌<◌, ◌&&◌, pos, true, false, length, map, drop, get_or, arith, sym, ap, ◌∙◌}
 use Rattle.std.specs.Prelude.{slice_get}
 use Rattle.std.specs.List.{list_all}
 use Rattle.std.proofs.lemmas.Option.{slice_get-get_or}
-use Rattle.geom_core.specs.Areas.{lies_in, world}
-use Rattle.doc_model.specs.Jobs.{squares}
 use Rattle.doc_model.specs.Tracks.{point_of}
 use Rattle.doc_model.proofs.Staying.{stays, all_stay, track_decides, cut_stays}
 use Rattle.doc_model.proofs.job.stays_in_world.Goals as goal

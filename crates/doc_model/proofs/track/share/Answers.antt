@@ -1,4 +1,4 @@
-use Rattle.std.proofs.Common.{◌≡◌, ◌≤◌, ◌*◌, ℤ, pos, negsuc, nat_abs, ◌-ℤ◌, ◌≤ℤ◌, to_z, of_z, w32, arith, sym, ◌∙◌, ap}
+use Rattle.std.proofs.Common.{◌≡◌, ◌≤◌, ◌*◌, pos, negsuc, nat_abs, ◌-ℤ◌, ◌≤ℤ◌, to_z, of_z, w32, arith, sym, ◌∙◌, ap}
 use borrow.Author.Differences.{ints}
 use Rattle.doc_model.proofs.Shares.{up, back_is, below_negative}
 use Rattle.doc_model.proofs.track.share.Goals as goal

@@ -1,6 +1,6 @@
 use Rattle.std.proofs.Common.{◌≡◌, ◌≤◌, ◌<◌, ℕ, suc, ◌+◌, ◌-◌, ◌*◌, length, drop, map, Some, arith, sym, ap, ◌∙◌}
 use Rattle.std.specs.Prelude.{slice_get}
-use Rattle.geom_core.specs.Areas.{Point, point}
+use Rattle.geom_core.specs.Areas.{Point}
 use Rattle.doc_model.specs.Trails.{along, centres, centres_along}
 use Rattle.doc_model.specs.Tracks.{point_of}
 use Rattle.doc_model.proofs.Centres.{chain, length-cut_next, get-cut_front, get-cut_back}
@@ -18,8 +18,8 @@ returns-then-left-count c =
 pub loop-k-preserved : goal.loop-k-preserved
 loop-k-preserved c =
     let e : length (chain c.gap-gap.result (drop c.loop-k.k c.points-points.result.now)) ≡ c.dab_count-count.result + length (chain c.gap-gap.result (drop (c.loop-k.k + 1) c.points-points.result.now)) =
-        length-cut_next c.gap-gap.result c.points-points.result.now c.loop-k.k c.segment_at-segment.result.from c.segment_at-segment.result.to c.segment_at-segment.ensures.from c.segment_at-segment.ensures.to
-        ∙ ap (λ n. n + length (chain c.gap-gap.result (drop (c.loop-k.k + 1) c.points-points.result.now))) (sym c.dab_count-count.ensures.value) in
+    length-cut_next c.gap-gap.result c.points-points.result.now c.loop-k.k c.segment_at-segment.result.from c.segment_at-segment.result.to c.segment_at-segment.ensures.from c.segment_at-segment.ensures.to
+    ∙ ap (λ n. n + length (chain c.gap-gap.result (drop (c.loop-k.k + 1) c.points-points.result.now))) (sym c.dab_count-count.ensures.value) in
     record {
       same = sym (get-cut_back c.gap-gap.result c.points-points.result.now c.loop-k.k c.loop-k.left c.dab_count-count.result c.segment_at-segment.result.from c.segment_at-segment.result.to c.segment_at-segment.ensures.from c.segment_at-segment.ensures.to c.dab_count-count.ensures.value (omega arith)) ∙ c.loop-k.invariant.same;
       inside = omega (arith, c.loop-k.invariant.inside);

@@ -1,5 +1,5 @@
-use Rattle.std.proofs.Common.{◌≡◌, ◌≤◌, ℕ, suc, ◌+◌, ◌-◌, length, drop, map, Some, arith, sym, ap, ◌∙◌}
-use Rattle.doc_model.specs.Trails.{centres, centres_along}
+use Rattle.std.proofs.Common.{◌≡◌, ◌+◌, length, drop, map, arith, sym, ap, ◌∙◌}
+use Rattle.doc_model.specs.Trails.{centres_along}
 use Rattle.doc_model.specs.Tracks.{point_of}
 use Rattle.doc_model.proofs.Centres.{chain, length-cut_next, length-cut_last}
 use Rattle.doc_model.proofs.track.track_len.Goals as goal
@@ -7,8 +7,8 @@ use Rattle.doc_model.proofs.track.track_len.Goals as goal
 pub loop-i-preserved : goal.loop-i-preserved
 loop-i-preserved c =
     let e : length (chain c.gap-gap.result (drop c.loop-i.i c.points-points.result.now)) ≡ c.dab_count-count.result + length (chain c.gap-gap.result (drop (c.loop-i.i + 1) c.points-points.result.now)) =
-        length-cut_next c.gap-gap.result c.points-points.result.now c.loop-i.i c.segment_at.result.from c.segment_at.result.to c.segment_at.ensures.from c.segment_at.ensures.to
-        ∙ ap (λ n. n + length (chain c.gap-gap.result (drop (c.loop-i.i + 1) c.points-points.result.now))) (sym c.dab_count-count.ensures.value) in
+    length-cut_next c.gap-gap.result c.points-points.result.now c.loop-i.i c.segment_at.result.from c.segment_at.result.to c.segment_at.ensures.from c.segment_at.ensures.to
+    ∙ ap (λ n. n + length (chain c.gap-gap.result (drop (c.loop-i.i + 1) c.points-points.result.now))) (sym c.dab_count-count.ensures.value) in
     record { counted = omega (arith, c.loop-i.invariant.counted); small = omega (arith, c.loop-i.invariant.small) }
 
 pub returns : goal.returns

@@ -1,6 +1,6 @@
-use Rattle.std.proofs.Common.{◌≡◌, ℤ, pos, ◌+ℤ◌, ◌-ℤ◌, ◌*ℤ◌, to_z, of_z, w32, arith, sym, ◌∙◌, ap}
+use Rattle.std.proofs.Common.{◌≡◌, pos, ◌+ℤ◌, ◌-ℤ◌, ◌*ℤ◌, to_z, of_z, w32, arith, ◌∙◌, ap}
 use borrow.Author.Differences.{ints}
-use Rattle.geom_core.specs.Areas.{Point, point}
+use Rattle.geom_core.specs.Areas.{point}
 use Rattle.geom_core.specs.Grid.{floor_by}
 use Rattle.doc_model.specs.Trails.{distance}
 use Rattle.doc_model.specs.Tracks.{point_of}
