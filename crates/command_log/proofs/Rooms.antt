@@ -8,7 +8,7 @@ use Rattle.geom_core.proofs.Tests.{or_cases, or_left, or_right}
 use Rattle.doc_model.specs.declared.command.Command.TheVariants as command
 use Rattle.doc_model.specs.declared.job.Job.{Job}
 use Rattle.doc_model.specs.declared.job.Kind.{Kind}
-use Rattle.doc_model.specs.Strokes.{Entry, Strokes, Changes, Undoes, Redoes, Purges, Exports, fed, with_job, has_room}
+use Rattle.doc_model.specs.Strokes.{Entry, Strokes, Changes, Undoes, Redoes, Purges, Exports, fed, with_job, has_room, is_stroke, is_open_stroke}
 use Rattle.command_log.specs.declared.refusal.Misfit.{Misfit}
 use Rattle.command_log.specs.declared.refusal.Misfit.TheVariants.{ClosedStroke, TooManyJobs}
 use Rattle.command_log.specs.declared.table.Fed.{Fed}
@@ -56,7 +56,7 @@ room_after k n kind j es = room_any k n (map (with_job n kind j) es) ∙ go (409
         same_any _ _ _ (job_room n m kind j) es ∙ sym (room_any (suc k) n es ∙ ap (λ m. list_any (fewer m n) es) less)
 
 pub fits_after : (es : List Entry) (n k : ℕ) (kind : Kind) (j : Job) → jobs_misfit es n (suc k) ≡ None → jobs_misfit (fed es (command.Add n kind j)) n k ≡ None
-fits_after es n k kind j h = rw (same_any _ _ _ (job_started n n kind j) es, same_any _ _ _ (job_open n n kind j) es, room_after k n kind j es) h
+fits_after es n k kind j h = rw (same_any (is_stroke n) (is_stroke n) (with_job n kind j) (job_started n n kind j) es, same_any (is_open_stroke n) (is_open_stroke n) (with_job n kind j) (job_open n n kind j) es, room_after k n kind j es) h
 
 -- the parts of what is no misfit
 record IsOpen (a : Option Misfit) (b : Bool) : Type 0 where

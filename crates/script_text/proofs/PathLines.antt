@@ -70,12 +70,6 @@ cells_fit a b s h k e l = let few : b + a ≤ 65536 = omega arith in at_most (b 
     at_most : (n : ℕ) → n ≤ 65536 → nat_le n 65536 ≡ true
     at_most n h = grind (arith, nat_tests)
 
-cells_over : (a b s : ℕ) → s ≡ min (a + b) 18446744073709551615 → 65536 < s → nat_le (b + a) 65536 ≡ false
-cells_over a b s e l = let many : 65536 < b + a = omega arith in above (b + a) many
-  where
-    above : (n : ℕ) → 65536 < n → nat_le n 65536 ≡ false
-    above n h = grind (arith, nat_tests)
-
 -- a misfit that stays one behind others
 misfit_first : (a b : Option Misfit) (c : Cause) → Some c ≡ option_map cause_of a → option_map cause_of (option_or a b) ≡ Some c
 misfit_first None b c h = absurd (cc (h))
@@ -89,12 +83,13 @@ misfit_last (Some m) b h = absurd (cc (h))
 pub path_unfit : (es : List Entry) (n cells : ℕ) (t : Trail) (len : ℕ) (c : Cause) → Some c ≡ option_map cause_of (jobs_misfit es n len) → len ≡ length (jobs t) → option_map cause_of (path_misfit es cells n t) ≡ Some c
 path_unfit es n cells t len c h e = misfit_first (jobs_misfit es n (length (jobs t))) _ c (h ∙ ap (λ k. option_map cause_of (jobs_misfit es n k)) e)
 
--- a path that meets too many tiles
-pub path_over : (es : List Entry) (n cells : ℕ) (t : Trail) (len other s : ℕ) → None ≡ option_map cause_of (jobs_misfit es n len) → len ≡ length (jobs t) → other ≡ length (jobs t) → s ≡ min (other + cells) 18446744073709551615 → 65536 < s
-    → option_map cause_of (path_misfit es cells n t) ≡ Some cause.TooManyJobs
-path_over es n cells t len other s none e f g many =
-    misfit_last (jobs_misfit es n (length (jobs t))) _ (none ∙ ap (λ k. option_map cause_of (jobs_misfit es n k)) e)
-    ∙ ap (λ b. option_map cause_of (if b then None else Some TooManyJobs)) (ap (λ l. nat_le (cells + l) 65536) (sym f) ∙ cells_over other cells s g many)
+-- jobs that fit their stroke
+pub jobs_fit : (es : List Entry) (n len many : ℕ) → None ≡ option_map cause_of (jobs_misfit es n len) → len ≡ many → jobs_misfit es n many ≡ None
+jobs_fit es n len many h e = ap (jobs_misfit es n) (sym e) ∙ none_told (jobs_misfit es n len) h
+  where
+    none_told : (o : Option Misfit) → None ≡ option_map cause_of o → o ≡ None
+    none_told None h = refl
+    none_told (Some m) h = absurd (cc (h))
 
 -- a path that fits
 pub path_fits : (es : List Entry) (n cells : ℕ) (t : Trail) (len other s : ℕ) → None ≡ option_map cause_of (jobs_misfit es n len) → len ≡ length (jobs t) → other ≡ length (jobs t) → cells < 4294967296 → other < 18446744073709551616 → s ≡ min (other + cells) 18446744073709551615 → s ≤ 65536
