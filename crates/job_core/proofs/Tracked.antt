@@ -1,14 +1,13 @@
 -- What a track leaves in a tile.
 use Rattle.std.proofs.Common.{◌≡◌, ℕ, suc, zero, ◌+◌, ◌-◌, ◌*◌, ◌%◌, ◌≤◌, ◌<◌, Bool, true, false, ◌&&◌, ◌||◌, cond, List, [], ◌∷◌, ◌++◌, map, length, drop, get_or, refl, sym, ap, ◌∙◌, subst, arith, inl, inr, ◌⊎◌}
-use Rattle.std.specs.Prelude.{ℤ, pos, ◌+ℤ◌, ◌-ℤ◌, ◌*ℤ◌, int_lt, int_le, nat_abs, nat_le, slice_get, Some}
+use Rattle.std.specs.Prelude.{ℤ, pos, ◌+ℤ◌, ◌-ℤ◌, ◌*ℤ◌, int_lt, nat_abs, nat_le, slice_get, Some}
 use Rattle.std.specs.List.{list_all, list_any, range_with_len}
 use Rattle.std.proofs.lemmas.Bool.Decides.{nat_tests}
-use Rattle.std.proofs.lemmas.List.Folds.{list_all-append}
 use borrow.Author.Differences.{ints}
 use Rattle.pixel_core.specs.Rgba.{Rgba, clear}
 use Rattle.pixel_core.specs.Compose.{mul, compose}
 use Rattle.brush_mask.specs.Mask.{mask}
-use Rattle.geom_core.specs.Areas.{Point, point, Area, holds, lies_in, meets, world}
+use Rattle.geom_core.specs.Areas.{Point, Area, holds, lies_in, meets, world}
 use Rattle.geom_core.specs.Overlaps.{any_holds, place_in, IsWithin, IsShared}
 use Rattle.geom_core.specs.Place.{across, down}
 use Rattle.geom_core.proofs.Spots.{TileSpot, tile_spot}
@@ -19,26 +18,23 @@ use Rattle.geom_core.specs.Grid.{Key, key, same_key, tile, all_keys_of, keys_of,
 use Rattle.geom_core.proofs.Axes.{tiles_met}
 use Rattle.geom_core.proofs.Tests.{true_or_false, and_left, and_right, both_true, taken, kept}
 use Rattle.tile_core.specs.Pixels.{Pixels, pixel_at, HasPixels}
-use Rattle.doc_model.specs.declared.job.Job.{Job}
 use Rattle.doc_model.specs.declared.job.Job.TheVariants as job
 use Rattle.doc_model.specs.declared.track.Stamp.{Stamp}
-use Rattle.doc_model.specs.Trails.{Trail, centres, centres_along, on_segment, along, how_many_on}
+use Rattle.doc_model.specs.Trails.{Trail, centres, centres_along, on_segment}
 use Rattle.doc_model.specs.Tracks.{point_of}
 use Rattle.doc_model.specs.Layers.{Layer, at, painted, plain}
 use Rattle.doc_model.proofs.LayerLaws.{at-painted}
-use Rattle.doc_model.specs.Jobs.{apply, square, squares, stamped, all_stamped, value, checks}
+use Rattle.doc_model.specs.Jobs.{square, stamped, all_stamped, value}
 use Rattle.doc_model.specs.Shots.{in_tile}
-use Rattle.doc_model.specs.Lawful.{within_limits}
 use Rattle.doc_model.proofs.JobLaws.{at-apply}
 use Rattle.doc_model.proofs.Conflicts.{meets_at}
 use Rattle.doc_model.proofs.Centres.{chain, cut_next, cut_last}
 use Rattle.job_core.specs.declared.ink.Ink.{Ink}
 use Rattle.job_core.specs.declared.dabs.Brush.{Brush}
 use Rattle.job_core.specs.Points.{IsPointJob, HasTile, LaysJob}
-use Rattle.job_core.specs.Tasks.{dab_of}
-use Rattle.job_core.specs.Tracks.{LaysStamps, AllInside, IsNear}
+use Rattle.job_core.specs.Tracks.{LaysStamps, AllInside}
 use Rattle.job_core.proofs.Values.{tile_held, or-false, one_met, world_key, seen_at, block_of, value_at, painted_once}
-use Rattle.job_core.proofs.Keys.{square_some, due_key}
+use Rattle.job_core.proofs.Keys.{due_key}
 use Rattle.job_core.specs.Made.{IsBlock}
 use Rattle.job_core.specs.Paints.{paint, layer_of, IsPainted}
 use Rattle.job_core.specs.Due.{IsDue}

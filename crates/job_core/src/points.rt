@@ -129,7 +129,6 @@ impl<'a> PointWork<'a> {
 }
 
 impl Lays for PointWork<'_> {
-
     ghost laid = { λ w old new. LaysPoints w old new };
 
     /// Lays the pixels of one job after another on those of its writes in the tile.

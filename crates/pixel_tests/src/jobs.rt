@@ -105,7 +105,11 @@ fn painted<'a>(
 }
 
 /// The tile with the red spot once the job's blocks are laid on it.
-pub(crate) fn laid_from_a_shot(rt: &impl Abort, alloc: Global, job: &Job) -> Result<Tile, NoMemory> {
+pub(crate) fn laid_from_a_shot(
+    rt: &impl Abort,
+    alloc: Global,
+    job: &Job,
+) -> Result<Tile, NoMemory> {
     let shot = red_shot(rt, alloc)?;
     let work = painted(rt, alloc, job, &shot)?;
     let mut tile = red_spot(alloc)?;

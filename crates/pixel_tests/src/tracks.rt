@@ -109,11 +109,7 @@ fn are_same(one: &Tile, other: &Tile) -> bool {
 fn tracks_are_their_dabs(rt: HostRuntime) -> Result<(), Fail> {
     let alloc = rt.alloc();
     let rows: [(&[(i16, i16)], u8, Stamp); 7] = [
-        (
-            &[(10, 10), (40, 12), (10, 10)],
-            1,
-            stamp(3, true, Op::Over),
-        ),
+        (&[(10, 10), (40, 12), (10, 10)], 1, stamp(3, true, Op::Over)),
         (&[(9, 9), (9, 9)], 255, stamp(9, false, Op::Erase)),
         (&[(20, 20), (300, 40)], 255, stamp(12, true, Op::Multiply)),
         (

@@ -85,16 +85,37 @@ fn faults_in_a_stroke(rt: HostRuntime) {
 fn faults_of_tracks(rt: HostRuntime) {
     let rows: [(&[u8], Cause); 13] = [
         (b"track 1 con 0 0 1 hard 00000000 over 7 1 0 0", FieldCount),
-        (b"track 1 con 0 0 1 hard 00000000 over 7 1 0 0 1", FieldCount),
+        (
+            b"track 1 con 0 0 1 hard 00000000 over 7 1 0 0 1",
+            FieldCount,
+        ),
         (b"track 1 con 256 0 1 hard 00000000 over 7 1 0 0 1 1", Range),
-        (b"track 1 con 0 -257 1 hard 00000000 over 7 1 0 0 1 1", Range),
+        (
+            b"track 1 con 0 -257 1 hard 00000000 over 7 1 0 0 1 1",
+            Range,
+        ),
         (b"track 1 con 0 0 1 hard 00000000 over 7 0 0 0 1 1", Range),
         (b"track 1 con 0 0 1 hard 00000000 over 7 1 0 0 1 x", Number),
-        (b"track 2 con 0 0 0 hard 00000000 over 7 1 0 0 16383 0", TooManyDabs),
-        (b"track 2 con 0 0 1 hard 00000000 over 7 255 0 0 16383 0", OutOfWorld),
-        (b"track 2 con 0 0 1 hard 00000000 over 7 255 0 0 16382 0", UnknownStroke),
-        (b"path 1 1 hard 00000000 over 7 1 0 0 1 1 2 2 3 3 4 4 5 5 6 6 7 7 8 8", FieldCount),
-        (b"path 2 0 hard 00000000 over 7 1 -16000 0 16000 0", TooManyDabs),
+        (
+            b"track 2 con 0 0 0 hard 00000000 over 7 1 0 0 16383 0",
+            TooManyDabs,
+        ),
+        (
+            b"track 2 con 0 0 1 hard 00000000 over 7 255 0 0 16383 0",
+            OutOfWorld,
+        ),
+        (
+            b"track 2 con 0 0 1 hard 00000000 over 7 255 0 0 16382 0",
+            UnknownStroke,
+        ),
+        (
+            b"path 1 1 hard 00000000 over 7 1 0 0 1 1 2 2 3 3 4 4 5 5 6 6 7 7 8 8",
+            FieldCount,
+        ),
+        (
+            b"path 2 0 hard 00000000 over 7 1 -16000 0 16000 0",
+            TooManyDabs,
+        ),
         (b"path 2 1 hard 00000000 over 7 255 0 0 16383 0", OutOfWorld),
         (b"path 2 1 hard 00000000 over 7 1 0 0 1 0", UnknownStroke),
     ];

@@ -1,4 +1,4 @@
-use Rattle.std.proofs.Common.{◌≡◌, ◌*◌, ◌<◌, ◌≤◌, ◌+◌, ℕ, true, false, [], ◌∷◌, arith, inl, inr, sym, ap, ◌∙◌, subst, to_z, of_z, w32}
+use Rattle.std.proofs.Common.{◌≡◌, ◌*◌, ◌≤◌, true, false, [], ◌∷◌, arith, inl, inr, sym, ap, ◌∙◌, subst, to_z, of_z, w32}
 use Rattle.geom_core.specs.Areas.{Point, point, meets, lies_in, world}
 use Rattle.doc_model.specs.Trails.{along, how_many_on, on_segment}
 use Rattle.doc_model.specs.Tracks.{point_of}

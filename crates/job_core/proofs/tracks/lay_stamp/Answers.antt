@@ -1,4 +1,4 @@
-use Rattle.std.proofs.Common.{◌≡◌, true, false, to_z, of_z, w32, arith, sym, ap, ◌∙◌, subst}
+use Rattle.std.proofs.Common.{◌≡◌, true, to_z, of_z, w32, arith, sym, ◌∙◌, subst}
 use borrow.Author.Differences.{ints}
 use Rattle.geom_core.specs.Areas.{Point, point, meets}
 use Rattle.geom_core.specs.Grid.{tile}

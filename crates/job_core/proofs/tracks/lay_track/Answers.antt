@@ -1,4 +1,4 @@
-use Rattle.std.proofs.Common.{◌≡◌, ◌-◌, ◌<◌, ℕ, suc, ℤ, pos, true, [], ◌∷◌, Some, length, map, get_or, arith, sym, ap, ◌∙◌, subst, to_z, of_z, w32}
+use Rattle.std.proofs.Common.{◌≡◌, ◌-◌, ◌<◌, ℕ, suc, pos, true, [], ◌∷◌, Some, length, map, get_or, arith, sym, ap, subst, to_z, of_z, w32}
 use Rattle.std.specs.Prelude.{slice_get}
 use borrow.Author.Differences.{ints}
 use Rattle.std.proofs.lemmas.Option.{slice_get-get_or}

@@ -1,4 +1,4 @@
-use Rattle.std.proofs.Common.{◌≡◌, ◌<◌, ◌≤◌, ℤ, pos, to_z, of_z, w32, arith, sym, ap, ◌∙◌}
+use Rattle.std.proofs.Common.{◌≡◌, ◌<◌, pos, to_z, of_z, w32, arith, ap, ◌∙◌}
 use Rattle.std.specs.Prelude.{◌≤ℤ◌, nat_abs}
 use Rattle.std.specs.Int.{int_max}
 use borrow.Author.Differences.{ints}

@@ -1,8 +1,7 @@
-use Rattle.std.proofs.Common.{◌≡◌, ◌<◌, ℕ, false, ◌∙◌, sym, ap, arith, refl, subst, to_z, of_z, w16, w32}
-use Rattle.std.specs.Prelude.{nat_abs, ◌-ℤ◌, int_lt, ℤ}
+use Rattle.std.proofs.Common.{◌≡◌, ◌∙◌, sym, arith, refl, subst, to_z, of_z, w16, w32}
+use Rattle.std.specs.Prelude.{nat_abs, ◌-ℤ◌, int_lt}
 use borrow.Author.Differences.{ints}
-use Rattle.geom_core.specs.Areas.{point}
-use Rattle.doc_model.specs.Trails.{distance, along, how_many_on}
+use Rattle.doc_model.specs.Trails.{distance, how_many_on}
 use Rattle.doc_model.specs.Tracks.{point_of}
 use Rattle.job_core.specs.Tracks.{stands, reaches, IsBeside, AreWithin}
 use Rattle.job_core.proofs.Near.{near_across, near_down, other_axis, steps_across, steps_down}

@@ -1,4 +1,4 @@
-use Rattle.std.proofs.Common.{◌≡◌, ℤ, pos, ◌+ℤ◌, ◌-ℤ◌, to_z, of_z, w32, arith, sym, ap, ◌∙◌, subst}
+use Rattle.std.proofs.Common.{◌≡◌, ℤ, pos, ◌+ℤ◌, ◌-ℤ◌, to_z, of_z, w32, arith, ap, ◌∙◌, subst}
 use borrow.Author.Differences.{ints}
 use Rattle.job_core.specs.Tracks.{IsBeside, reaches, stands}
 use Rattle.job_core.proofs.Near.{beside_forward, beside_back}

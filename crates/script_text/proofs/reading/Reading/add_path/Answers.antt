@@ -9,7 +9,7 @@ pub returns-in-Some-clause-refused : goal.returns-in-Some-clause-refused
 returns-in-Some-clause-refused c =
     let bad : IsRefused {A = Unit {0}} (Err c.at.result) c.args.number (Some c.in-Some.cause) = search rules in
     let unfit = path_unfit (entries c.args.self.now.draft) c.args.no c.args.self.now.cells c.args.track.now c.len.result c.in-Some.cause c.in-Some.ensures
-        (c.len.ensures ∙ c.in_ok-jobs.jobs.ok.0 ∙ ap length c.in_ok-jobs.ensures.value) in
+    (c.len.ensures ∙ c.in_ok-jobs.jobs.ok.0 ∙ ap length c.in_ok-jobs.ensures.value) in
     subst (λ o. IsRefused {A = Unit {0}} (Err c.at.result) c.args.number o) (sym unfit) bad
 
 pub add_jobs-requires-clause-fits : goal.add_jobs-requires-clause-fits
