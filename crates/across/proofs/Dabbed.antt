@@ -1,7 +1,6 @@
 -- Dabs of a track laid on one pixel, one after another.
-use Rattle.std.proofs.Common.{◌≡◌, ◌≤◌, ℕ, ◌+◌, List, [], ◌∷◌, drop, length, Some, refl, sym, ap, ◌∙◌, arith}
+use Rattle.std.proofs.Common.{◌≡◌, ◌≤◌, ℕ, suc, zero, ◌+◌, List, [], ◌∷◌, drop, length, Some, refl, sym, ap, ◌∙◌, arith}
 use Rattle.std.specs.Prelude.{slice_get}
-use Rattle.std.proofs.Math.Seq.{drop-length}
 use Rattle.pixel_core.specs.Rgba.{Rgba}
 use Rattle.geom_core.specs.Areas.{Point}
 use Rattle.doc_model.specs.declared.track.Stamp.{Stamp}
@@ -16,9 +15,12 @@ dab_laid t i s c d p old new at same there e =
     ap (all_stamped t.stamp (drop (i + 1) (centres t)) p) (e ∙ (λ j. stamped (same j) (there j) p old))
     ∙ sym (ap (λ cs. all_stamped t.stamp cs p old) (drop_at (centres t) i c (sym at)))
 
+none_behind : (cs : List Point) (i : ℕ) → length cs ≤ i → drop i cs ≡ []
+none_behind [] zero h = refl
+none_behind [] (suc i) h = refl
+none_behind (c ∷ cs) zero h = absurd (omega arith)
+none_behind (c ∷ cs) (suc i) h = none_behind cs i (omega arith)
+
 -- all dabs
-pub all_laid : (t : Trail) (i : ℕ) (p : Point) (now : Rgba) (n : ℕ) → n ≡ length (centres t) → n ≤ i → i ≤ n → now ≡ all_stamped t.stamp (drop i (centres t)) p now
-all_laid t i p now n e h k =
-    let end : i ≡ length (centres t) = omega arith in
-    let none : drop i (centres t) ≡ [] = ap (λ m. drop m (centres t)) end ∙ drop-length (centres t) in
-    sym (ap (λ cs. all_stamped t.stamp cs p now) none)
+pub all_laid : (t : Trail) (i : ℕ) (p : Point) (now : Rgba) (n : ℕ) → n ≡ length (centres t) → n ≤ i → now ≡ all_stamped t.stamp (drop i (centres t)) p now
+all_laid t i p now n e h = sym (ap (λ cs. all_stamped t.stamp cs p now) (none_behind (centres t) i (omega arith)))

@@ -8,22 +8,19 @@ use Rattle.across.specs.Steps.{point_of}
 use Rattle.across.proofs.Dabbed.{dab_laid, all_laid}
 use Rattle.across.proofs.layer.with_dabs.Goals as goal
 
-pub with_dab-requires-clause-radius : goal.with_dab-requires-clause-radius
-with_dab-requires-clause-radius c = c.stamp.ensures.known.radius
-
-pub with_dab-requires-clause-inside : goal.with_dab-requires-clause-inside
-with_dab-requires-clause-inside c =
+pub with_dab-pixel-requires-clause-inside : goal.with_dab-pixel-requires-clause-inside
+with_dab-pixel-requires-clause-inside c =
     let x : to_z w32 (of_z w32 c.track_dab-x.result.0) ≡ c.track_dab-x.result.0 = omega (arith, ints) in
     let y : to_z w32 (of_z w32 c.track_dab-x.result.1) ≡ c.track_dab-x.result.1 = omega (arith, ints) in
-    (λ i. lies_in (square (x i) (y i) (c.stamp.ensures.value i).r) world)
+    (λ i. lies_in (square (x i) (y i) (c.stamp-stamp.ensures.value i).r) world)
     ∙ passes_at (λ a. lies_in a world) _ c.loop-i.i _ c.requires (get_square c.args.track.now c.loop-i.i c.track_dab-x.result.0 c.track_dab-x.result.1 c.track_dab-x.ensures)
 
 pub loop-i-preserved : goal.loop-i-preserved
 loop-i-preserved c =
     let x : to_z w32 (of_z w32 c.track_dab-x.result.0) ≡ c.track_dab-x.result.0 = omega (arith, ints) in
     let y : to_z w32 (of_z w32 c.track_dab-x.result.1) ≡ c.track_dab-x.result.1 = omega (arith, ints) in
-    dab_laid c.args.track.now c.loop-i.i c.stamp.result (point c.track_dab-x.result.0 c.track_dab-x.result.1) _ (point_of c.args.spot) c.loop-i.pixel c.with_dab.result
-    c.track_dab-x.ensures c.stamp.ensures.value (λ i. point (x i) (y i)) c.with_dab.ensures ∙ c.loop-i.invariant
+    dab_laid c.args.track.now c.loop-i.i c.stamp-stamp.result (point c.track_dab-x.result.0 c.track_dab-x.result.1) _ (point_of c.args.spot) c.loop-i.pixel c.with_dab-pixel.result
+    c.track_dab-x.ensures c.stamp-stamp.ensures.value (λ i. point (x i) (y i)) c.with_dab-pixel.ensures ∙ c.loop-i.invariant
 
 pub returns : goal.returns
-returns c = all_laid c.args.track.now c.loop-i.i (point_of c.args.spot) c.loop-i.pixel c.track_len.result c.track_len.ensures c.loop-i-test.false ∙ c.loop-i.invariant
+returns c = all_laid c.args.track.now c.loop-i.i (point_of c.args.spot) c.loop-i.pixel c.track_len-i-end.result c.track_len-i-end.ensures c.loop-i-test.false ∙ c.loop-i.invariant
