@@ -7,7 +7,7 @@ use std::test::*;
 use strokes_top::{Status, report};
 
 /// Scripts with a bad line, and what is told of it.
-const FAULTS: [(&[u8], &[u8]); 19] = [
+const FAULTS: [(&[u8], &[u8]); 20] = [
     (b"", b"strokes: line 1: canvas missing\n"),
     (b"canvas 1 ", b"strokes: line 1: wrong number of fields\n"),
     (
@@ -52,6 +52,10 @@ const FAULTS: [(&[u8], &[u8]); 19] = [
     (
         b"canvas 1 1\nstroke 1 1\nblur 1 seq 0 0 1 1 17\nend 1\n",
         b"strokes: line 3: out of range\n",
+    ),
+    (
+        b"canvas 1 1\nstroke 1 1\npath 1 0 hard ff0000ff over 255 1 -16000 0 16000 0\nend 1\n",
+        b"strokes: line 3: too many dabs\n",
     ),
     (b"export\n", b"strokes: line 1: canvas missing\n"),
     (
