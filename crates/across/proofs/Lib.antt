@@ -3,3 +3,4 @@ pub mod Layered
 pub mod Filling
 pub mod Pictured
 pub mod Entries
+pub mod Dabbed

@@ -2,8 +2,8 @@
 
 ghost use Rattle.std.specs.Prelude.{◌≤◌, ◌<◌};
 
-use doc_model::{Canvas, Change, Command, Job, Kind, Look};
-use geom_core::{NoMemory, Rect};
+use doc_model::{Canvas, Change, Command, Job, Kind, Look, Stamp, Track};
+use geom_core::{NoMemory, Rect, TileKey};
 use pixel_core::{Op, Pixel};
 use script_text::{MakeRefusal, Script};
 use std::alloc::Global;
@@ -147,11 +147,12 @@ impl Draws {
 
     /// A job.
     fn job(&mut self) -> Option<Job> {
-        match self.below(4) {
+        match self.below(5) {
             0 => self.fill(),
             1 => Some(self.dab()),
             2 => self.shift(),
-            _ => self.blur(),
+            3 => self.blur(),
+            _ => Some(self.track()),
         }
     }
 
@@ -189,6 +190,29 @@ impl Draws {
             rect: self.rect()?,
             r: if self.once_in(5) { 2 } else { 1 },
         })
+    }
+
+    /// A track along three points, in a tile that shows.
+    fn track(&mut self) -> Job {
+        let points = [self.point(), self.point(), self.point()];
+        let stamp = Stamp {
+            r: self.below(5) as u8,
+            soft: self.once_in(2),
+            colour: self.pixel(),
+            op: self.op(),
+            strength: self.strength(),
+        };
+        let gap = self.below(8) as u8 + 1;
+        let col = self.below(2) as i16;
+        Job::Track {
+            track: Track::new(&points, gap, stamp),
+            cell: TileKey { row: 0, col },
+        }
+    }
+
+    /// A point near the canvas.
+    fn point(&mut self) -> (i16, i16) {
+        (self.below(80) as i16 - 8, self.below(7) as i16 - 3)
     }
 
     /// A change of the tree, refused at times.

@@ -4,17 +4,18 @@ ghost use Rattle.std.specs.Prelude.{◌≡◌, ◌≤◌, ◌==◌, ◌-ℤ◌, 
 ghost use Rattle.std.specs.List.{list_all};
 ghost use Rattle.geom_core.specs.Overlaps.{any_holds};
 ghost use Rattle.brush_mask.specs.Mask.{mask as strength_of};
-ghost use Rattle.geom_core.specs.Areas.{point, holds, moved, points_of};
-ghost use Rattle.doc_model.specs.Jobs.{writes, apply, apply_all, value, square};
+ghost use Rattle.geom_core.specs.Areas.{point, holds, lies_in, moved, points_of, world};
+ghost use Rattle.doc_model.specs.Jobs.{writes, apply, apply_all, value, square, squares, stamped, all_stamped};
 ghost use Rattle.doc_model.specs.declared.job.Job.TheVariants.{Move, Blur};
 ghost use Rattle.doc_model.specs.Layers.{at};
+ghost use Rattle.doc_model.specs.Trails.{centres};
 ghost use Rattle.across.specs.Steps.{point_of, layer_after, is_sound, job_sound};
 ghost use Rattle.solo_run.specs.Painting.{jobs_only};
 
 use crate::mean::mean_of;
 use crate::spots::{Spot, spots_of};
 use brush_mask::mask;
-use doc_model::{Job, Kind};
+use doc_model::{Job, Kind, Stamp, Track, square_round, track_dab, track_len};
 use geom_core::{NoMemory, Rect};
 use pixel_core::{Pixel, compose, mul};
 use std::alloc::Global;
@@ -117,7 +118,39 @@ fn pixel_written(
         }
         Job::Move { rect, dx, dy } => pixel_moved(alloc, rect, dx, dy, older, id, spot),
         Job::Blur { rect, r } => pixel_blurred(alloc, rect, r, older, id, spot),
+        Job::Track { track, .. } => {
+            let below = pixel_after(alloc, older, id, spot)?;
+            Ok(with_dabs(&track, below, spot))
+        }
     }
+}
+
+/// What the dabs of a track leave of a pixel, the first of them first.
+fn with_dabs(track: &Track, below: Pixel, spot: Spot) -> Pixel
+    requires { list_all (λ a. lies_in a world) (squares track.now) ≡ true }
+    ensures { result ≡ all_stamped track.now.stamp (centres track.now) (point_of spot) below }
+{
+    let stamp = track.stamp();
+    let mut pixel = below;
+    for i in 0..track_len(track) {
+        let (x, y) = track_dab(track, i);
+        pixel = with_dab(&stamp, x, y, pixel, spot);
+    }
+    pixel
+}
+
+/// What the dab round (x, y) leaves of a pixel.
+fn with_dab(stamp: &Stamp, x: i32, y: i32, below: Pixel, spot: Spot) -> Pixel
+    requires radius { stamp.now.r ≤ 128 }
+    requires inside { lies_in (square x y stamp.now.r) world ≡ true }
+    ensures { result ≡ stamped stamp.now (point x y) (point_of spot) below }
+{
+    let square = square_round(x, y, stamp.r).unwrap();
+    if !square.holds(spot.x, spot.y) {
+        return below;
+    }
+    let masked = mul(mask_at(x, y, stamp.r, stamp.soft, spot), stamp.strength);
+    compose(stamp.op, stamp.colour, below, masked)
 }
 
 /// The mask of a round brush at (x, y) at a point of the square round it.

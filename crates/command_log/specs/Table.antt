@@ -1,5 +1,5 @@
 -- What is kept of a stroke while commands are added.
-use Rattle.std.specs.Prelude.{◌≡◌, ℕ, ◌+◌, ◌==◌, nat_lt, Bool, true, false, ◌&&◌, if◌then◌else◌, Option, Some, None, is_some, List, length}
+use Rattle.std.specs.Prelude.{◌≡◌, ℕ, ◌+◌, ◌==◌, nat_le, nat_lt, Bool, true, false, ◌&&◌, if◌then◌else◌, Option, Some, None, is_some, List, length}
 use Rattle.std.specs.List.{list_any}
 use Rattle.std.specs.Ordering.{nat_cmp}
 use Rattle.std.specs.BTreeMap.{get}
@@ -94,6 +94,11 @@ close_misfit (Some f) = if f.live then None else Some ClosedStroke
 abbrev pub job_misfit : Option Fed → Option Misfit
 job_misfit None = Some UnknownStroke
 job_misfit (Some f) = if f.live then (if nat_lt f.jobs 4096 then None else Some TooManyJobs) else Some ClosedStroke
+
+-- why so many jobs can't be given to it
+abbrev pub kept_misfit : ℕ → Option Fed → Option Misfit
+kept_misfit k None = Some UnknownStroke
+kept_misfit k (Some f) = if f.live then (if nat_le (f.jobs + k) 4096 then None else Some TooManyJobs) else Some ClosedStroke
 
 -- why the command can't be added to strokes of which that is kept
 abbrev pub stroke_misfit : (ℕ → Option Fed) → Command → Option Misfit

@@ -5,7 +5,7 @@ ghost use Rattle.std.specs.List.{list_any};
 ghost use Rattle.doc_model.specs.Strokes.{entries, is_open_stroke, has_room};
 ghost use Rattle.doc_model.specs.Lawful.{may_follow};
 ghost use Rattle.command_log.specs.declared.refusal.Refusal.TheVariants as refusal;
-ghost use Rattle.command_log.specs.Misfits.{misfit_of};
+ghost use Rattle.command_log.specs.Misfits.{misfit_of, jobs_misfit};
 ghost use Rattle.command_log.specs.Log.{Refuses};
 ghost use Rattle.command_log.specs.Table.{Tells, export_misfit as said_export, exports_after as count_after};
 
@@ -125,6 +125,17 @@ impl CommandLog {
         match self.find(no) {
             None => false,
             Some(fed) => fed.is_live() && fed.has_room(),
+        }
+    }
+
+    /// Why so many jobs can't be added to the stroke with that number, their own limits aside. None
+    /// exactly where they can.
+    pub fn jobs_misfit(&self, no: u32, count: usize) -> Option<Misfit>
+        ensures { result ≡ jobs_misfit (entries self.now.items) no count }
+    {
+        match self.find(no) {
+            None => Some(Misfit::UnknownStroke),
+            Some(fed) => fed.jobs_misfit(count),
         }
     }
 

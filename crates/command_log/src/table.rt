@@ -6,7 +6,7 @@ ghost use Rattle.std.specs.Ordering.{nat_cmp};
 ghost use Rattle.std.specs.BTreeMap.{get as found};
 ghost use Rattle.command_log.specs.declared.refusal.Refusal.TheVariants as refusal;
 ghost use Rattle.command_log.specs.Log.{Refuses};
-ghost use Rattle.command_log.specs.Table.{kept, fresh, one_more, closed as shut, next_fed, start_misfit, close_misfit, job_misfit, stroke_misfit};
+ghost use Rattle.command_log.specs.Table.{kept, fresh, one_more, closed as shut, next_fed, start_misfit, close_misfit, job_misfit, kept_misfit, stroke_misfit};
 
 use crate::refusal::{Misfit, Refusal};
 use doc_model::Command;
@@ -52,6 +52,19 @@ impl Fed {
         ensures { result ≡ nat_lt self.jobs 4096 }
     {
         self.jobs < MOST_JOBS
+    }
+
+    /// Why the stroke can't take so many jobs.
+    pub(crate) fn jobs_misfit(self, count: usize) -> Option<Misfit>
+        ensures { result ≡ kept_misfit count (Some self) }
+    {
+        if !self.live {
+            return Some(Misfit::ClosedStroke);
+        }
+        if count.saturating_add(self.jobs as usize) > MOST_JOBS as usize {
+            return Some(Misfit::TooManyJobs);
+        }
+        None
     }
 
     /// Gives the stroke one more job.

@@ -7,7 +7,7 @@ use std::test::*;
 use strokes_top::{Status, report};
 
 /// Scripts with a bad line, and what is told of it.
-const FAULTS: [(&[u8], &[u8]); 19] = [
+const FAULTS: [(&[u8], &[u8]); 20] = [
     (b"", b"strokes: line 1: canvas missing\n"),
     (b"canvas 1 ", b"strokes: line 1: wrong number of fields\n"),
     (
@@ -53,6 +53,10 @@ const FAULTS: [(&[u8], &[u8]); 19] = [
         b"canvas 1 1\nstroke 1 1\nblur 1 seq 0 0 1 1 17\nend 1\n",
         b"strokes: line 3: out of range\n",
     ),
+    (
+        b"canvas 1 1\nstroke 1 1\npath 1 0 hard ff0000ff over 255 1 -16000 0 16000 0\nend 1\n",
+        b"strokes: line 3: too many dabs\n",
+    ),
     (b"export\n", b"strokes: line 1: canvas missing\n"),
     (
         b"canvas 1 1\ncanvas 1 1\n",
@@ -69,7 +73,7 @@ const FAULTS: [(&[u8], &[u8]); 19] = [
 ];
 
 /// Scripts, the codes of their statuses, and their logs.
-const LOGS: [(&[u8], u8, &[u8]); 14] = [
+const LOGS: [(&[u8], u8, &[u8]); 15] = [
     (b"canvas 1 1\nexport\n", 0, b"1 export done\n"),
     (
         b"canvas 3 1\nlayer 1 0 0\nstroke 1 1\nblur 1 con 0 0 1 1 1\nblur 1 con 2 0 1 1 1\nend 1\n",
@@ -105,6 +109,11 @@ const LOGS: [(&[u8], u8, &[u8]); 14] = [
         b"canvas 2 1\nlayer 1 0 0\nstroke 1 1\nfill 1 con 0 0 2 1 ff0000ff over 255\nfill 1 uni 1 0 1 1 0000ffff over 255\nend 1\nexport\n",
         1,
         b"1 layer done\n2 stroke 1 overlap 1 2\n3 export done\n",
+    ),
+    (
+        b"canvas 1 1\nlayer 1 0 0\nstroke 1 1\npath 1 1 hard ff000080 over 255 1 0 0 1 0\npath 1 1 hard ff000080 over 255 1 0 0 1 0\nend 1\n",
+        1,
+        b"1 layer done\n2 stroke 1 overlap 1 5\n",
     ),
     (
         b"canvas 1 1\nundo\nexport\n",

@@ -11,10 +11,11 @@ use Rattle.geom_core.specs.Overlaps.{any_holds}
 use Rattle.geom_core.proofs.Members.{any-points_of}
 use Rattle.geom_core.proofs.Tests.{and_left, and_right, both_true, or_left, or_right}
 use Rattle.doc_model.specs.declared.job.Job.{Job}
-use Rattle.doc_model.specs.declared.job.Job.TheVariants.{Fill, Dab, Move, Blur}
+use Rattle.doc_model.specs.declared.job.Job.TheVariants.{Fill, Dab, Move, Blur, Track}
+use Rattle.doc_model.specs.Trails.{centres}
 use Rattle.doc_model.specs.Layers.{Layer, at}
 use Rattle.doc_model.proofs.LayerLaws.{at-painted, default-painted}
-use Rattle.doc_model.specs.Jobs.{reads, writes, value, apply, grown, square, mean}
+use Rattle.doc_model.specs.Jobs.{reads, writes, value, apply, grown, square, mean, all_stamped}
 use Rattle.doc_model.specs.Laws.{SameOn, LawsOfJobs}
 
 and-true : (b : Bool) → (b && true) ≡ b
@@ -87,6 +88,7 @@ value_same (Dab x y r soft colour op strength) a b p same h = ap (λ d. compose 
 value_same (Move rect dx dy) a b p same h = one_or_ground (holds (moved rect dx dy) p) _ _ _ _ (λ e. same.pixels _ (or_left _ _ (from_source rect dx dy p e))) same.default_pixel
 value_same (Blur rect r) a b p same h = ap (mean ((2 * r + 1) * (2 * r + 1))) (same_pixels (at a) (at b) (points_of (square p.x p.y r))
     (λ q k. same.pixels q (or_left _ _ (near rect r p q (one_held rect p h) (sym (any-points_of (square p.x p.y r) q) ∙ k)))))
+value_same (Track t cell) a b p same h = ap (all_stamped t.stamp (centres t) p) (same.pixels p h)
 
 inside : (job : Job) (a b : Layer) (p : Point) → SameOn (reads job) a b → any_holds (writes job) p ≡ true → at (apply job a) p ≡ at (apply job b) p
 inside job a b p same h = there a ∙ value_same job a b p same h ∙ sym (there b)
@@ -99,6 +101,7 @@ within (Fill rect colour op strength) p h = h
 within (Dab x y r soft colour op strength) p h = h
 within (Move rect dx dy) p h = h
 within (Blur rect r) p h = or_left _ _ (grown_holds rect r p (one_held rect p h))
+within (Track t cell) p h = h
 
 pub laws_of_jobs : LawsOfJobs
 laws_of_jobs = record { default_pixel = default-apply; outside = outside; inside = inside; within = within }

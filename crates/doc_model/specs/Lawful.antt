@@ -3,9 +3,10 @@ use Rattle.std.specs.Prelude.{filter, nat_lt, nat_le, Bool, true, ◌&&◌, not,
 use Rattle.std.specs.List.{list_any}
 use Rattle.geom_core.specs.Areas.{Area}
 use Rattle.doc_model.specs.declared.job.Job.{Job}
-use Rattle.doc_model.specs.declared.job.Job.TheVariants.{Fill, Dab, Move, Blur}
+use Rattle.doc_model.specs.declared.job.Job.TheVariants.{Fill, Dab, Move, Blur, Track}
 use Rattle.doc_model.specs.declared.command.Command.{Command}
 use Rattle.doc_model.specs.declared.command.Command.TheVariants as command
+use Rattle.doc_model.specs.Trails.{centres}
 use Rattle.doc_model.specs.Jobs.{checks}
 use Rattle.doc_model.specs.Strokes.{Entry, Strokes, fed, has_room, is_export, is_open, is_open_stroke, is_stroke}
 
@@ -19,6 +20,7 @@ within_limits (Fill rect colour op strength) = of_limits rect
 within_limits (Dab x y r soft colour op strength) = nat_le r 128
 within_limits (Move rect dx dy) = of_limits rect
 within_limits (Blur rect r) = of_limits rect && (nat_le 1 r && nat_le r 16)
+within_limits (Track t cell) = nat_le (length (centres t)) 4096
 
 -- whether the entry isn't an open stroke
 abbrev pub is_closed_entry : Entry → Bool

@@ -1,4 +1,6 @@
 pub mod Layers
+pub mod Trails
+pub mod Tracks
 pub mod Jobs
 pub mod Forest
 pub mod Ids

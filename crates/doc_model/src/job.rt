@@ -1,11 +1,14 @@
 //! Jobs, and how they stand to their neighbours.
 ghost use Rattle.std.specs.Prelude.{IsTrue, ◌↔◌, ◌≡◌, ◌≤◌, ◌≤ℤ◌, ◌-ℤ◌, ◌&&◌, pos, negsuc, int_le, [], ◌∷◌, true, false, IfOk, OnOk, OnErr};
 ghost use Rattle.geom_core.specs.Areas.{lies_in, moved, world};
-ghost use Rattle.doc_model.specs.Jobs.{square, grown, reads, writes, checks};
+ghost use Rattle.std.specs.List.{list_all};
+ghost use Rattle.geom_core.specs.Grid.{tile, IsWorldKey};
+ghost use Rattle.doc_model.specs.Jobs.{square, squares, grown, reads, writes, checks};
 ghost use Rattle.doc_model.specs.Lawful.{of_limits, within_limits};
 
+use crate::track::{Track, track_len};
 use arrayvec::ArrayVec;
-use geom_core::{OutOfWorld, Rect};
+use geom_core::{OutOfWorld, Rect, TileKey};
 use pixel_core::{Op, Pixel};
 
 /// How far the world's corner lies to the left of 0 and above it.
@@ -14,8 +17,14 @@ const CORNER: i32 = 16384;
 /// How many columns and rows the world has.
 const WORLD: u32 = 32768;
 
+/// How many columns and rows of tiles it has on each side of (0, 0).
+const FAR_KEY: i16 = 256;
+
 /// How many columns and rows the rectangle of a job has at most.
 const LONGEST_SIDE: u32 = 4096;
+
+/// How many dabs a track of a job has at most.
+const MOST_DABS: u32 = 4096;
 
 /// One painting step on a layer.
 #[derive(Clone, Copy, Debug, PartialEq, Eq)]
@@ -50,6 +59,11 @@ pub enum Job {
     Blur {
         rect: Rect,
         r: u8,
+    },
+    /// Lays the dabs of a track, one after another, on the points of one tile alone.
+    Track {
+        track: Track,
+        cell: TileKey,
     },
 }
 
@@ -116,6 +130,7 @@ impl Job {
             Job::Fill { rect, .. } | Job::Move { rect, .. } => is_of_limits(&rect),
             Job::Dab { r, .. } => r <= 128,
             Job::Blur { rect, r } => is_of_limits(&rect) && 1 <= r && r <= 16,
+            Job::Track { track, .. } => track_len(&track) <= MOST_DABS,
         }
     }
 
@@ -136,6 +151,7 @@ impl Job {
                 displaced(&rect, dx, dy)?,
             ])),
             Job::Blur { rect, r } => Ok(one(grown_by(&rect, r)?)),
+            Job::Track { track, cell } => Ok(one(tile_of_track(&track, cell)?)),
         }
     }
 }
@@ -208,6 +224,51 @@ fn grown_by(rect: &Rect, r: u8) -> Result<Rect, OutOfWorld>
         return Err(OutOfWorld);
     }
     Rect::new(rewound(rect.x(), r), rewound(rect.y(), r), w, h)
+}
+
+/// The tile in which a track is laid.
+///
+/// # Errors
+/// `OutOfWorld` exactly where the tile or a dab of the track leaves the world.
+fn tile_of_track(track: &Track, cell: TileKey) -> Result<Rect, OutOfWorld>
+    ensures value { IfOk result (λ rect. rect ≡ tile cell) }
+    ensures inside { OnOk result (checks (Job.Track track.now cell) ≡ true) }
+    ensures outside { OnErr result (checks (Job.Track track.now cell) ≡ false) }
+{
+    if is_of_world(cell) && stays_in_world(track) {
+        Ok(cell.rect())
+    } else {
+        Err(OutOfWorld)
+    }
+}
+
+/// Whether the tile lies in the world.
+fn is_of_world(cell: TileKey) -> bool
+    ensures value { result ≡ lies_in (tile cell) world }
+    ensures known { result ≡ true → IsWorldKey cell }
+{
+    -FAR_KEY <= cell.col && cell.col < FAR_KEY && -FAR_KEY <= cell.row && cell.row < FAR_KEY
+}
+
+/// Whether all dabs of the track lie in the world. As there is one at each of its points, and the
+/// others stand between these, the points alone are looked at.
+pub fn stays_in_world(track: &Track) -> bool
+    ensures { result ≡ list_all (λ a. lies_in a world) (squares track.now) }
+{
+    let r = track.stamp().r;
+    for point in track.points() {
+        if !point_stays_in_world(*point, r) {
+            return false;
+        }
+    }
+    true
+}
+
+/// Whether the square of side 2r + 1 round the point lies in the world.
+fn point_stays_in_world(point: (i16, i16), r: u8) -> bool
+    ensures { result ≡ lies_in (square point.0 point.1 r) world }
+{
+    square_round(i32::from(point.0), i32::from(point.1), r).is_ok()
 }
 
 /// The column or row that lies r before x.

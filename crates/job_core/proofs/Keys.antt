@@ -9,7 +9,7 @@ use Rattle.geom_core.specs.Grid.{Key, same_key, tile, keys_of, all_keys_of, IsWo
 use Rattle.geom_core.proofs.Tests.{and_left, and_right, both_true, or_cases}
 use Rattle.tile_core.specs.Shots.{Sight}
 use Rattle.doc_model.specs.declared.job.Job.{Job}
-use Rattle.doc_model.specs.declared.job.Job.TheVariants.{Fill, Dab, Move, Blur}
+use Rattle.doc_model.specs.declared.job.Job.TheVariants.{Fill, Dab, Move, Blur, Track}
 use Rattle.doc_model.specs.Jobs.{grown, square, writes, checks}
 use Rattle.doc_model.specs.Lawful.{within_limits}
 use Rattle.job_core.specs.Due.{IsDue}
@@ -51,6 +51,7 @@ writes_there (Move rect dx dy) c l = (
   (record { some = some_of_limits rect l; inside = and_left _ _ (and_right (lies_in rect world) _ c) }, tt),
 )
 writes_there (Blur rect r) c l = (record { some = some_of_limits rect (and_left _ _ l); inside = inner rect r (and_left _ _ c) }, tt)
+writes_there (Track t cell) c l = (record { some = (omega arith, omega arith); inside = and_left (lies_in (tile cell) world) _ c }, tt)
 
 job_key : (job : Job) (key : Key) → checks job ≡ true → within_limits job ≡ true → list_any (same_key key) (all_keys_of (writes job)) ≡ true → IsWorldKey key
 job_key job key c l met = listed_key (writes job) key (writes_there job c l) met

@@ -1,4 +1,6 @@
 pub mod Values
+pub mod Tracked
+pub mod Near
 pub mod Keys
 pub mod FillValues
 pub mod RowLaws

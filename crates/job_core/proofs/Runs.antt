@@ -14,7 +14,7 @@ use Rattle.geom_core.proofs.Axes.{tiles_met}
 use Rattle.geom_core.proofs.Tests.{and_left, and_right, both_true, taken}
 use Rattle.tile_core.specs.Pixels.{Pixels}
 use Rattle.doc_model.specs.declared.job.Job.{Job}
-use Rattle.doc_model.specs.declared.job.Job.TheVariants.{Fill, Dab, Move, Blur}
+use Rattle.doc_model.specs.declared.job.Job.TheVariants.{Fill, Dab, Move, Blur, Track}
 use Rattle.doc_model.specs.declared.job.Kind.{Kind}
 use Rattle.doc_model.specs.Shots.{in_tile}
 use Rattle.doc_model.specs.Layers.{Layer, at}
@@ -68,6 +68,7 @@ job_met key (Fill rect colour op strength) l h = met_within rect key (some_of_li
 job_met key (Dab x y r soft colour op strength) l h = met_within (square x y r) key (square_some x y r) h
 job_met key (Move rect dx dy) l h = cc
 job_met key (Blur rect r) l h = cc
+job_met key (Track t cell) l h = met_within (tile cell) key (omega arith, omega arith) h
 
 point_jobs : (key : Key) (jobs : Jobs) → AllByRecursion (λ j. checks j.1 ≡ true) jobs → AllByRecursion (λ j. within_limits j.1 ≡ true) jobs → AllByRecursion (λ j. is_within (tile key) j.1 ≡ true) jobs → AllByRecursion (λ j. IsPointJob key j.1) jobs
 point_jobs key [] c l w = tt

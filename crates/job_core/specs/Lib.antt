@@ -5,3 +5,4 @@ pub mod Made
 pub mod Dabs
 pub mod Points
 pub mod Tasks
+pub mod Tracks

@@ -1,4 +1,4 @@
--- Point operations: jobs that make each pixel from what stood at that very point, as fills and dabs do.
+-- Point operations: jobs that make each pixel from what stood at that very point, as fills, dabs and tracks do.
 use Rattle.std.specs.Prelude.{◌≡◌, ◌≤◌, ◌&&◌, Bool, true, false, [], ◌∷◌, length, All, refl}
 use Rattle.std.specs.List.{list_any, list_all, take_while}
 use Rattle.std.specs.Coded.{Coded, code_by, coded×, coded_list}
@@ -8,7 +8,7 @@ use Rattle.tile_core.specs.Pixels.{Pixels, pixel_at}
 use Rattle.doc_model.specs.contracts.job.Job as job
 use Rattle.doc_model.specs.contracts.job.Kind as kind
 use Rattle.doc_model.specs.declared.job.Job.{Job}
-use Rattle.doc_model.specs.declared.job.Job.TheVariants.{Fill, Dab, Move, Blur}
+use Rattle.doc_model.specs.declared.job.Job.TheVariants.{Fill, Dab, Move, Blur, Track}
 use Rattle.doc_model.specs.Shots.{in_tile, published}
 use Rattle.doc_model.specs.Lawful.{within_limits}
 use Rattle.doc_model.specs.Jobs.{checks, apply, writes}
@@ -21,6 +21,7 @@ is_point_op (Fill rect colour op strength) = true
 is_point_op (Dab x y r soft colour op strength) = true
 is_point_op (Move rect dx dy) = false
 is_point_op (Blur rect r) = false
+is_point_op (Track t cell) = true
 
 -- whether a job is a point operation that writes within a rectangle alone
 abbrev pub is_within : Area → Job → Bool

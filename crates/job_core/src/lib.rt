@@ -13,6 +13,7 @@ mod part;
 mod points;
 mod rows;
 mod task;
+mod tracks;
 
 pub use made::Made;
 pub use painted::{Painted, paint_tile};

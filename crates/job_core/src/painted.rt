@@ -16,6 +16,7 @@ use crate::fills::filled;
 use crate::made::Made;
 use crate::moves::moved;
 use crate::task::{Task, task_of};
+use crate::tracks::tracked;
 use doc_model::Job;
 use geom_core::{NoMemory, Rect, TileKey};
 use std::alloc::Global;
@@ -128,6 +129,7 @@ fn blocks_of(alloc: Global, job: &Job, shot: &Shot, key: TileKey) -> Result<Bloc
         Task::Dab { brush, ink } => Ok(alone(dabbed(alloc, shot, key, &brush, &ink)?)),
         Task::Move { rect, dx, dy } => moved(alloc, shot, key, &rect, &written(job, 1), dx, dy),
         Task::Blur { rect, r } => Ok(alone(blurred(alloc, shot, key, &rect, r)?)),
+        Task::Track { track, cell } => Ok(alone(tracked(alloc, shot, key, &track, cell)?)),
     }
 }
 

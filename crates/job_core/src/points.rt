@@ -19,6 +19,7 @@ use crate::fills::lay_ink;
 use crate::ink::Ink;
 use crate::part::part_in;
 use crate::task::{Task, task_of};
+use crate::tracks::lay_track;
 use doc_model::{Job, Kind, square_round};
 use geom_core::{Rect, TileKey, tile_of};
 use pixel_core::Pixel;
@@ -26,7 +27,7 @@ use std::marker::Model;
 use tile_core::{Lays, Tile, part_in_tile};
 
 /// The rectangle that a point operation writes: a job that makes each pixel from that pixel alone, as
-/// fills and dabs do. None exactly where the job is another.
+/// fills, dabs and tracks do. None exactly where the job is another.
 pub fn point_rect(job: &Job) -> Option<Rect>
     requires { checks job.now ≡ true }
     ensures point_op { IfSome result (λ r. is_point_op job.now ≡ true) }
@@ -36,6 +37,7 @@ pub fn point_rect(job: &Job) -> Option<Rect>
     match *job {
         Job::Fill { rect, .. } => Some(rect),
         Job::Dab { x, y, r, .. } => Some(square_round(x, y, r).unwrap()),
+        Job::Track { cell, .. } => Some(cell.rect()),
         Job::Move { .. } | Job::Blur { .. } => None,
     }
 }
@@ -48,7 +50,7 @@ pub struct PointWork<'a> {
 }
 
 impl<'a> Model for PointWork<'a> {
-    ghost use Rattle.job_core.specs.Points.{Spot, spot, spot_code, IsPointWork};
+    ghost use Rattle.job_core.specs.Points.{Spot, spot, spot_code, IsPointWork, LaysPoints};
 
     ghost Value = { Spot };
 
@@ -127,8 +129,6 @@ impl<'a> PointWork<'a> {
 }
 
 impl Lays for PointWork<'_> {
-    ghost use Rattle.job_core.specs.Points.{LaysPoints};
-
     ghost laid = { λ w old new. LaysPoints w old new };
 
     /// Lays the pixels of one job after another on those of its writes in the tile.
@@ -193,6 +193,7 @@ fn lay_job(key: TileKey, job: &Job, tile: &mut [Pixel])
     match task_of(job) {
         Task::Fill { rect, ink } => fill_in(key, &rect, &ink, tile),
         Task::Dab { brush, ink } => dab_in(key, &brush, &ink, tile),
+        Task::Track { track, .. } => lay_track(key, &track, tile),
         Task::Move { .. } | Task::Blur { .. } => unreachable!(),
     }
 }
@@ -219,7 +220,7 @@ fn fill_in(key: TileKey, rect: &Rect, ink: &Ink, tile: &mut [Pixel])
 }
 
 /// Lays a dab on the key's tile.
-fn dab_in(key: TileKey, brush: &Brush, ink: &Ink, tile: &mut [Pixel])
+pub fn dab_in(key: TileKey, brush: &Brush, ink: &Ink, tile: &mut [Pixel])
     requires key { IsWorldKey key }
     requires work { IsPointJob key (dab_of brush.now ink.now) }
     requires whole { length tile.old ≡ 4096 }

@@ -5,8 +5,8 @@ ghost use Rattle.job_core.specs.Tasks.{job_of};
 
 use crate::dabs::Brush;
 use crate::ink::Ink;
-use doc_model::Job;
-use geom_core::Rect;
+use doc_model::{Job, Track};
+use geom_core::{Rect, TileKey};
 
 /// A job, with the brush and the ink of what it lays as one value each.
 #[derive(Clone, Copy)]
@@ -15,6 +15,7 @@ pub enum Task {
     Dab { brush: Brush, ink: Ink },
     Move { rect: Rect, dx: i32, dy: i32 },
     Blur { rect: Rect, r: u8 },
+    Track { track: Track, cell: TileKey },
 }
 
 /// The job as a task.
@@ -53,5 +54,6 @@ pub fn task_of(job: &Job) -> Task
         },
         Job::Move { rect, dx, dy } => Task::Move { rect, dx, dy },
         Job::Blur { rect, r } => Task::Blur { rect, r },
+        Job::Track { track, cell } => Task::Track { track, cell },
     }
 }

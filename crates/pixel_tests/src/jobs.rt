@@ -25,7 +25,7 @@ const BLUE: [u8; 4] = [0, 0, 255, 255];
 /// The pixel where nothing was painted.
 const GROUND: [u8; 4] = [1, 2, 3, 77];
 
-fn pixel(bytes: [u8; 4]) -> Pixel {
+pub(crate) fn pixel(bytes: [u8; 4]) -> Pixel {
     let [r, g, b, a] = bytes;
     Pixel::new(r, g, b, a)
 }
@@ -53,7 +53,7 @@ fn dab(x: i32, y: i32, soft: bool, bytes: [u8; 4]) -> Job {
 }
 
 /// A tile with a red pixel at (1, 1), and the ground elsewhere.
-fn red_spot(alloc: Global) -> Result<Tile, NoMemory> {
+pub(crate) fn red_spot(alloc: Global) -> Result<Tile, NoMemory> {
     let mut pixels = vec![in alloc; pixel(GROUND); 4096]?;
     pixels[65] = pixel(RED);
     Tile::from_pixels(alloc, pixels)
@@ -105,7 +105,11 @@ fn painted<'a>(
 }
 
 /// The tile with the red spot once the job's blocks are laid on it.
-fn laid_from_a_shot(rt: &impl Abort, alloc: Global, job: &Job) -> Result<Tile, NoMemory> {
+pub(crate) fn laid_from_a_shot(
+    rt: &impl Abort,
+    alloc: Global,
+    job: &Job,
+) -> Result<Tile, NoMemory> {
     let shot = red_shot(rt, alloc)?;
     let work = painted(rt, alloc, job, &shot)?;
     let mut tile = red_spot(alloc)?;
@@ -116,7 +120,7 @@ fn laid_from_a_shot(rt: &impl Abort, alloc: Global, job: &Job) -> Result<Tile, N
 }
 
 /// The job's work in its first tile.
-fn work<'a>(rt: &impl Abort, entry: &'a (Kind, Job)) -> PointWork<'a> {
+pub(crate) fn work<'a>(rt: &impl Abort, entry: &'a (Kind, Job)) -> PointWork<'a> {
     assert!(rt; entry.1.check().is_ok());
     assert!(rt; point_rect(&entry.1).is_some());
     assert!(rt; entry.1.is_within_limits());
@@ -126,7 +130,7 @@ fn work<'a>(rt: &impl Abort, entry: &'a (Kind, Job)) -> PointWork<'a> {
 }
 
 /// The tile with the red spot once the job was laid on it in place.
-fn laid_in_place(rt: &impl Abort, alloc: Global, job: Job) -> Result<Tile, NoMemory> {
+pub(crate) fn laid_in_place(rt: &impl Abort, alloc: Global, job: Job) -> Result<Tile, NoMemory> {
     let mut tile = red_spot(alloc)?;
     assert!(rt; tile.lay_alone(&work(rt, &(Kind::Seq, job))));
     Ok(tile)

@@ -27,4 +27,6 @@ mod sources;
 #[cfg(test)]
 mod tiles;
 #[cfg(test)]
+mod tracks;
+#[cfg(test)]
 mod updates;

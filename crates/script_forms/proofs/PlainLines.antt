@@ -14,8 +14,7 @@ use Rattle.script_forms.specs.declared.words.Work.TheVariants.{Fill, Dab}
 use Rattle.script_forms.specs.declared.jobs.Outline.{Outline}
 use Rattle.script_forms.specs.declared.jobs.Ink.{Ink}
 use Rattle.script_forms.specs.declared.jobs.Tip.{Tip}
-use Rattle.script_forms.specs.Jobs.{kind_of, op_of, edge_of}
-use Rattle.script_forms.specs.Jobs.{Fields, coordinate, outline, area_of, ink, tip, checked, job_fields, job_of, paint}
+use Rattle.script_forms.specs.Jobs.{kind_of, op_of, edge_of, Fields, coordinate, outline, area_of, ink, tip, checked, job_fields, job_of, paint}
 use Rattle.script_forms.specs.Plain.{BeginsOutline, BeginsTip, IsInkLine, IsPaintLine}
 
 -- words
@@ -69,7 +68,7 @@ ink_last text t1 t2 behind i a b c = record {
 
 -- lines
 
-paint_told : (work : Work) (number kind : List ℕ) (others : Fields) (n : ℕ) (k : Kind) (j : Job) → (length others == job_fields work) ≡ true → natural 0 4294967295 number ≡ Ok n → kind_of kind ≡ Ok k → job_of work others ≡ Ok j → paint work (number ∷ kind ∷ others) ≡ Ok (Add n k j)
+paint_told : (work : Work) (number kind : List ℕ) (others : Fields) (n : ℕ) (k : Kind) (j : Job) → job_fields work (length others) ≡ true → natural 0 4294967295 number ≡ Ok n → kind_of kind ≡ Ok k → job_of work others ≡ Ok j → paint work (number ∷ kind ∷ others) ≡ Ok (Add n k j)
 unfolding paint
 paint_told work number kind others n k j count a b c = rw (count, a, b, c) refl
 

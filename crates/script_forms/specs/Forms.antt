@@ -10,7 +10,7 @@ use Rattle.doc_model.specs.declared.command.Command.TheVariants as command
 use Rattle.script_lines.specs.declared.cause.Cause.{Cause}
 use Rattle.script_lines.specs.declared.cause.Cause.TheVariants.{FieldCount}
 use Rattle.script_lines.specs.Values.{rgb, rgba, natural, ◌>>=◌}
-use Rattle.script_forms.specs.declared.words.Work.TheVariants.{Fill, Dab, Move, Blur}
+use Rattle.script_forms.specs.declared.words.Work.TheVariants.{Fill, Dab, Move, Blur, Track}
 use Rattle.script_forms.specs.declared.words.Word.{Word}
 use Rattle.script_forms.specs.declared.words.Word.TheVariants.{Layer, Group, Remove, Place, Look, Stroke, Paint, End, Cancel, Undo, Redo, Purge, Export}
 use Rattle.script_forms.specs.Jobs.{Fields, one_of, op_of, paint}
@@ -18,11 +18,15 @@ use Rattle.script_forms.specs.Jobs.{Fields, one_of, op_of, paint}
 abbrev pub canvas_text : List ℕ
 canvas_text = codes "canvas"
 
+abbrev pub path_text : List ℕ
+path_text = codes "path"
+
 -- the command word of a line other than the canvas
 unfoldable pub word_of : List ℕ → Option Word
 word_of field = lookup (bytes_eq field) (
     (codes "layer", Layer) ∷ (codes "group", Group) ∷ (codes "remove", Remove) ∷ (codes "place", Place) ∷ (codes "look", Look)
     ∷ (codes "fill", Paint Fill) ∷ (codes "dab", Paint Dab) ∷ (codes "move", Paint Move) ∷ (codes "blur", Paint Blur)
+    ∷ (codes "track", Paint Track)
     ∷ (codes "stroke", Stroke) ∷ (codes "end", End) ∷ (codes "cancel", Cancel)
     ∷ (codes "undo", Undo) ∷ (codes "redo", Redo) ∷ (codes "purge", Purge) ∷ (codes "export", Export) ∷ [])
 

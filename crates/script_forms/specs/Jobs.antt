@@ -1,11 +1,15 @@
 -- The lines that add a job to a stroke, behind their command word, and the words that stand in them.
-use Rattle.std.specs.Prelude.{ℕ, ℤ, pos, negsuc, Bool, true, false, ◌==◌, List, [], ◌∷◌, length, codes, Result, Ok, Err, if◌then◌else◌}
+use Rattle.std.specs.Prelude.{ℕ, ◌-◌, ◌%◌, nat_le, ℤ, pos, negsuc, Bool, true, false, ◌&&◌, ◌==◌, List, [], ◌∷◌, length, codes, Result, Ok, Err, if◌then◌else◌}
+use Rattle.std.specs.List.{list_all}
 use Rattle.std.specs.Option.{ok_or}
 use Rattle.std.specs.Map.{lookup}
 use Rattle.std.specs.Str.{bytes_eq}
 use Rattle.pixel_core.specs.declared.blending.Op.{Op}
 use Rattle.pixel_core.specs.declared.blending.Op.TheVariants.{Over, Erase, Multiply, Screen, Addition}
-use Rattle.geom_core.specs.Areas.{Area, area}
+use Rattle.geom_core.specs.Areas.{Area, area, lies_in, Point, point, world}
+use Rattle.geom_core.specs.Grid.{Key, key}
+use Rattle.doc_model.specs.declared.track.Stamp.{Stamp}
+use Rattle.doc_model.specs.Trails.{Trail, trail, centres}
 use Rattle.doc_model.specs.declared.job.Kind.{Kind}
 use Rattle.doc_model.specs.declared.job.Kind.TheVariants.{Con, Seq, Bar, Uni}
 use Rattle.doc_model.specs.declared.job.Job.{Job}
@@ -13,13 +17,13 @@ use Rattle.doc_model.specs.declared.job.Job.TheVariants as job
 use Rattle.doc_model.specs.declared.command.Command.{Command}
 use Rattle.doc_model.specs.declared.command.Command.TheVariants.{Add}
 use Rattle.script_lines.specs.declared.cause.Cause.{Cause}
-use Rattle.script_lines.specs.declared.cause.Cause.TheVariants.{FieldCount, OutOfWorld, UnknownWord}
+use Rattle.script_lines.specs.declared.cause.Cause.TheVariants.{FieldCount, OutOfWorld, TooManyDabs, UnknownWord}
 use Rattle.script_forms.specs.declared.words.Work.{Work}
-use Rattle.script_forms.specs.declared.words.Work.TheVariants.{Fill, Dab, Move, Blur}
+use Rattle.script_forms.specs.declared.words.Work.TheVariants.{Fill, Dab, Move, Blur, Track}
 use Rattle.script_forms.specs.declared.jobs.Outline.{Outline}
 use Rattle.script_forms.specs.declared.jobs.Ink.{Ink}
 use Rattle.script_forms.specs.declared.jobs.Tip.{Tip}
-use Rattle.doc_model.specs.Jobs.{checks}
+use Rattle.doc_model.specs.Jobs.{checks, squares}
 use Rattle.script_lines.specs.Values.{natural, rgba, ◌>>=◌, number_in}
 
 -- the fields of a line behind its command word
@@ -78,15 +82,87 @@ tip left top radius edge = do
   soft ← edge_of edge
   Ok (record { x = x; y = y; r = r; soft = soft })
 
--- a job, all of whose read rectangles lie in the world
+-- a job, unless it leaves the world
 abbrev pub checked : Job → Result Job Cause
 checked j = if checks j then Ok j else Err OutOfWorld
 
--- how many fields a job has behind its stroke and its kind
-abbrev pub job_fields : Work → ℕ
-job_fields Move = 6
-job_fields Blur = 5
-job_fields work = 7
+-- what each dab of a track paints
+unfoldable pub stamp : List ℕ → List ℕ → List ℕ → List ℕ → List ℕ → Result Stamp Cause
+stamp radius edge colour operation strength = do
+  r ← natural 0 128 radius
+  soft ← edge_of edge
+  i ← ink colour operation strength
+  Ok (record { r = r; soft = soft; colour = i.colour; op = i.op; strength = i.strength })
+
+unfoldable pub point_at : List ℕ → List ℕ → Result Point Cause
+point_at left top = do
+  x ← coordinate left
+  y ← coordinate top
+  Ok (point x y)
+
+-- points, each by two fields
+abbrev pub points_at : Fields → Result (List Point) Cause
+points_at [] = Ok []
+points_at (left ∷ []) = Err FieldCount
+points_at (left ∷ top ∷ others) = point_at left top >>= λ p. points_at others >>= λ ps. Ok (p ∷ ps)
+
+-- whether so many fields are those of 2 to 8 points
+abbrev pub are_points : ℕ → Bool
+are_points n = (nat_le 4 n && nat_le n 16) && (n % 2 == 0)
+
+unfoldable pub polyline : Fields → Result (List Point) Cause
+polyline fields = if are_points (length fields) then points_at fields else Err FieldCount
+
+-- a track, unless it has too many dabs
+abbrev pub measured : Trail → Result Trail Cause
+measured t = if nat_le (length (centres t)) 4096 then Ok t else Err TooManyDabs
+
+-- a track along some points
+abbrev pub along : ℕ → Stamp → Result (List Point) Cause → Result Trail Cause
+along gap s told = told >>= λ ps. measured (trail ps gap s)
+
+-- a track, from its radius on
+unfoldable pub trail_of : Fields → Result Trail Cause
+trail_of (radius ∷ edge ∷ colour ∷ operation ∷ strength ∷ gap ∷ others) = do
+  s ← stamp radius edge colour operation strength
+  g ← natural 1 255 gap
+  along g s (polyline others)
+trail_of _ = Err FieldCount
+
+-- a tile of the world
+unfoldable pub cell_at : List ℕ → List ℕ → Result Key Cause
+cell_at column row = do
+  x ← number_in (negsuc 255) (pos 255) column
+  y ← number_in (negsuc 255) (pos 255) row
+  Ok (key x y)
+
+-- the job of a track in a tile
+unfoldable pub track : Fields → Result Job Cause
+track (column ∷ row ∷ others) = do
+  k ← cell_at column row
+  t ← trail_of others
+  checked (job.Track t k)
+track _ = Err FieldCount
+
+-- a stroke and a track, all of whose dabs lie in the world
+abbrev pub drawn : ℕ → Trail → Result (ℕ × Trail) Cause
+drawn n t = if list_all (λ a. lies_in a world) (squares t) then Ok (n, t) else Err OutOfWorld
+
+-- a path: the number of its stroke, and its track
+unfoldable pub path : Fields → Result (ℕ × Trail) Cause
+path (number ∷ others) = if are_points (length others - 6) then (do
+  n ← natural 0 4294967295 number
+  t ← trail_of others
+  drawn n t)
+    else Err FieldCount
+path _ = Err FieldCount
+
+-- whether a job has so many fields behind its stroke and its kind
+abbrev pub job_fields : Work → ℕ → Bool
+job_fields Move n = n == 6
+job_fields Blur n = n == 5
+job_fields Track n = are_points (n - 8)
+job_fields work n = n == 7
 
 -- the job that these fields say
 unfoldable pub job_of : Work → Fields → Result Job Cause
@@ -107,11 +183,12 @@ job_of Blur (left ∷ top ∷ width ∷ height ∷ radius ∷ []) = do
   o ← outline left top width height
   r ← natural 1 16 radius
   checked (job.Blur (area_of o) r)
+job_of Track fields = track fields
 job_of work fields = Err FieldCount
 
 -- a job of a stroke
 unfoldable pub paint : Work → Fields → Result Command Cause
-paint work (number ∷ kind ∷ others) = if length others == job_fields work then (do
+paint work (number ∷ kind ∷ others) = if job_fields work (length others) then (do
   n ← natural 0 4294967295 number
   k ← kind_of kind
   j ← job_of work others

@@ -3,3 +3,4 @@ pub mod Ranges
 pub mod Forms
 pub mod Plain
 pub mod Texts
+pub mod Points

@@ -1,5 +1,8 @@
 -- The ranges of numbers in scripts.
-use Rattle.std.specs.Prelude.{ℕ, ◌==◌, nat_le, pos, Bool, negsuc, true, ◌≤ℤ◌, ◌&&◌, ◌≤◌, Result, Ok, Err, if◌then◌else◌}
+use Rattle.std.specs.Prelude.{ℕ, ◌==◌, nat_le, ℤ, pos, Bool, negsuc, true, int_le, length, ◌≤ℤ◌, ◌&&◌, ◌≤◌, Result, Ok, Err, if◌then◌else◌}
+use Rattle.std.specs.List.{list_all}
+use Rattle.geom_core.specs.Areas.{Point, Area, lies_in, world}
+use Rattle.doc_model.specs.Trails.{Trail}
 use Rattle.script_lines.specs.Colours.{is_byte, is_pixel}
 use Rattle.doc_model.specs.declared.canvas.Canvas.{Canvas}
 use Rattle.doc_model.specs.declared.job.Job.{Job}
@@ -9,7 +12,6 @@ use Rattle.doc_model.specs.declared.tree.Change.TheVariants as change
 use Rattle.doc_model.specs.declared.command.Command.{Command}
 use Rattle.doc_model.specs.declared.command.Command.TheVariants as command
 use Rattle.doc_model.specs.Lawful.{within_limits}
-use Rattle.geom_core.specs.Areas.{Area, lies_in, world}
 use Rattle.script_lines.specs.declared.cause.Cause.{Cause}
 use Rattle.script_lines.specs.declared.cause.Cause.TheVariants.{OutOfWorld}
 use Rattle.script_forms.specs.declared.jobs.Outline.{Outline}
@@ -28,6 +30,19 @@ in_limits c = ((nat_le 1 c.w && nat_le c.w 2048) && (nat_le 1 c.h && nat_le c.h 
 abbrev pub is_spot : ℕ → ℕ → ℕ → Bool
 is_spot id parent place = is_id id && (nat_le parent 65535 && is_byte place)
 
+-- whether a column or a row is one that a field may tell
+abbrev pub is_coordinate : ℤ → Bool
+is_coordinate x = int_le (negsuc 32767) x && int_le x (pos 32767)
+
+abbrev pub is_short : Point → Bool
+is_short p = is_coordinate p.x && is_coordinate p.y
+
+-- whether each number of a track is in its range
+abbrev pub trail_in_range : Trail → Bool
+trail_in_range t =
+    (list_all is_short t.points && (nat_le 2 (length t.points) && nat_le (length t.points) 8))
+    && ((nat_le 1 t.gap && nat_le t.gap 255) && (nat_le t.stamp.r 128 && (is_pixel t.stamp.colour && is_byte t.stamp.strength)))
+
 abbrev pub change_in_range : Change → Bool
 change_in_range (change.Layer id parent place p) = is_spot id parent place && is_pixel p
 change_in_range (change.Group id parent place) = is_spot id parent place
@@ -41,6 +56,7 @@ job_in_range (job.Fill rect colour op strength) = is_pixel colour && is_byte str
 job_in_range (job.Dab x y r soft colour op strength) = is_pixel colour && is_byte strength
 job_in_range (job.Move rect dx dy) = true
 job_in_range (job.Blur rect r) = true
+job_in_range (job.Track t cell) = trail_in_range t
 
 abbrev pub is_number : ℕ → Bool
 is_number n = nat_le n 4294967295

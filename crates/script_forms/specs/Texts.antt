@@ -5,7 +5,7 @@ use Rattle.pixel_core.specs.declared.blending.Op.TheVariants.{Over, Erase, Multi
 use Rattle.doc_model.specs.declared.job.Kind.{Kind}
 use Rattle.doc_model.specs.declared.job.Kind.TheVariants.{Con, Seq, Bar, Uni}
 use Rattle.script_forms.specs.declared.words.Work.{Work}
-use Rattle.script_forms.specs.declared.words.Work.TheVariants.{Fill, Dab, Move, Blur}
+use Rattle.script_forms.specs.declared.words.Work.TheVariants.{Fill, Dab, Move, Blur, Track}
 use Rattle.script_forms.specs.declared.words.Word.{Word}
 use Rattle.script_forms.specs.declared.words.Word.TheVariants.{Layer, Group, Remove, Place, Look, Stroke, Paint, End, Cancel, Undo, Redo, Purge, Export}
 
@@ -14,6 +14,7 @@ work_text Fill = codes "fill"
 work_text Dab = codes "dab"
 work_text Move = codes "move"
 work_text Blur = codes "blur"
+work_text Track = codes "track"
 
 abbrev pub word_text : Word → List ℕ
 word_text Layer = codes "layer"

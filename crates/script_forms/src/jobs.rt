@@ -10,6 +10,7 @@ ghost use Rattle.doc_model.specs.Lawful.{within_limits};
 ghost use Rattle.script_forms.specs.Ranges.{job_in_range, in_range, is_sound, IsOutline, IsTip, in_world};
 ghost use Rattle.script_forms.specs.Jobs.{outline as told_outline, ink as told_ink, tip as told_tip, job_of as told_job, job_fields as fields_of_job, paint as told_paint, area_of, checked};
 
+use crate::tracks::{are_points, track};
 use crate::words::{Work, edge_of, kind_of, op_of};
 use doc_model::{Command, Job};
 use geom_core::Rect;
@@ -57,7 +58,7 @@ fn read_outline(left: &[u8], top: &[u8], width: &[u8], height: &[u8]) -> Result<
 
 #[tactic(auto, unfolding(crate::specs::Jobs::ink))]
 #[inline(always)]
-fn read_ink(colour: &[u8], operation: &[u8], strength: &[u8]) -> Result<Ink, Cause>
+pub(crate) fn read_ink(colour: &[u8], operation: &[u8], strength: &[u8]) -> Result<Ink, Cause>
     ensures value { result ≡ told_ink colour.now operation.now strength.now }
     ensures colour { IfOk result (λ i. is_pixel i.colour ≡ true) }
     ensures strength { IfOk result (λ i. is_byte i.strength ≡ true) }
@@ -354,14 +355,15 @@ fn blur(fields: &[&[u8]]) -> Result<Job, Cause>
     }
 }
 
-/// How many fields a job has behind its stroke and its kind.
-fn job_fields(work: Work) -> usize
-    ensures { result ≡ fields_of_job work }
+/// Whether a job has so many fields behind its stroke and its kind.
+fn has_fields(work: Work, count: usize) -> bool
+    ensures { result ≡ fields_of_job work count }
 {
     match work {
-        Work::Fill | Work::Dab => 7,
-        Work::Move => 6,
-        Work::Blur => 5,
+        Work::Fill | Work::Dab => count == 7,
+        Work::Move => count == 6,
+        Work::Blur => count == 5,
+        Work::Track => are_points(count.saturating_sub(8)),
     }
 }
 
@@ -376,6 +378,7 @@ fn job_of(work: Work, fields: &[&[u8]]) -> Result<Job, Cause>
         Work::Dab => dab(fields),
         Work::Move => move_by(fields),
         Work::Blur => blur(fields),
+        Work::Track => track(fields),
     }
 }
 
@@ -388,7 +391,7 @@ pub fn paint(work: Work, fields: &[&[u8]]) -> Result<Command, Cause>
 {
     match fields {
         [number, kind, others @ ..] => {
-            if others.len() != job_fields(work) {
+            if !has_fields(work, others.len()) {
                 return Err(Cause::FieldCount);
             }
             let no = natural(0, 4294967295, number)? as u32;

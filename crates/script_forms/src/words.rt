@@ -16,6 +16,7 @@ pub enum Work {
     Dab,
     Move,
     Blur,
+    Track,
 }
 
 /// The first word of a command other than the canvas.
@@ -52,6 +53,7 @@ pub fn word_of(field: &[u8]) -> Option<Word>
         b"dab" => Some(Word::Paint(Work::Dab)),
         b"move" => Some(Word::Paint(Work::Move)),
         b"blur" => Some(Word::Paint(Work::Blur)),
+        b"track" => Some(Word::Paint(Work::Track)),
         b"layer" => Some(Word::Layer),
         b"group" => Some(Word::Group),
         b"remove" => Some(Word::Remove),

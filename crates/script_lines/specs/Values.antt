@@ -1,7 +1,7 @@
 -- What fields spell, numbers and colours, or the causes for which they spell none.
 use Rattle.std.specs.Prelude.{ℕ, Bool, List, ◌+◌, codes, ◌&&◌, ◌*◌, Result, nat_le, nat_lt, Ok, ◌==◌, Err, [], ◌∷◌, ◌++◌, length, ℤ, pos, neg_ℤ, nat_abs, int_le, if◌then◌else◌}
 use Rattle.script_lines.specs.declared.cause.Cause.{Cause}
-use Rattle.script_lines.specs.declared.cause.Cause.TheVariants.{UnknownWord, FieldCount, Number, Range, OutOfWorld, UnknownStroke, ClosedStroke, UsedAgain, CanvasMissing, CanvasAgain, TooManyJobs, TooManyExports, StrokeLeft}
+use Rattle.script_lines.specs.declared.cause.Cause.TheVariants.{UnknownWord, FieldCount, Number, Range, TooManyDabs, OutOfWorld, UnknownStroke, ClosedStroke, UsedAgain, CanvasMissing, CanvasAgain, TooManyJobs, TooManyExports, StrokeLeft}
 use Rattle.std.specs.Char.{digit_value, is_ascii_digit}
 use Rattle.std.specs.List.{list_all}
 use Rattle.std.specs.Str.Parse.{digits_value}
@@ -13,6 +13,7 @@ text UnknownWord = codes "unknown word"
 text FieldCount = codes "wrong number of fields"
 text Number = codes "bad number"
 text Range = codes "out of range"
+text TooManyDabs = codes "too many dabs"
 text OutOfWorld = codes "out of world"
 text UnknownStroke = codes "unknown stroke"
 text ClosedStroke = codes "closed stroke"

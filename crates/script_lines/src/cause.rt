@@ -14,6 +14,8 @@ pub enum Cause {
     Number,
     /// A number is outside its range.
     Range,
+    /// A track has more than 4,096 dabs.
+    TooManyDabs,
     /// A job reads or writes outside the world.
     OutOfWorld,
     /// No stroke has that number.
@@ -44,6 +46,7 @@ impl Cause {
             Cause::FieldCount => "wrong number of fields",
             Cause::Number => "bad number",
             Cause::Range => "out of range",
+            Cause::TooManyDabs => "too many dabs",
             Cause::OutOfWorld => "out of world",
             Cause::UnknownStroke => "unknown stroke",
             Cause::ClosedStroke => "closed stroke",

@@ -6,7 +6,7 @@ use crate::fixtures::first_fault;
 use doc_model::Command;
 use script_lines::Cause::{
     self, CanvasAgain, CanvasMissing, ClosedStroke, FieldCount, Number, OutOfWorld, Range,
-    StrokeLeft, UnknownStroke, UnknownWord, UsedAgain,
+    StrokeLeft, TooManyDabs, TooManyJobs, UnknownStroke, UnknownWord, UsedAgain,
 };
 use script_text::{MakeRefusal, ReadRefusal, Reader, Script, print, read};
 use std::alloc::{AllocError, Global};
@@ -81,6 +81,93 @@ fn faults_in_a_stroke(rt: HostRuntime) {
     }
 }
 
+#[test]
+fn faults_of_tracks(rt: HostRuntime) {
+    let rows: [(&[u8], Cause); 13] = [
+        (b"track 1 con 0 0 1 hard 00000000 over 7 1 0 0", FieldCount),
+        (
+            b"track 1 con 0 0 1 hard 00000000 over 7 1 0 0 1",
+            FieldCount,
+        ),
+        (b"track 1 con 256 0 1 hard 00000000 over 7 1 0 0 1 1", Range),
+        (
+            b"track 1 con 0 -257 1 hard 00000000 over 7 1 0 0 1 1",
+            Range,
+        ),
+        (b"track 1 con 0 0 1 hard 00000000 over 7 0 0 0 1 1", Range),
+        (b"track 1 con 0 0 1 hard 00000000 over 7 1 0 0 1 x", Number),
+        (
+            b"track 2 con 0 0 0 hard 00000000 over 7 1 0 0 16383 0",
+            TooManyDabs,
+        ),
+        (
+            b"track 2 con 0 0 1 hard 00000000 over 7 255 0 0 16383 0",
+            OutOfWorld,
+        ),
+        (
+            b"track 2 con 0 0 1 hard 00000000 over 7 255 0 0 16382 0",
+            UnknownStroke,
+        ),
+        (
+            b"path 1 1 hard 00000000 over 7 1 0 0 1 1 2 2 3 3 4 4 5 5 6 6 7 7 8 8",
+            FieldCount,
+        ),
+        (
+            b"path 2 0 hard 00000000 over 7 1 -16000 0 16000 0",
+            TooManyDabs,
+        ),
+        (b"path 2 1 hard 00000000 over 7 255 0 0 16383 0", OutOfWorld),
+        (b"path 2 1 hard 00000000 over 7 1 0 0 1 0", UnknownStroke),
+    ];
+    for (lines, cause) in rows {
+        let Ok(text) = with_lines(rt.alloc(), lines) else {
+            panic!(rt; "no memory");
+        };
+        assert!(rt; fault(rt.alloc(), &text) == Some((4, cause)));
+    }
+}
+
+/// A script of so many strokes, each with so many paths of 256 tiles.
+fn many_paths(alloc: Global, strokes: u32, paths: usize) -> Result<Vec<u8>, AllocError> {
+    let mut text = Vec::from_slice(alloc, b"canvas 1 1\nlayer 1 0 0\n".as_slice())?;
+    for no in 0..strokes {
+        let stroke = format!(in alloc; "stroke {no} 1\n")?;
+        text.extend_from_slice(stroke.as_bytes())?;
+        for _ in 0..paths {
+            let path = format!(in alloc; "path {no} 0 hard ff0000ff over 255 8 -16384 0 -1 0\n")?;
+            text.extend_from_slice(path.as_bytes())?;
+        }
+        let end = format!(in alloc; "end {no}\n")?;
+        text.extend_from_slice(end.as_bytes())?;
+    }
+    Ok(text)
+}
+
+/// The first fault of that many paths.
+fn fault_of_paths(alloc: Global, strokes: u32, paths: usize) -> Option<(u32, Cause)> {
+    let Ok(text) = many_paths(alloc, strokes, paths) else {
+        return None;
+    };
+    if text.len() > 1048576 {
+        return None;
+    }
+    first_fault(read(alloc, &text))
+}
+
+#[test]
+fn paths_have_limits(rt: HostRuntime) {
+    // A stroke takes 16 of these paths, a script 256.
+    let rows = [
+        (1, 16, None),
+        (1, 17, Some((20, TooManyJobs))),
+        (16, 16, None),
+        (17, 16, Some((2 + 16 * 18 + 2, TooManyJobs))),
+    ];
+    for (strokes, paths, fault) in rows {
+        assert!(rt; fault_of_paths(rt.alloc(), strokes, paths) == fault);
+    }
+}
+
 /// Whether the line is printed as the other.
 fn is_printed_as(alloc: Global, line: &[u8], canonical: &[u8]) -> bool {
     let (Ok(text), Ok(wanted)) = (with_lines(alloc, line), with_lines(alloc, canonical)) else {
@@ -97,7 +184,7 @@ fn is_printed_as(alloc: Global, line: &[u8], canonical: &[u8]) -> bool {
 
 #[test]
 fn spellings_of_jobs(rt: HostRuntime) {
-    let canonical: [&[u8]; 7] = [
+    let canonical: [&[u8]; 9] = [
         b"fill 1 con 3 0 5 6 ff000080 over 7",
         b"fill 1 seq 0 0 4096 1 00000000 erase 0",
         b"fill 1 bar 16383 4 1 16 00ff0001 multiply 255",
@@ -105,6 +192,8 @@ fn spellings_of_jobs(rt: HostRuntime) {
         b"dab 1 seq 3 4 0 hard ff000080 addition 7",
         b"dab 1 seq -3 -4 5 hard ff000080 over 7",
         b"blur 1 seq 3 4 5 6 7",
+        b"track 1 uni -1 -1 0 hard 00000000 screen 7 20 5 5 5 5 5 5",
+        b"track 1 seq -256 255 128 soft 0000ff80 erase 0 255 -32 -7 1 2 3 4 5 6 7 8 9 10 11 12 13 14",
     ];
     for line in canonical {
         assert!(rt; is_printed_as(rt.alloc(), line, line));
@@ -120,6 +209,14 @@ fn spellings_of_jobs(rt: HostRuntime) {
     for line in others {
         assert!(rt; is_printed_as(rt.alloc(), line, canonical[0]));
     }
+}
+
+#[test]
+fn paths_are_printed_as_tracks(rt: HostRuntime) {
+    let path = b"path 1 1 hard ff000080 over 255 1 0 0 1 0";
+    let tracks =
+        b"track 1 con -1 -1 1 hard ff000080 over 255 1 0 0 1 0\ntrack 1 con 0 -1 1 hard ff000080 over 255 1 0 0 1 0\ntrack 1 con -1 0 1 hard ff000080 over 255 1 0 0 1 0\ntrack 1 con 0 0 1 hard ff000080 over 255 1 0 0 1 0";
+    assert!(rt; is_printed_as(rt.alloc(), path, tracks));
 }
 
 /// What the lines of two texts are read as.

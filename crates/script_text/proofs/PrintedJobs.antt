@@ -1,11 +1,15 @@
 -- A printed job reads back.
-use Rattle.std.proofs.Common.{◌≡◌, ℕ, ◌+◌, ◌*◌, ◌≤◌, Bool, true, ◌&&◌, nat_le, List, [], ◌∷◌, ◌++◌, length, Ok, refl, arith}
-use Rattle.std.specs.Prelude.{ℤ, pos, negsuc, ◌+ℤ◌, ◌-ℤ◌, int_le, ◌==◌}
+use Rattle.std.proofs.Common.{◌≡◌, ℕ, ◌+◌, ◌-◌, ◌*◌, ◌%◌, ◌≤◌, ap, ◌∙◌, sym, Bool, true, ◌&&◌, nat_le, List, [], ◌∷◌, ◌++◌, length, Ok, refl, arith}
+use Rattle.std.specs.Prelude.{ℤ, pos, negsuc, ◌+ℤ◌, ◌-ℤ◌, ◌*ℤ◌, int_le, ◌==◌}
 use Rattle.std.specs.List.{list_all}
 use Rattle.std.specs.Fmt.{decimal, signed_decimal}
 use borrow.Author.Differences.{ints}
 use Rattle.std.proofs.lemmas.Bool.Decides.{nat_tests}
-use Rattle.geom_core.specs.Areas.{Area, lies_in, world}
+use Rattle.geom_core.specs.Areas.{Point, point, Area, lies_in, world}
+use Rattle.geom_core.specs.Grid.{Key, key, tile}
+use Rattle.doc_model.specs.declared.track.Stamp.{Stamp}
+use Rattle.doc_model.specs.Trails.{Trail, trail, centres}
+use Rattle.doc_model.specs.Jobs.{squares, checks}
 use Rattle.pixel_core.specs.Rgba.{Rgba}
 use Rattle.pixel_core.specs.declared.blending.Op.{Op}
 use Rattle.doc_model.specs.declared.job.Kind.{Kind}
@@ -14,19 +18,18 @@ use Rattle.doc_model.specs.declared.job.Job.TheVariants as job
 use Rattle.doc_model.specs.declared.command.Command.{Command}
 use Rattle.doc_model.specs.declared.command.Command.TheVariants.{Add}
 use Rattle.doc_model.specs.Lawful.{within_limits, of_limits}
-use Rattle.doc_model.specs.Jobs.{checks}
 use Rattle.script_lines.specs.Values.{number_in}
 use Rattle.script_lines.specs.Colours.{is_byte, is_pixel}
 use Rattle.script_forms.specs.declared.words.Work.{Work}
-use Rattle.script_forms.specs.declared.words.Work.TheVariants.{Fill, Dab, Move, Blur}
+use Rattle.script_forms.specs.declared.words.Work.TheVariants.{Fill, Dab, Move, Blur, Track}
 use Rattle.script_forms.specs.declared.words.Word.{Word}
 use Rattle.script_forms.specs.declared.words.Word.TheVariants.{Paint}
 use Rattle.script_forms.specs.declared.jobs.Outline.{Outline}
-use Rattle.script_forms.specs.Jobs.{outline, ink, tip, checked, job_of, job_fields, paint}
+use Rattle.script_forms.specs.Jobs.{outline, ink, tip, checked, stamp, point_at, points_at, are_points, polyline, along, measured, trail_of, cell_at, track, job_of, job_fields, paint}
 use Rattle.script_forms.specs.Texts.{word_text, kind_text, op_text, edge_text}
 use Rattle.script_forms.specs.Forms.{command_of}
-use Rattle.script_forms.specs.Ranges.{job_in_range, is_number}
-use Rattle.script_text.specs.Text.{area_fields, ink_fields, job_text_fields, rgba_text, command_text, line}
+use Rattle.script_forms.specs.Ranges.{is_coordinate, is_short, trail_in_range, job_in_range, is_number}
+use Rattle.script_text.specs.Text.{area_fields, ink_fields, points_fields, trail_fields, job_text_fields, rgba_text, command_text, line}
 use Rattle.script_text.proofs.PrintedFields.{signed_back, rgba_back}
 use Rattle.script_lines.specs.Fronts.{is_field}
 use Rattle.script_lines.proofs.FieldLemmas.{first, second, both}
@@ -39,10 +42,6 @@ pub record Told (c : Command) : Type 0 where
   pub text : command_text c ≡ line (word_text word) fields
   pub plain : list_all is_field fields ≡ true
   pub reads : command_of word fields ≡ Ok c
-
--- whether a column or a row is one that a field may tell
-abbrev is_coordinate : ℤ → Bool
-is_coordinate x = int_le (negsuc 32767) x && int_le x (pos 32767)
 
 axis : (x : ℤ) (n : ℕ) → (int_le (negsuc 16383) x && int_le (x +ℤ pos n) (pos 16384)) ≡ true → is_coordinate x ≡ true
 axis x n h = grind (arith, ints)
@@ -129,12 +128,116 @@ blur_back : (a : Area) (r : ℕ) → IsPlaced a → (nat_le 1 r && nat_le r 16) 
 unfolding job_of
 blur_back a r l k h = rw (outline_back a l, from_one_back 16 r (omega arith) k) (checked_back (job.Blur a r) h)
 
-paint_back : (work : Work) (n : ℕ) (kind : Kind) (others : List (List ℕ)) (j : Job) → is_number n ≡ true → (length others == job_fields work) ≡ true → job_of work others ≡ Ok j → paint work (decimal n ∷ kind_text kind ∷ others) ≡ Ok (Add n kind j)
+paint_back : (work : Work) (n : ℕ) (kind : Kind) (others : List (List ℕ)) (j : Job) → is_number n ≡ true → job_fields work (length others) ≡ true → job_of work others ≡ Ok j → paint work (decimal n ∷ kind_text kind ∷ others) ≡ Ok (Add n kind j)
 unfolding paint
 paint_back work n kind others j h l k = rw (l, upto_back 4294967295 n (omega arith) h, kind_back kind, k) refl
 
 job_plain : (n : ℕ) (kind : Kind) (others : List (List ℕ)) → is_number n ≡ true → list_all is_field others ≡ true → list_all is_field (decimal n ∷ kind_text kind ∷ others) ≡ true
 job_plain n kind others h k = both _ _ (natural_field 4294967295 n (omega arith) h) (both _ _ (kind_field kind) k)
+
+-- tracks
+
+stamp_back : (s : Stamp) → nat_le s.r 128 ≡ true → (is_pixel s.colour && is_byte s.strength) ≡ true → stamp (decimal s.r) (edge_text s.soft) (rgba_text s.colour) (op_text s.op) (decimal s.strength) ≡ Ok s
+unfolding stamp
+stamp_back s h k = rw (upto_back 128 s.r (omega arith) h, edge_back s.soft, ink_back s.colour s.op s.strength k) refl
+
+point_back : (p : Point) → is_short p ≡ true → point_at (signed_decimal p.x) (signed_decimal p.y) ≡ Ok p
+unfolding point_at
+point_back p h = rw (coordinate_back p.x (first (is_coordinate p.x) (is_coordinate p.y) h), coordinate_back p.y (second (is_coordinate p.x) (is_coordinate p.y) h)) refl
+
+points_back : (ps : List Point) → list_all is_short ps ≡ true → points_at (points_fields ps) ≡ Ok ps
+points_back [] h = refl
+points_back (p ∷ ps) h = rw (point_back p (first (is_short p) (list_all is_short ps) h), points_back ps (second (is_short p) (list_all is_short ps) h)) refl
+
+points_plain : (ps : List Point) → list_all is_short ps ≡ true → list_all is_field (points_fields ps) ≡ true
+points_plain [] h = refl
+points_plain (p ∷ ps) h =
+    let here = first (is_short p) (list_all is_short ps) h in
+    both _ _ (coordinate_field p.x (first (is_coordinate p.x) (is_coordinate p.y) here))
+    (both _ _ (coordinate_field p.y (second (is_coordinate p.x) (is_coordinate p.y) here)) (points_plain ps (second (is_short p) (list_all is_short ps) h)))
+
+length-points : (ps : List Point) → length (points_fields ps) ≡ 2 * length ps
+length-points [] = refl
+length-points (p ∷ ps) = let e : length (points_fields ps) ≡ 2 * length ps = length-points ps in omega arith
+
+even_few : (n : ℕ) → (nat_le 2 n && nat_le n 8) ≡ true → are_points (2 * n) ≡ true
+even_few n h = both (nat_le 4 (2 * n) && nat_le (2 * n) 16) (2 * n % 2 == 0) (both (nat_le 4 (2 * n)) (nat_le (2 * n) 16) (low n (first (nat_le 2 n) (nat_le n 8) h)) (high n (second (nat_le 2 n) (nat_le n 8) h))) (even n)
+  where
+    low : (n : ℕ) → nat_le 2 n ≡ true → nat_le 4 (2 * n) ≡ true
+    low n h = grind (arith, nat_tests)
+
+    high : (n : ℕ) → nat_le n 8 ≡ true → nat_le (2 * n) 16 ≡ true
+    high n h = grind (arith, nat_tests)
+
+    halved : (n : ℕ) → 2 * n % 2 ≡ 0
+    halved n = omega arith
+
+    even : (n : ℕ) → (2 * n % 2 == 0) ≡ true
+    even n = ap (λ k. k == 0) (halved n)
+
+-- the numbers of a track are in their ranges
+record IsSpelled (t : Trail) : Type 0 where
+  short : list_all is_short t.points ≡ true
+  count : (nat_le 2 (length t.points) && nat_le (length t.points) 8) ≡ true
+  gap : (nat_le 1 t.gap && nat_le t.gap 255) ≡ true
+  radius : nat_le t.stamp.r 128 ≡ true
+  ink : (is_pixel t.stamp.colour && is_byte t.stamp.strength) ≡ true
+
+spelled : (t : Trail) → trail_in_range t ≡ true → IsSpelled t
+spelled t h =
+    let several = nat_le 2 (length t.points) && nat_le (length t.points) 8 in
+    let gaps = nat_le 1 t.gap && nat_le t.gap 255 in
+    let inks = is_pixel t.stamp.colour && is_byte t.stamp.strength in
+    let points = first (list_all is_short t.points && several) (gaps && (nat_le t.stamp.r 128 && inks)) h in
+    let others = second (list_all is_short t.points && several) (gaps && (nat_le t.stamp.r 128 && inks)) h in
+    let dab = second gaps (nat_le t.stamp.r 128 && inks) others in
+    record {
+      short = first (list_all is_short t.points) several points;
+      count = second (list_all is_short t.points) several points;
+      gap = first gaps (nat_le t.stamp.r 128 && inks) others;
+      radius = first (nat_le t.stamp.r 128) inks dab;
+      ink = second (nat_le t.stamp.r 128) inks dab;
+    }
+
+count_back : (ps : List Point) → (nat_le 2 (length ps) && nat_le (length ps) 8) ≡ true → are_points (length (points_fields ps)) ≡ true
+count_back ps h = ap are_points (length-points ps) ∙ even_few (length ps) h
+
+polyline_back : (ps : List Point) → list_all is_short ps ≡ true → (nat_le 2 (length ps) && nat_le (length ps) 8) ≡ true → polyline (points_fields ps) ≡ Ok ps
+unfolding polyline
+polyline_back ps h k = rw (count_back ps k) (points_back ps h)
+
+trail_back : (t : Trail) → IsSpelled t → nat_le (length (centres t)) 4096 ≡ true → trail_of (trail_fields t) ≡ Ok t
+unfolding trail_of
+trail_back t s few = rw (stamp_back t.stamp s.radius s.ink, from_one_back 255 t.gap (omega arith) s.gap, polyline_back t.points s.short s.count, few) refl
+
+axis_cell : (c : ℤ) → (int_le (negsuc 16383) (pos 64 *ℤ c) && int_le ((pos 64 *ℤ c) +ℤ pos 64) (pos 16384)) ≡ true → (int_le (negsuc 255) c && int_le c (pos 255)) ≡ true
+axis_cell c h = grind (arith, ints)
+
+place_back : (x : ℤ) → (int_le (negsuc 255) x && int_le x (pos 255)) ≡ true → number_in (negsuc 255) (pos 255) (signed_decimal x) ≡ Ok x
+place_back x h = signed_back 255 255 x (omega arith) (omega arith) (first (int_le (negsuc 255) x) (int_le x (pos 255)) h) (second (int_le (negsuc 255) x) (int_le x (pos 255)) h)
+
+place_field : (x : ℤ) → (int_le (negsuc 255) x && int_le x (pos 255)) ≡ true → is_field (signed_decimal x) ≡ true
+place_field x h = signed_field 255 255 x (omega arith) (omega arith) (first (int_le (negsuc 255) x) (int_le x (pos 255)) h) (second (int_le (negsuc 255) x) (int_le x (pos 255)) h)
+
+cell_back : (k : Key) → (int_le (negsuc 255) k.col && int_le k.col (pos 255)) ≡ true → (int_le (negsuc 255) k.row && int_le k.row (pos 255)) ≡ true → cell_at (signed_decimal k.col) (signed_decimal k.row) ≡ Ok k
+unfolding cell_at
+cell_back k x y = rw (place_back k.col x, place_back k.row y) refl
+
+track_back : (t : Trail) (k : Key) → IsSpelled t → nat_le (length (centres t)) 4096 ≡ true → (int_le (negsuc 255) k.col && int_le k.col (pos 255)) ≡ true → (int_le (negsuc 255) k.row && int_le k.row (pos 255)) ≡ true → checks (job.Track t k) ≡ true → track (job_text_fields (job.Track t k)) ≡ Ok (job.Track t k)
+unfolding track
+track_back t k s few x y c = rw (cell_back k x y, trail_back t s few) (checked_back (job.Track t k) c)
+
+trail_plain : (t : Trail) → IsSpelled t → list_all is_field (trail_fields t) ≡ true
+trail_plain t s =
+    both _ _ (natural_field 128 t.stamp.r (omega arith) s.radius)
+    (both _ _ (edge_field t.stamp.soft)
+    (both _ _ (rgba_field t.stamp.colour) (both _ _ (op_field t.stamp.op) (both _ _ (natural_field 255 t.stamp.strength (omega arith) (second (is_pixel t.stamp.colour) (is_byte t.stamp.strength) s.ink))
+    (both _ _ (natural_field 255 t.gap (omega arith) (second (nat_le 1 t.gap) (nat_le t.gap 255) s.gap)) (points_plain t.points s.short))))))
+
+track_count : (t : Trail) (k : Key) → IsSpelled t → job_fields Track (length (job_text_fields (job.Track t k))) ≡ true
+track_count t k s =
+    let e : length (job_text_fields (job.Track t k)) - 8 ≡ length (points_fields t.points) = omega arith in
+    ap are_points e ∙ count_back t.points s.count
 
 -- a job of a stroke
 pub told_job : (n : ℕ) (kind : Kind) (j : Job) → is_number n ≡ true → job_in_range j ≡ true → (checks j && within_limits j) ≡ true → Told (Add n kind j)
@@ -191,4 +294,18 @@ told_job n kind (job.Blur a r) h i s =
       text = refl;
       plain = job_plain n kind (job_text_fields (job.Blur a r)) h (area_plain a (decimal r ∷ []) l (both _ _ width refl));
       reads = paint_back Blur n kind (job_text_fields (job.Blur a r)) (job.Blur a r) h refl (blur_back a r l radius c);
+    }
+told_job n kind (job.Track t cell) h i s =
+    let c = first (checks (job.Track t cell)) (nat_le (length (centres t)) 4096) s in
+    let few = second (checks (job.Track t cell)) (nat_le (length (centres t)) 4096) s in
+    let inside = first (lies_in (tile cell) world) _ c in
+    let column = axis_cell cell.col (first _ _ inside) in
+    let row = axis_cell cell.row (second _ _ inside) in
+    let spelling = spelled t i in
+    record {
+      word = Paint Track;
+      fields = decimal n ∷ kind_text kind ∷ job_text_fields (job.Track t cell);
+      text = refl;
+      plain = job_plain n kind (job_text_fields (job.Track t cell)) h (both _ _ (place_field cell.col column) (both _ _ (place_field cell.row row) (trail_plain t spelling)));
+      reads = paint_back Track n kind (job_text_fields (job.Track t cell)) (job.Track t cell) h (track_count t cell spelling) (track_back t cell spelling few column row c);
     }

@@ -14,9 +14,11 @@ use Rattle.script_forms.specs.Ranges.{in_range, in_limits, is_sound}
 use Rattle.script_text.specs.declared.reading.Start.{Start}
 use Rattle.script_text.specs.Script.{Contents}
 use Rattle.script_text.specs.Closed.{is_script, all_closed}
-use Rattle.script_text.specs.Reading.{command_lines, canvas_in, command_in, canvas_of, commands_of, starts_of, cause_by, cause, end_by, left_open, fault_after, fault, script, cause_of, misfit}
+use Rattle.script_text.specs.Paths.{path_in, path_commands}
+use Rattle.script_text.specs.Reading.{command_lines, canvas_in, command_in, commands_in, cells_of, canvas_of, commands_of, starts_of, cause_by, cause, end_by, left_open, fault_after, fault, script, cause_of, misfit}
 use Rattle.script_text.specs.Read.{contents_by}
-use Rattle.std.specs.Option.{option_or, option_map, is_some}
+use Rattle.std.specs.Option.{option_or, option_map, option_to_list, is_some}
+use Rattle.std.proofs.lemmas.Grind.{flat_map-append}
 use Rattle.script_text.specs.Pieces.{NumberedLine, commands_from}
 use Rattle.script_text.specs.Text.{canvas_fields, command_text, text}
 use Rattle.script_text.specs.Laws.{PrintedReadsBack}
@@ -62,22 +64,30 @@ command_told c t =
     let w = words t.word in
     rw (w.no_canvas, w.back, t.reads) refl
 
+path_told : (c : Command) (t : Told c) → path_in (row t) ≡ None
+path_told c t =
+    let w = words t.word in
+    rw (w.no_path) refl
+
+alone_told : (c : Command) (t : Told c) → commands_in (row t) ≡ c ∷ []
+alone_told c t = λ i. option_to_list (command_told c t i) ++ path_commands (path_told c t i)
+
 no_canvas_told : (c : Command) (t : Told c) → canvas_in (row t) ≡ None
 no_canvas_told c t =
     let w = words t.word in
     rw (w.no_canvas) refl
 
-cause_told : (c : Command) (t : Told c) (canvas : Canvas) (before : List Command) → cause_by (Some canvas) before (row t) ≡ misfit (entries before) c
+cause_told : (c : Command) (t : Told c) (canvas : Canvas) (cells : ℕ) (before : List Command) → cause_by (Some canvas) cells before (row t) ≡ misfit (entries before) c
 unfolding cause_by
-cause_told c t canvas before =
+cause_told c t canvas cells before =
     let w = words t.word in
-    rw (w.no_canvas, w.back, t.reads) refl
+    rw (w.no_canvas, w.no_path, w.back, t.reads) refl
 
 cmds_told : (n : ℕ) (c : Command) (t : Told c) (rest : List ℕ) → commands_from n (lines (command_text c ++ rest)) ≡ scan.line n (row t) ∷ commands_from (n + 1) (lines rest)
 cmds_told n c t rest = ap (commands_from n) (line_told c t rest) ∙ from_more n (row t) (lines rest) ((words t.word).begins t.fields)
 
 more_commands : (before : List NumberedLine) (n : ℕ) (c : Command) (t : Told c) → commands_of (before ++ scan.line n (row t) ∷ []) ≡ commands_of before ++ c ∷ []
-more_commands before n c t = filter_map-append (λ (l : NumberedLine). command_in l.1) before (scan.line n (row t) ∷ []) ∙ ap (λ l. commands_of before ++ l) (rw (command_told c t) refl)
+more_commands before n c t = flat_map-append (λ (l : NumberedLine). commands_in l.1) before (scan.line n (row t) ∷ []) ∙ ap (λ l. commands_of before ++ (l ++ [])) (alone_told c t)
 
 -- after some lines, those of the other commands have no fault
 record IsBefore (before : List NumberedLine) (c : Canvas) (cs : List Command) : Type 0 where
@@ -100,7 +110,7 @@ no_fault_after before canvas commands n (c ∷ cs) is r l h =
     let may = first (may_follow (entries commands) c) (lawful_after (fed (entries commands) c) cs) l in
     let t = told c (first (in_range c) (list_all in_range cs) r) (sound_where (entries commands) c may) in
     let others = commands_from (n + 1) (lines (flat_map command_text cs)) in
-    let good : cause before (row t) ≡ None = (λ i. cause_by (is.canvas i) (is.commands i) (row t)) ∙ (cause_told c t canvas commands ∙ fits (entries commands) c may) in
+    let good : cause before (row t) ≡ None = (λ i. cause_by (is.canvas i) (cells_of before) (is.commands i) (row t)) ∙ (cause_told c t canvas (cells_of before) commands ∙ fits (entries commands) c may) in
     let rest = no_fault_after (before ++ scan.line n (row t) ∷ []) canvas (commands ++ c ∷ []) (n + 1) cs (before_more before canvas commands n c t is) (second (in_range c) (list_all in_range cs) r)
     (ap (λ es. lawful_after es cs) (entries_last commands c) ∙ second (may_follow (entries commands) c) (lawful_after (fed (entries commands) c) cs) l)
     (ap (λ es. list_all is_closed_entry (all_fed es cs)) (entries_last commands c) ∙ h) in
@@ -111,7 +121,7 @@ commands_told es n [] r l = refl
 commands_told es n (c ∷ cs) r l =
     let t = told c (first (in_range c) (list_all in_range cs) r) (sound_where es c (first (may_follow es c) (lawful_after (fed es c) cs) l)) in
     let rest = commands_told (fed es c) (n + 1) cs (second (in_range c) (list_all in_range cs) r) (second (may_follow es c) (lawful_after (fed es c) cs) l) in
-    ap commands_of (cmds_told n c t (flat_map command_text cs)) ∙ rw (command_told c t) (ap (λ l. c ∷ l) rest)
+    ap commands_of (cmds_told n c t (flat_map command_text cs)) ∙ ap (λ l. l ++ commands_of (commands_from (n + 1) (lines (flat_map command_text cs)))) (alone_told c t) ∙ ap (λ l. c ∷ l) rest
 
 -- the four parts of a script
 record IsScript (s : Contents) : Type 0 where
@@ -139,7 +149,7 @@ canvas_row c = canvas_text ∷ canvas_fields c
 canvas_told : (c : Canvas) → in_limits c ≡ true → canvas_in (canvas_row c) ≡ Some c
 canvas_told c h = rw (canvas_back c h) refl
 
-canvas_good : (c : Canvas) → in_limits c ≡ true → cause_by None [] (canvas_row c) ≡ None
+canvas_good : (c : Canvas) → in_limits c ≡ true → cause_by None 0 [] (canvas_row c) ≡ None
 unfolding cause_by
 canvas_good c h = rw (canvas_back c h) refl
 

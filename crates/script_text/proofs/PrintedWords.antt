@@ -16,11 +16,11 @@ use Rattle.doc_model.specs.declared.job.Kind.TheVariants.{Con, Seq, Bar, Uni}
 use Rattle.script_lines.specs.Lines.{is_command}
 use Rattle.script_lines.specs.Fronts.{is_plain, is_field}
 use Rattle.script_lines.specs.Values.{natural}
-use Rattle.script_forms.specs.declared.words.Work.TheVariants.{Fill, Dab, Move, Blur}
+use Rattle.script_forms.specs.declared.words.Work.TheVariants.{Fill, Dab, Move, Blur, Track}
 use Rattle.script_forms.specs.declared.words.Word.{Word}
 use Rattle.script_forms.specs.declared.words.Word.TheVariants.{Layer, Group, Remove, Place, Look, Stroke, Paint, End, Cancel, Undo, Redo, Purge, Export}
 use Rattle.script_forms.specs.Jobs.{kind_of, op_of, edge_of}
-use Rattle.script_forms.specs.Forms.{canvas_text, word_of, seen_of, exclusive_of}
+use Rattle.script_forms.specs.Forms.{canvas_text, path_text, word_of, seen_of, exclusive_of}
 use Rattle.script_forms.specs.Texts.{word_text, kind_text, op_text, edge_text, seen_text, exclusive_text}
 use Rattle.script_text.specs.Text.{rgb_text, rgba_text}
 use Rattle.script_text.proofs.PrintedFields.{digits_of, natural_back}
@@ -31,26 +31,28 @@ pub record IsWord (w : Word) : Type 0 where
   pub is_field : is_field (word_text w) ≡ true
   pub begins : (others : List (List ℕ)) → is_command (word_text w ∷ others) ≡ true
   pub no_canvas : bytes_eq (word_text w) canvas_text ≡ false
+  pub no_path : bytes_eq (word_text w) path_text ≡ false
   pub back : word_of (word_text w) ≡ Some w
 
 pub words : (w : Word) → IsWord w
 unfolding word_of
-words Layer = record { is_field = refl; begins = λ _. refl; no_canvas = refl; back = refl }
-words Group = record { is_field = refl; begins = λ _. refl; no_canvas = refl; back = refl }
-words Remove = record { is_field = refl; begins = λ _. refl; no_canvas = refl; back = refl }
-words Place = record { is_field = refl; begins = λ _. refl; no_canvas = refl; back = refl }
-words Look = record { is_field = refl; begins = λ _. refl; no_canvas = refl; back = refl }
-words Stroke = record { is_field = refl; begins = λ _. refl; no_canvas = refl; back = refl }
-words (Paint Fill) = record { is_field = refl; begins = λ _. refl; no_canvas = refl; back = refl }
-words (Paint Dab) = record { is_field = refl; begins = λ _. refl; no_canvas = refl; back = refl }
-words (Paint Move) = record { is_field = refl; begins = λ _. refl; no_canvas = refl; back = refl }
-words (Paint Blur) = record { is_field = refl; begins = λ _. refl; no_canvas = refl; back = refl }
-words End = record { is_field = refl; begins = λ _. refl; no_canvas = refl; back = refl }
-words Cancel = record { is_field = refl; begins = λ _. refl; no_canvas = refl; back = refl }
-words Undo = record { is_field = refl; begins = λ _. refl; no_canvas = refl; back = refl }
-words Redo = record { is_field = refl; begins = λ _. refl; no_canvas = refl; back = refl }
-words Purge = record { is_field = refl; begins = λ _. refl; no_canvas = refl; back = refl }
-words Export = record { is_field = refl; begins = λ _. refl; no_canvas = refl; back = refl }
+words Layer = record { is_field = refl; begins = λ _. refl; no_canvas = refl; no_path = refl; back = refl }
+words Group = record { is_field = refl; begins = λ _. refl; no_canvas = refl; no_path = refl; back = refl }
+words Remove = record { is_field = refl; begins = λ _. refl; no_canvas = refl; no_path = refl; back = refl }
+words Place = record { is_field = refl; begins = λ _. refl; no_canvas = refl; no_path = refl; back = refl }
+words Look = record { is_field = refl; begins = λ _. refl; no_canvas = refl; no_path = refl; back = refl }
+words Stroke = record { is_field = refl; begins = λ _. refl; no_canvas = refl; no_path = refl; back = refl }
+words (Paint Fill) = record { is_field = refl; begins = λ _. refl; no_canvas = refl; no_path = refl; back = refl }
+words (Paint Dab) = record { is_field = refl; begins = λ _. refl; no_canvas = refl; no_path = refl; back = refl }
+words (Paint Move) = record { is_field = refl; begins = λ _. refl; no_canvas = refl; no_path = refl; back = refl }
+words (Paint Blur) = record { is_field = refl; begins = λ _. refl; no_canvas = refl; no_path = refl; back = refl }
+words (Paint Track) = record { is_field = refl; begins = λ _. refl; no_canvas = refl; no_path = refl; back = refl }
+words End = record { is_field = refl; begins = λ _. refl; no_canvas = refl; no_path = refl; back = refl }
+words Cancel = record { is_field = refl; begins = λ _. refl; no_canvas = refl; no_path = refl; back = refl }
+words Undo = record { is_field = refl; begins = λ _. refl; no_canvas = refl; no_path = refl; back = refl }
+words Redo = record { is_field = refl; begins = λ _. refl; no_canvas = refl; no_path = refl; back = refl }
+words Purge = record { is_field = refl; begins = λ _. refl; no_canvas = refl; no_path = refl; back = refl }
+words Export = record { is_field = refl; begins = λ _. refl; no_canvas = refl; no_path = refl; back = refl }
 
 pub kind_back : (k : Kind) → kind_of (kind_text k) ≡ Ok k
 unfolding kind_of

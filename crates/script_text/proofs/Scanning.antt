@@ -19,11 +19,17 @@ use Rattle.script_text.specs.declared.reading.Reading.{Reading}
 use Rattle.script_text.specs.declared.reading.Start.{Start}
 use Rattle.script_forms.specs.Jobs.{Fields}
 use Rattle.script_text.specs.Script.{Contents}
-use Rattle.script_text.specs.Reading.{canvas_in, command_in, canvas_of, commands_of, starts_of, start_by, cause_by, cause, end_by, fault_after}
+use Rattle.script_text.specs.Reading.{canvas_in, command_in, commands_in, cells_of, canvas_of, commands_of, starts_of, start_by, cause_by, cause, end_by, fault_after}
 use Rattle.script_text.specs.Read.{end_fault, contents_by}
 use Rattle.script_text.specs.Pieces.{NumberedLine, commands_from, commands_among, fault_in, script_in}
 use Rattle.std.specs.Option.{option_or}
 use Rattle.script_text.specs.Read.{Takes, IsRefused, Answers, StartsAre, started_by}
+use Rattle.std.proofs.lemmas.Grind.{flat_map-append}
+use Rattle.std.proofs.lemmas.List.Sums.{sum_by-append}
+use Rattle.doc_model.specs.declared.job.Job.{Job}
+use Rattle.doc_model.specs.Trails.{Trail}
+use Rattle.brush_path.specs.Cells.{jobs}
+use Rattle.script_text.specs.Paths.{path_in, path_commands, adding, cells_in}
 use Rattle.script_text.specs.Pieces.{IsReading, AreRead}
 
 abbrev pub line : ℕ → Fields → NumberedLine
@@ -69,12 +75,16 @@ one_option (Some x) = refl
 reads_more : (r new : Reading) (before : List NumberedLine) (n : ℕ) (f : Fields) → IsReading r before → Takes r new n f → IsReading new (before ++ line n f ∷ [])
 reads_more r new before n f is t = record {
   canvas = t.canvas ∙ (ap (λ o. option_or o (canvas_in f)) is.canvas ∙ sym (canvas_of-append before (line n f)));
-  draft = t.draft ∙ (ap (λ l. l ++ option_to_list (command_in f)) is.draft ∙ sym (filter_map-append _ before (line n f ∷ []) ∙ ap (λ l. commands_of before ++ l) (one_option (command_in f))));
+  draft = t.draft ∙ (ap (λ l. l ++ commands_in f) is.draft ∙ sym (flat_map-append (λ (l : NumberedLine). commands_in l.1) before (line n f ∷ []) ∙ ap (λ l. commands_of before ++ l) (append-nil (commands_in f))));
   starts = t.starts ∙ (ap (λ l. l ++ option_to_list (start_by n (command_in f))) is.starts ∙ sym (filter_map-append _ before (line n f ∷ []) ∙ ap (λ l. starts_of before ++ l) (one_option (start_by n (command_in f)))));
+  cells = t.cells ∙ (ap (λ k. k + cells_in f) is.cells ∙ sym (sum_by-append (λ (l : NumberedLine). cells_in l.1) before (line n f ∷ []) ∙ ap (λ k. cells_of before + k) (alone (cells_in f))));
 }
+  where
+    alone : (k : ℕ) → 0 + k ≡ k
+    alone k = omega arith
 
-same_cause : (r : Reading) (before : List NumberedLine) (f : Fields) (o : Option Cause) → IsReading r before → cause_by r.canvas r.draft f ≡ o → cause before f ≡ o
-same_cause r before f o is h = sym (λ i. cause_by (is.canvas i) (is.draft i) f) ∙ h
+same_cause : (r : Reading) (before : List NumberedLine) (f : Fields) (o : Option Cause) → IsReading r before → cause_by r.canvas r.cells r.draft f ≡ o → cause before f ≡ o
+same_cause r before f o is h = sym (λ i. cause_by (is.canvas i) (is.cells i) (is.draft i) f) ∙ h
 
 -- a good line
 pub goes_on : (before rest : List NumberedLine) (n : ℕ) (f : Fields) → cause before f ≡ None → fault_after before (line n f ∷ rest) ≡ fault_after (before ++ line n f ∷ []) rest
@@ -91,10 +101,30 @@ ends : (before : List NumberedLine) → fault_after before [] ≡ end_fault befo
 unfolding fault_after
 ends before = refl
 
+-- paths start no strokes
+adding_starts : (n : ℕ) (js : List Job) → filter_map started_by (adding n js) ≡ []
+adding_starts n [] = refl
+adding_starts n (j ∷ js) = adding_starts n js
+
+path_starts : (p : Option (ℕ × Trail)) → filter_map started_by (path_commands p) ≡ []
+path_starts None = refl
+path_starts (Some p) = adding_starts p.0 (jobs p.1)
+
+before_rest : {A : Type 0} (o : Option A) (rest : List A) → option_to_list o ++ rest ≡ Rattle.std.specs.List.cons_option o rest
+before_rest None rest = refl
+before_rest (Some x) rest = refl
+
+same_starts : (o : Option Command) (p : Option (ℕ × Trail)) (rest : List Command) → filter_map started_by ((option_to_list o ++ path_commands p) ++ rest) ≡ filter_map started_by (Rattle.std.specs.List.cons_option o rest)
+same_starts o p rest =
+    filter_map-append started_by (option_to_list o ++ path_commands p) rest
+    ∙ ap (λ l. l ++ filter_map started_by rest) (filter_map-append started_by (option_to_list o) (path_commands p) ∙ ap (λ l. filter_map started_by (option_to_list o) ++ l) (path_starts p) ∙ append-nil (filter_map started_by (option_to_list o)))
+    ∙ sym (filter_map-append started_by (option_to_list o) rest)
+    ∙ ap (filter_map started_by) (before_rest o rest)
+
 -- the strokes that lines start are those that their commands start
 pub starts_are : (before : List NumberedLine) → StartsAre (starts_of before) (commands_of before)
 starts_are [] = refl
-starts_are (l ∷ before) = go (command_in l.1) (starts_are before)
+starts_are (l ∷ before) = go (command_in l.1) (starts_are before) ∙ sym (same_starts (command_in l.1) (path_in l.1) (commands_of before))
   where
     go : (o : Option Command) → StartsAre (starts_of before) (commands_of before) → map (λ (s : Start). s.no) (Rattle.std.specs.List.cons_option (start_by l.0 o) (starts_of before)) ≡ filter_map started_by (Rattle.std.specs.List.cons_option o (commands_of before))
     go None h = h
@@ -141,7 +171,7 @@ count_more : (before : List Fields) (n : ℕ) (f : Fields) → n ≡ length befo
 count_more before n f e = omega (arith, length-append before (f ∷ []))
 
 -- at a line that is read
-pub taken : (all others : List Fields) (n : ℕ) (f : Fields) (r new : Reading) → is_command f ≡ true → Going all n r (f ∷ others) → Takes r new (n + 1) f → cause_by r.canvas r.draft f ≡ None → Going all (n + 1) new others
+pub taken : (all others : List Fields) (n : ℕ) (f : Fields) (r new : Reading) → is_command f ≡ true → Going all n r (f ∷ others) → Takes r new (n + 1) f → cause_by r.canvas r.cells r.draft f ≡ None → Going all (n + 1) new others
 taken all others n f r new c g t none =
     let before = g.before in
     let now = among_more before n f g.read.number c in
@@ -177,7 +207,7 @@ passed all others n f r c g =
     }
 
 -- at a line that is refused
-pub refused : (all others more : List Fields) (n : ℕ) (f : Fields) (r : Reading) (g : ScriptFault) → is_command f ≡ true → Going all n r (f ∷ others) → IsRefused {A = Unit {0}} (Err (Fault g)) (n + 1) (cause_by r.canvas r.draft f) → fault_in (all ++ more) ≡ Some g
+pub refused : (all others more : List Fields) (n : ℕ) (f : Fields) (r : Reading) (g : ScriptFault) → is_command f ≡ true → Going all n r (f ∷ others) → IsRefused {A = Unit {0}} (Err (Fault g)) (n + 1) (cause_by r.canvas r.cells r.draft f) → fault_in (all ++ more) ≡ Some g
 refused all others more n f r fault c g bad =
     let before = g.before in
     ap fault_in (cut all before others more f g.whole) ∙ (g.read.good (f ∷ (others ++ more))

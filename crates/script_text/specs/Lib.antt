@@ -1,3 +1,4 @@
+pub mod Paths
 pub mod Script
 pub mod Reading
 pub mod Read

@@ -6,7 +6,7 @@ use Rattle.script_text.specs.declared.pieces.Reader.{Reader}
 use Rattle.script_text.specs.declared.reading.Reading.{Reading}
 use Rattle.script_text.specs.declared.script.ScriptFault.{ScriptFault}
 use Rattle.script_text.specs.Script.{Contents}
-use Rattle.script_text.specs.Reading.{canvas_of, commands_of, starts_of, fault_after}
+use Rattle.script_text.specs.Reading.{canvas_of, commands_of, cells_of, starts_of, fault_after}
 use Rattle.script_text.specs.Read.{contents_by}
 use Rattle.script_lines.specs.Lines.{is_command}
 
@@ -35,6 +35,7 @@ pub record IsReading (r : Reading) (before : List NumberedLine) : Type 0 where
   pub canvas : r.canvas ≡ canvas_of before
   pub draft : r.draft ≡ commands_of before
   pub starts : r.starts.items ≡ starts_of before
+  pub cells : r.cells ≡ cells_of before
 
 -- so many lines were read, which are these, and none of them has a fault: whatever lines follow, the
 -- first fault is the first one after them

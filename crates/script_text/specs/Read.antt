@@ -1,5 +1,5 @@
 -- How one line changes what was read.
-use Rattle.std.specs.Prelude.{◌≡◌, ℕ, true, List, ◌++◌, map, Option, Some, None, Result, Ok, Err, IfSome}
+use Rattle.std.specs.Prelude.{◌≡◌, ℕ, ◌+◌, length, true, List, ◌++◌, map, Option, Some, None, Result, Ok, Err, IfSome}
 use Rattle.std.specs.Option.{option_to_list, option_map, option_and_then}
 use Rattle.std.specs.Result.{result_ok}
 use Rattle.std.specs.List.{filter_map}
@@ -15,9 +15,11 @@ use Rattle.script_text.specs.declared.reading.Start.{Start}
 use Rattle.script_text.specs.Script.{Contents, contents}
 use Rattle.script_forms.specs.Ranges.{in_limits}
 use Rattle.script_forms.specs.Jobs.{Fields}
+use Rattle.doc_model.specs.Trails.{Trail}
 use Rattle.script_forms.specs.declared.words.Word.{Word}
 use Rattle.script_forms.specs.Forms.{command_of}
-use Rattle.script_text.specs.Reading.{canvas_in, command_in, start_by, canvas_of, commands_of, starts_of, end_by}
+use Rattle.script_text.specs.Paths.{path_commands, path_jobs, cells_in}
+use Rattle.script_text.specs.Reading.{canvas_in, command_in, commands_in, start_by, canvas_of, commands_of, starts_of, end_by}
 use Rattle.std.specs.Option.{option_or}
 
 abbrev pub refusal : ℕ → Cause → ReadRefusal
@@ -34,12 +36,21 @@ pub record TakesCommand (old new : Reading) (line : ℕ) (command : Option Comma
   pub canvas : new.canvas ≡ old.canvas
   pub draft : new.draft ≡ old.draft ++ option_to_list command
   pub starts : new.starts.items ≡ old.starts.items ++ option_to_list (start_by line command)
+  pub cells : new.cells ≡ old.cells
+
+-- the jobs of a path more, or none
+pub record TakesPath (old new : Reading) (told : Option (ℕ × Trail)) : Type 0 where
+  pub canvas : new.canvas ≡ old.canvas
+  pub draft : new.draft ≡ old.draft ++ path_commands told
+  pub starts : new.starts.items ≡ old.starts.items
+  pub cells : new.cells ≡ old.cells + length (path_jobs told)
 
 -- what a line says is added
 pub record Takes (old new : Reading) (line : ℕ) (fields : Fields) : Type 0 where
   pub canvas : new.canvas ≡ option_or old.canvas (canvas_in fields)
-  pub draft : new.draft ≡ old.draft ++ option_to_list (command_in fields)
+  pub draft : new.draft ≡ old.draft ++ commands_in fields
   pub starts : new.starts.items ≡ old.starts.items ++ option_to_list (start_by line (command_in fields))
+  pub cells : new.cells ≡ old.cells + cells_in fields
 
 -- the answer to bytes with that fault, or none, and what they say then
 abbrev pub Answers : Result Contents ReadRefusal → Option ScriptFault → Option Contents → Type 0

@@ -1,7 +1,7 @@
 -- What the bytes of a script say, or its first fault.
-use Rattle.std.specs.Prelude.{ℕ, if◌then◌else◌, Option, Some, None, Result, Ok, Err, List, [], ◌∷◌, ◌++◌, filter}
-use Rattle.std.specs.List.{list_any, filter_map, enumerate_from}
-use Rattle.std.specs.Option.{is_some, option_or, option_map, option_and_then}
+use Rattle.std.specs.Prelude.{ℕ, if◌then◌else◌, Option, Some, None, Result, Ok, Err, List, [], ◌∷◌, ◌++◌, filter, sum_by}
+use Rattle.std.specs.List.{list_any, filter_map, flat_map, enumerate_from}
+use Rattle.std.specs.Option.{is_some, option_or, option_map, option_and_then, option_to_list}
 use Rattle.std.specs.Result.{result_ok, result_err}
 use Rattle.std.specs.Str.{bytes_eq}
 use Rattle.doc_model.specs.declared.canvas.Canvas.{Canvas}
@@ -11,6 +11,7 @@ use Rattle.command_log.specs.declared.refusal.Misfit.{Misfit}
 use Rattle.command_log.specs.declared.refusal.Misfit.TheVariants as misfits
 use Rattle.command_log.specs.Misfits.{misfit_of}
 use Rattle.doc_model.specs.Strokes.{Entry, is_open_stroke, entries}
+use Rattle.doc_model.specs.Trails.{Trail}
 use Rattle.script_lines.specs.declared.cause.Cause.{Cause}
 use Rattle.script_lines.specs.declared.cause.Cause.TheVariants.{UnknownWord, UsedAgain, CanvasMissing, UnknownStroke, CanvasAgain, ClosedStroke, StrokeLeft, TooManyJobs, TooManyExports}
 use Rattle.script_lines.specs.Lines.{lines, is_command}
@@ -18,9 +19,9 @@ use Rattle.script_forms.specs.declared.words.Word.{Word}
 use Rattle.script_text.specs.declared.script.ScriptFault.{ScriptFault}
 use Rattle.script_text.specs.declared.reading.Start.{Start}
 use Rattle.script_text.specs.Script.{Contents, contents}
-use Rattle.script_forms.specs.Forms.{word_of, canvas_text}
-use Rattle.script_forms.specs.Jobs.{Fields}
-use Rattle.script_forms.specs.Forms.{canvas, command_of}
+use Rattle.script_forms.specs.Forms.{word_of, canvas_text, path_text, canvas, command_of}
+use Rattle.script_forms.specs.Jobs.{Fields, path}
+use Rattle.script_text.specs.Paths.{path_in, path_commands, path_misfit, cells_in}
 
 -- the lines of a text that are commands, numbered as they stand in it, from 1 on
 abbrev pub command_lines : List ℕ → List (ℕ × Fields)
@@ -41,9 +42,17 @@ abbrev pub canvas_of : List (ℕ × Fields) → Option Canvas
 canvas_of [] = None
 canvas_of (line ∷ others) = option_or (canvas_in line.1) (canvas_of others)
 
+-- the commands that a line says: one, or those of a path
+abbrev pub commands_in : Fields → List Command
+commands_in fields = option_to_list (command_in fields) ++ path_commands (path_in fields)
+
 -- the commands of some lines
 abbrev pub commands_of : List (ℕ × Fields) → List Command
-commands_of before = filter_map (λ l. command_in l.1) before
+commands_of before = flat_map (λ l. commands_in l.1) before
+
+-- how many tiles the paths of some lines meet, each path by itself
+abbrev pub cells_of : List (ℕ × Fields) → ℕ
+cells_of before = sum_by (λ l. cells_in l.1) before
 
 -- what is wrong with a line whose command may not follow
 abbrev pub cause_of : Misfit → Cause
@@ -72,15 +81,27 @@ word_cause before commands None others = Some UnknownWord
 word_cause None commands (Some word) others = Some CanvasMissing
 word_cause (Some c) commands (Some word) others = command_cause commands (command_of word others)
 
--- what is wrong with a line after that canvas and those commands
-unfoldable pub cause_by : Option Canvas → List Command → Fields → Option Cause
-cause_by before commands [] = None
-cause_by before commands (word ∷ others) =
-    if bytes_eq word canvas_text then canvas_cause before others else word_cause before commands (word_of word) others
+-- what is wrong with what a path says, by itself or after those commands and paths that meet so many tiles
+abbrev pub track_cause : ℕ → List Command → Result (ℕ × Trail) Cause → Option Cause
+track_cause cells commands (Err c) = Some c
+track_cause cells commands (Ok p) = option_map cause_of (path_misfit (entries commands) cells p.0 p.1)
+
+-- what is wrong with a path, behind its word
+abbrev pub path_cause : Option Canvas → ℕ → List Command → Fields → Option Cause
+path_cause None cells commands others = Some CanvasMissing
+path_cause (Some c) cells commands others = track_cause cells commands (path others)
+
+-- what is wrong with a line after that canvas, paths that meet so many tiles, and those commands
+unfoldable pub cause_by : Option Canvas → ℕ → List Command → Fields → Option Cause
+cause_by before cells commands [] = None
+cause_by before cells commands (word ∷ others) =
+    if bytes_eq word canvas_text then canvas_cause before others
+    else if bytes_eq word path_text then path_cause before cells commands others
+    else word_cause before commands (word_of word) others
 
 -- the first cause of a command line after the lines before it
 abbrev pub cause : List (ℕ × Fields) → Fields → Option Cause
-cause before fields = cause_by (canvas_of before) (commands_of before) fields
+cause before fields = cause_by (canvas_of before) (cells_of before) (commands_of before) fields
 
 -- where a command starts a stroke
 abbrev pub start_by : ℕ → Option Command → Option Start

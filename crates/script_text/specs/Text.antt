@@ -3,7 +3,8 @@ use Rattle.std.specs.Prelude.{ℕ, ◌/◌, ◌%◌, Bool, true, false, if◌the
 use Rattle.std.specs.List.{flat_map}
 use Rattle.std.specs.Fmt.{decimal, signed_decimal}
 use Rattle.std.specs.Char.{digit_char}
-use Rattle.geom_core.specs.Areas.{Area}
+use Rattle.geom_core.specs.Areas.{Point, Area}
+use Rattle.doc_model.specs.Trails.{Trail}
 use Rattle.pixel_core.specs.Rgba.{Rgba, clear, same_pixel}
 use Rattle.pixel_core.specs.declared.blending.Op.{Op}
 use Rattle.doc_model.specs.declared.canvas.Canvas.{Canvas}
@@ -13,7 +14,7 @@ use Rattle.doc_model.specs.declared.tree.Change.{Change}
 use Rattle.doc_model.specs.declared.tree.Change.TheVariants as change
 use Rattle.doc_model.specs.declared.command.Command.{Command}
 use Rattle.doc_model.specs.declared.command.Command.TheVariants as command
-use Rattle.script_forms.specs.declared.words.Work.TheVariants.{Fill, Dab, Move, Blur}
+use Rattle.script_forms.specs.declared.words.Work.TheVariants.{Fill, Dab, Move, Blur, Track}
 use Rattle.script_forms.specs.declared.words.Word.TheVariants as word
 use Rattle.script_forms.specs.Forms.{canvas_text}
 use Rattle.script_forms.specs.Texts.{word_text, work_text, kind_text, op_text, edge_text, seen_text, exclusive_text}
@@ -46,18 +47,28 @@ area_fields a = signed_decimal a.x ∷ signed_decimal a.y ∷ decimal a.w ∷ de
 abbrev pub ink_fields : Rgba → Op → ℕ → List (List ℕ)
 ink_fields colour op strength = rgba_text colour ∷ op_text op ∷ decimal strength ∷ []
 
+-- the points of a polyline, each by two fields
+abbrev pub points_fields : List Point → List (List ℕ)
+points_fields ps = flat_map (λ p. signed_decimal p.x ∷ signed_decimal p.y ∷ []) ps
+
+-- the fields of a track, from its radius on
+abbrev pub trail_fields : Trail → List (List ℕ)
+trail_fields t = (decimal t.stamp.r ∷ edge_text t.stamp.soft ∷ []) ++ ink_fields t.stamp.colour t.stamp.op t.stamp.strength ++ decimal t.gap ∷ points_fields t.points
+
 -- the fields of a job behind its stroke and its kind
 abbrev pub job_text_fields : Job → List (List ℕ)
 job_text_fields (job.Fill a colour op strength) = area_fields a ++ ink_fields colour op strength
 job_text_fields (job.Dab x y r soft colour op strength) = (signed_decimal x ∷ signed_decimal y ∷ decimal r ∷ edge_text soft ∷ []) ++ ink_fields colour op strength
 job_text_fields (job.Move a dx dy) = area_fields a ++ signed_decimal dx ∷ signed_decimal dy ∷ []
 job_text_fields (job.Blur a r) = area_fields a ++ decimal r ∷ []
+job_text_fields (job.Track t cell) = signed_decimal cell.col ∷ signed_decimal cell.row ∷ trail_fields t
 
 abbrev pub job_word : Job → List ℕ
 job_word (job.Fill a colour op strength) = work_text Fill
 job_word (job.Dab x y r soft colour op strength) = work_text Dab
 job_word (job.Move a dx dy) = work_text Move
 job_word (job.Blur a r) = work_text Blur
+job_word (job.Track t cell) = work_text Track
 
 -- the mark of an exclusive stroke
 abbrev pub mark_fields : Bool → List (List ℕ)

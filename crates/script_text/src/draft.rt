@@ -1,16 +1,20 @@
 //! Commands in order, as lines add them.
 
-ghost use Rattle.std.specs.Prelude.{◌≡◌, [], ◌∷◌, ◌++◌, IfOk, OnOk, true};
+ghost use Rattle.std.specs.Prelude.{◌≡◌, [], ◌∷◌, ◌++◌, ◌&&◌, IfOk, OnOk, true, None, All, length};
+ghost use Rattle.std.specs.Option.{option_map};
 ghost use Rattle.std.specs.List.{list_any, list_all};
+ghost use Rattle.doc_model.specs.Jobs.{checks};
 ghost use Rattle.doc_model.specs.Strokes.{entries, is_open_stroke};
-ghost use Rattle.doc_model.specs.Lawful.{lawful};
-ghost use Rattle.script_forms.specs.Ranges.{in_range, is_sound};
+ghost use Rattle.doc_model.specs.Lawful.{lawful, within_limits};
+ghost use Rattle.command_log.specs.Misfits.{jobs_misfit};
+ghost use Rattle.script_forms.specs.Ranges.{is_number, job_in_range, in_range, is_sound};
+ghost use Rattle.script_text.specs.Paths.{adding};
 ghost use Rattle.script_text.specs.Read.{IsRefused};
 ghost use Rattle.script_text.specs.Reading.{cause_of as said_cause, misfit as said_misfit};
 
 use crate::script::{ReadRefusal, at};
 use command_log::{CommandLog, Misfit, Refusal};
-use doc_model::Command;
+use doc_model::{Command, Job, Kind};
 use geom_core::NoMemory;
 use script_lines::Cause;
 use std::alloc::Global;
@@ -78,6 +82,37 @@ impl Draft {
             Err(Refusal::Misfit(misfit)) => Err(at(line, cause_of(misfit))),
             Err(Refusal::NoMemory) => Err(ReadRefusal::NoMemory),
         }
+    }
+
+    /// What is wrong with a line that adds so many jobs to a stroke, their own limits aside.
+    pub(crate) fn jobs_cause(&self, no: u32, count: usize) -> Option<Cause>
+        ensures { result ≡ option_map said_cause (jobs_misfit (entries self.now) no count) }
+    {
+        match self.log.jobs_misfit(no, count) {
+            None => None,
+            Some(misfit) => Some(cause_of(misfit)),
+        }
+    }
+
+    /// Adds the jobs of a line to a stroke, each beside the others. Where an error comes, the first of
+    /// them may have been added.
+    pub(crate) fn add_jobs(&mut self, line: u32, no: u32, jobs: &[Job]) -> Result<(), ReadRefusal>
+        requires number { is_number no ≡ true }
+        requires fits { jobs_misfit (entries self.old) no (length jobs.now) ≡ None }
+        requires ranges { All (λ j. job_in_range j ≡ true) jobs.now }
+        requires sound { All (λ j. (checks j && within_limits j) ≡ true) jobs.now }
+        ensures refused { IsRefused result line None }
+        ensures added { OnOk result (self.new ≡ self.old ++ adding no jobs.now) }
+    {
+        for job in jobs {
+            let command = Command::Add {
+                no,
+                kind: Kind::Con,
+                job: *job,
+            };
+            self.add(line, command)?;
+        }
+        Ok(())
     }
 
     /// The commands, and no more.

@@ -1,18 +1,19 @@
 //! Scripts made of commands.
 
-ghost use Rattle.std.specs.Prelude.{◌≡◌, ◌&&◌, true, false, IfOk, Err};
+ghost use Rattle.std.specs.Prelude.{◌≡◌, ◌&&◌, true, false, map, IfOk, Err};
+ghost use Rattle.doc_model.specs.Tracks.{point_of};
 ghost use Rattle.std.specs.List.{list_all};
 ghost use Rattle.doc_model.specs.Lawful.{lawful};
 ghost use Rattle.script_lines.specs.Colours.{is_pixel as said_pixel};
 ghost use Rattle.script_text.specs.declared.script.MakeRefusal.TheVariants.{NotScript, NoMemory};
 ghost use Rattle.script_text.specs.Script.{contents};
 ghost use Rattle.script_text.specs.Closed.{is_script};
-ghost use Rattle.script_forms.specs.Ranges.{is_id as said_id, change_in_range, job_in_range, in_range, is_sound as said_sound, in_limits};
+ghost use Rattle.script_forms.specs.Ranges.{is_id as said_id, change_in_range, is_short, trail_in_range, job_in_range, in_range, is_sound as said_sound, in_limits};
 ghost use Rattle.script_text.specs.Read.{IsGathered};
 
 use crate::reading::Reading;
 use crate::script::{MakeRefusal, ReadRefusal, Script};
-use doc_model::{Canvas, Change, Command, Job};
+use doc_model::{Canvas, Change, Command, Job, Track};
 use geom_core::NoMemory;
 use pixel_core::Pixel;
 use std::alloc::Global;
@@ -42,12 +43,31 @@ fn change_fits(change: Change) -> bool
     }
 }
 
+/// Whether each coordinate is one that a field may tell. It is, by its type.
+fn are_short(points: &[(i16, i16)]) -> bool
+    ensures { result ≡ list_all is_short (map point_of points.now) }
+{
+    let mut fit = true;
+    for i in 0..points.len() {
+        let (x, y) = points[i];
+        fit = fit && i32::from(x) >= -32768 && i32::from(y) >= -32768;
+    }
+    fit
+}
+
+fn track_fits(track: &Track) -> bool
+    ensures { result ≡ trail_in_range track.now }
+{
+    are_short(track.points()) && is_pixel(track.stamp().colour)
+}
+
 fn job_fits(job: Job) -> bool
     ensures { result ≡ job_in_range job }
 {
     match job {
         Job::Fill { colour, .. } | Job::Dab { colour, .. } => is_pixel(colour),
         Job::Move { .. } | Job::Blur { .. } => true,
+        Job::Track { track, .. } => track_fits(&track),
     }
 }
 

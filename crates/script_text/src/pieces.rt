@@ -70,7 +70,7 @@ impl Reader {
             }
             let behind = next_fields(rest, &mut fields)?;
             if is_command(&fields) {
-                reading.take(number, &fields)?;
+                reading.take(alloc, number, &fields)?;
             }
             left = behind;
         }

@@ -1,17 +1,18 @@
 //! The canonical text of a script.
 
-ghost use Rattle.std.specs.Prelude.{◌≡◌, ◌++◌, ◌∷◌, [], ◌<◌, OnOk, IfOk, ℕ, decimal, length};
+ghost use Rattle.std.specs.Prelude.{◌≡◌, ◌++◌, ◌∷◌, [], ◌<◌, OnOk, IfOk, ℕ, decimal, length, map};
+ghost use Rattle.doc_model.specs.Tracks.{point_of};
 ghost use Rattle.std.specs.Fmt.{signed_decimal};
 ghost use Rattle.std.specs.Char.{digit_char};
 ghost use Rattle.doc_model.specs.declared.tree.Change.TheVariants.{Layer, Look as ChangeLook};
-ghost use Rattle.doc_model.specs.declared.job.Job.TheVariants.{Fill, Dab, Move, Blur};
+ghost use Rattle.doc_model.specs.declared.job.Job.TheVariants.{Fill, Dab, Move, Blur, Track as TrackJob};
 ghost use Rattle.doc_model.specs.declared.command.Command.TheVariants.{Stroke, Add};
 ghost use Rattle.script_forms.specs.Texts.{kind_text as said_kind, op_text as said_op, edge_text as said_edge, seen_text as said_seen};
-ghost use Rattle.script_text.specs.Text.{rgb_text, rgba_text, spaced, line, spot_fields, area_fields, ink_fields, ground_fields, mark_fields, job_word as said_job_word, job_text_fields, change_text, command_text, canvas_line, text};
+ghost use Rattle.script_text.specs.Text.{rgb_text, rgba_text, spaced, line, spot_fields, area_fields, ink_fields, points_fields, trail_fields, ground_fields, mark_fields, job_word as said_job_word, job_text_fields, change_text, command_text, canvas_line, text};
 
 use crate::script::Script;
-use doc_model::{Canvas, Change, Command, Job, Kind, Look};
-use geom_core::{NoMemory, Rect};
+use doc_model::{Canvas, Change, Command, Job, Kind, Look, Stamp, Track};
+use geom_core::{NoMemory, Rect, TileKey};
 use itoa::Buffer;
 use pixel_core::{Op, Pixel};
 use std::alloc::Global;
@@ -226,6 +227,44 @@ fn add_dab(
     add_ink(out, colour, op, strength)
 }
 
+/// Adds the fields of what each dab of a track paints.
+fn add_stamp(out: &mut Vec<u8>, stamp: &Stamp) -> Result<(), NoMemory>
+    ensures { OnOk result (out.new.items ≡ out.old.items ++ spaced ((decimal stamp.now.r ∷ said_edge stamp.now.soft ∷ []) ++ ink_fields stamp.now.colour stamp.now.op stamp.now.strength)) }
+{
+    add_number(out, stamp.r as u32)?;
+    add_field(out, edge_text(stamp.soft))?;
+    add_ink(out, stamp.colour, stamp.op, stamp.strength)
+}
+
+/// Adds the fields of a polyline's points.
+fn add_points(out: &mut Vec<u8>, points: &[(i16, i16)]) -> Result<(), NoMemory>
+    ensures { OnOk result (out.new.items ≡ out.old.items ++ spaced (points_fields (map point_of points.now))) }
+{
+    for i in 0..points.len() {
+        let (x, y) = points[i];
+        add_signed(out, i32::from(x))?;
+        add_signed(out, i32::from(y))?;
+    }
+    Ok(())
+}
+
+/// Adds the fields of a track, from its radius on.
+fn add_trail(out: &mut Vec<u8>, track: &Track) -> Result<(), NoMemory>
+    ensures { OnOk result (out.new.items ≡ out.old.items ++ spaced (trail_fields track.now)) }
+{
+    add_stamp(out, &track.stamp())?;
+    add_number(out, u32::from(track.gap()))?;
+    add_points(out, track.points())
+}
+
+fn add_track(out: &mut Vec<u8>, track: &Track, cell: TileKey) -> Result<(), NoMemory>
+    ensures { OnOk result (out.new.items ≡ out.old.items ++ spaced (job_text_fields (TrackJob track.now cell))) }
+{
+    add_signed(out, i32::from(cell.col))?;
+    add_signed(out, i32::from(cell.row))?;
+    add_trail(out, track)
+}
+
 /// Adds the fields of a job behind its stroke and its kind.
 fn add_job(out: &mut Vec<u8>, job: &Job) -> Result<(), NoMemory>
     ensures { OnOk result (out.new.items ≡ out.old.items ++ spaced (job_text_fields job.now)) }
@@ -248,6 +287,7 @@ fn add_job(out: &mut Vec<u8>, job: &Job) -> Result<(), NoMemory>
         } => add_dab(out, *x, *y, *r, *soft, *colour, *op, *strength),
         Job::Move { rect, dx, dy } => add_move(out, rect, *dx, *dy),
         Job::Blur { rect, r } => add_blur(out, rect, *r),
+        Job::Track { track, cell } => add_track(out, track, *cell),
     }
 }
 
@@ -259,6 +299,7 @@ fn job_word(job: &Job) -> &'static [u8]
         Job::Dab { .. } => b"dab",
         Job::Move { .. } => b"move",
         Job::Blur { .. } => b"blur",
+        Job::Track { .. } => b"track",
     }
 }
 

@@ -1,25 +1,35 @@
 //! What the lines of a script say, one after another.
 
-ghost use Rattle.std.specs.Prelude.{◌≡◌, ◌<◌, length, None, Some, ◌++◌, ◌∷◌, [], IfOk, OnOk, IfSome, IsSome, true};
+ghost use Rattle.std.specs.Prelude.{◌≡◌, ◌<◌, ◌≤◌, length, None, Some, ◌++◌, ◌∷◌, [], IfOk, OnOk, IfSome, IsSome, true};
 ghost use Rattle.std.specs.Option.{option_to_list};
 ghost use Rattle.script_lines.specs.Fronts.{pointed};
 ghost use Rattle.doc_model.specs.Strokes.{entries};
-ghost use Rattle.script_forms.specs.Ranges.{in_range, is_sound};
+ghost use Rattle.std.specs.List.{list_all};
+ghost use Rattle.geom_core.specs.Areas.{lies_in, world};
+ghost use Rattle.doc_model.specs.Trails.{centres};
+ghost use Rattle.doc_model.specs.Jobs.{squares};
+ghost use Rattle.script_forms.specs.Jobs.{path as said_path};
+ghost use Rattle.script_forms.specs.Ranges.{is_number, trail_in_range, in_range, is_sound};
+ghost use Rattle.script_text.specs.Paths.{path_misfit};
 ghost use Rattle.script_forms.specs.Forms.{canvas as said_canvas};
 ghost use Rattle.script_forms.specs.Plain.{IsJobLine};
-ghost use Rattle.script_text.specs.Reading.{canvas_cause, word_cause, command_cause, cause_by, canvas_in, command_in, start_by, left_open, end_by, misfit};
+ghost use Rattle.script_text.specs.Reading.{canvas_cause, word_cause, command_cause, cause_of as said_cause, path_cause, cause_by, canvas_in, command_in, start_by, left_open, end_by, misfit};
 ghost use Rattle.script_text.specs.Read.{command_by, contents_by};
-ghost use Rattle.std.specs.Option.{option_or};
+ghost use Rattle.std.specs.Option.{option_map, option_or};
 ghost use Rattle.std.specs.Result.{result_ok};
-ghost use Rattle.script_text.specs.Read.{IsRefused, Fits, StartsAre, Answers, Takes, TakesCommand};
+ghost use Rattle.script_text.specs.Read.{IsRefused, Fits, StartsAre, Answers, Takes, TakesCommand, TakesPath};
 
 use crate::draft::{Draft, add_last};
 use crate::script::{ReadRefusal, Script, at};
-use doc_model::{Canvas, Command};
+use brush_path::jobs_of;
+use doc_model::{Canvas, Command, Track};
 use geom_core::NoMemory;
-use script_forms::{Word, canvas, command_of, is, plain_job, word_of};
+use script_forms::{Word, canvas, command_of, is, path, plain_job, word_of};
 use script_lines::Cause;
 use std::alloc::Global;
+
+/// How many tiles all paths of a script may meet, each path by itself.
+const MOST_CELLS: usize = 65536;
 
 /// Where a stroke starts.
 #[derive(Clone, Copy, Debug, PartialEq, Eq)]
@@ -34,6 +44,7 @@ pub(crate) struct Reading {
     canvas: Option<Canvas>,
     draft: Draft,
     starts: Vec<Start>,
+    cells: u32,
 }
 
 /// Where the command starts a stroke.
@@ -52,11 +63,13 @@ impl Reading {
         ensures canvas { IfOk result (λ r. r.canvas ≡ canvas) }
         ensures draft { IfOk result (λ r. r.draft ≡ []) }
         ensures starts { IfOk result (λ r. r.starts.items ≡ []) }
+        ensures cells { IfOk result (λ r. r.cells ≡ 0) }
     {
         Ok(Reading {
             canvas,
             draft: Draft::new(alloc, room)?,
             starts: Vec::new(alloc),
+            cells: 0,
         })
     }
 
@@ -67,6 +80,7 @@ impl Reading {
         ensures canvas { OnOk result (self.new.canvas ≡ result_ok (said_canvas (pointed others.now))) }
         ensures draft { OnOk result (self.new.draft ≡ self.old.draft) }
         ensures starts { OnOk result (self.new.starts ≡ self.old.starts) }
+        ensures cells { OnOk result (self.new.cells ≡ self.old.cells) }
         ensures first { OnOk result (self.old.canvas ≡ None) }
         ensures fits { OnOk result (Fits self.new.canvas) }
     {
@@ -132,11 +146,57 @@ impl Reading {
         }
     }
 
+    /// A path, behind its word.
+    fn take_path(&mut self, alloc: Global, number: u32, others: &[&[u8]]) -> Result<(), ReadRefusal>
+        ensures refused { IsRefused result number (path_cause self.old.canvas self.old.cells self.old.draft (pointed others.now)) }
+        ensures taken { OnOk result (TakesPath self.old self.new (result_ok (said_path (pointed others.now)))) }
+    {
+        if self.canvas.is_none() {
+            return Err(at(number, Cause::CanvasMissing));
+        }
+        match path(others) {
+            Ok(told) => self.add_path(alloc, number, told.0, &told.1),
+            Err(cause) => Err(at(number, cause)),
+        }
+    }
+
+    /// The jobs of a path.
+    fn add_path(
+        &mut self,
+        alloc: Global,
+        number: u32,
+        no: u32,
+        track: &Track,
+    ) -> Result<(), ReadRefusal>
+        requires number { is_number no ≡ true }
+        requires ranges { trail_in_range track.now ≡ true }
+        requires few { length (centres track.now) ≤ 4096 }
+        requires inside { list_all (λ a. lies_in a world) (squares track.now) ≡ true }
+        ensures refused { IsRefused result number (option_map said_cause (path_misfit (entries self.old.draft) self.old.cells no track.now)) }
+        ensures taken { OnOk result (TakesPath self.old self.new (Some (no, track.now))) }
+    {
+        let jobs = jobs_of(alloc, track)?;
+        if let Some(cause) = self.draft.jobs_cause(no, jobs.len()) {
+            return Err(at(number, cause));
+        }
+        if jobs.len().saturating_add(self.cells as usize) > MOST_CELLS {
+            return Err(at(number, Cause::TooManyJobs));
+        }
+        self.draft.add_jobs(number, no, &jobs)?;
+        self.cells += jobs.len() as u32;
+        Ok(())
+    }
+
     /// A line that is a command.
     #[tactic(auto, unfolding(crate::specs::Reading::cause_by))]
-    pub(crate) fn take(&mut self, number: u32, fields: &[&[u8]]) -> Result<(), ReadRefusal>
+    pub(crate) fn take(
+        &mut self,
+        alloc: Global,
+        number: u32,
+        fields: &[&[u8]],
+    ) -> Result<(), ReadRefusal>
         requires { Fits self.old.canvas }
-        ensures refused { IsRefused result number (cause_by self.old.canvas self.old.draft (pointed fields.now)) }
+        ensures refused { IsRefused result number (cause_by self.old.canvas self.old.cells self.old.draft (pointed fields.now)) }
         ensures taken { OnOk result (Takes self.old self.new number (pointed fields.now)) }
         ensures fits { OnOk result (Fits self.new.canvas) }
     {
@@ -145,6 +205,8 @@ impl Reading {
             [word, others @ ..] => {
                 if is(word, b"canvas") {
                     self.take_canvas(number, others)
+                } else if is(word, b"path") {
+                    self.take_path(alloc, number, others)
                 } else {
                     self.take_word(number, word_of(word), others)
                 }

@@ -1,5 +1,5 @@
 -- Each tile that a job's rectangles meet is among those that it is painted in.
-use Rattle.std.proofs.Common.{◌≡◌, ℕ, ◌+◌, true, false, ◌||◌, not, cond, inl, inr, Some, List, [], ◌∷◌, ◌++◌, take, refl, sym, ap, ◌∙◌}
+use Rattle.std.proofs.Common.{◌≡◌, ℕ, ◌+◌, arith, true, false, ◌||◌, not, cond, inl, inr, Some, List, [], ◌∷◌, ◌++◌, take, refl, sym, ap, ◌∙◌}
 use Rattle.std.specs.Prelude.{slice_get}
 use Rattle.std.specs.List.{list_any, AllByRecursion}
 use Rattle.std.proofs.lemmas.List.{append-nil, append_assoc}
@@ -14,7 +14,7 @@ use Rattle.geom_core.proofs.Common.{meets_held}
 use Rattle.geom_core.proofs.Tiles.{own_tile, key_same}
 use Rattle.geom_core.proofs.Axes.{tiles_met}
 use Rattle.doc_model.specs.declared.job.Job.{Job}
-use Rattle.doc_model.specs.declared.job.Job.TheVariants.{Fill, Dab, Move, Blur}
+use Rattle.doc_model.specs.declared.job.Job.TheVariants.{Fill, Dab, Move, Blur, Track}
 use Rattle.doc_model.specs.Jobs.{writes}
 use Rattle.doc_model.specs.Lawful.{of_limits, within_limits}
 use Rattle.job_core.proofs.Values.{HasPoints, some_of_limits}
@@ -28,6 +28,7 @@ written_some (Fill rect colour op strength) l = (some_of_limits rect l, tt)
 written_some (Dab x y n soft colour op strength) l = (square_some x y n, tt)
 written_some (Move rect dx dy) l = (some_of_limits rect l, (some_of_limits (moved rect dx dy) l, tt))
 written_some (Blur rect n) l = (some_of_limits rect (and_left (of_limits rect) _ l), tt)
+written_some (Track t cell) l = ((omega arith, omega arith), tt)
 
 -- a tile that a rectangle meets, and no earlier one does, is among its new ones
 new_listed : (earlier : List Area) (r : Area) (k : Key) → HasPoints r → is_met earlier k ≡ false → meets r (tile k) ≡ true → list_any (same_key k) (unmet earlier (keys_of r)) ≡ true

@@ -15,10 +15,11 @@ use Rattle.geom_core.proofs.Keys.{key_of_any_held}
 use Rattle.geom_core.proofs.Tiles.{key_same}
 use Rattle.geom_core.proofs.Axes.{tiles_met}
 use Rattle.doc_model.specs.declared.job.Job.{Job}
-use Rattle.doc_model.specs.declared.job.Job.TheVariants.{Fill, Dab, Move, Blur}
+use Rattle.doc_model.specs.declared.job.Job.TheVariants.{Fill, Dab, Move, Blur, Track}
 use Rattle.doc_model.specs.Layers.{Layer, at}
 use Rattle.doc_model.proofs.LayerLaws.{layer_ext}
-use Rattle.doc_model.specs.Jobs.{writes, value, apply}
+use Rattle.doc_model.specs.Trails.{centres}
+use Rattle.doc_model.specs.Jobs.{writes, value, apply, all_stamped}
 use Rattle.doc_model.specs.Shots.{in_tile}
 use Rattle.doc_model.specs.Lawful.{within_limits}
 use Rattle.doc_model.proofs.JobLaws.{at-apply, laws_of_jobs}
@@ -36,6 +37,7 @@ value_alike (Fill rect colour op strength) a b p h e = ap (λ d. compose op colo
 value_alike (Dab x y r soft colour op strength) a b p h e = ap (λ d. compose op colour d (mul (mask r soft (p.x -ℤ x) (p.y -ℤ y)) strength)) e
 value_alike (Move rect dx dy) a b p h e = cc
 value_alike (Blur rect r) a b p h e = cc
+value_alike (Track t cell) a b p h e = ap (all_stamped t.stamp (centres t) p) e
 
 -- what a point operation leaves at a point depends on what stood at that point alone
 apply_alike : (job : Job) (a b : Layer) (p : Point) → is_point_op job ≡ true → at a p ≡ at b p → at (apply job a) p ≡ at (apply job b) p

@@ -115,7 +115,7 @@ fn written(job: &Job) -> Option<Rect>
     ensures { writes job.now ≡ written_or result (reads job.now) }
 {
     match *job {
-        Job::Fill { .. } | Job::Dab { .. } | Job::Move { .. } => None,
+        Job::Fill { .. } | Job::Dab { .. } | Job::Move { .. } | Job::Track { .. } => None,
         Job::Blur { rect, .. } => Some(rect),
     }
 }

@@ -1,6 +1,6 @@
 //! How much a script asks for.
 
-use doc_model::{Change, Command, Job};
+use doc_model::{Change, Command, Job, Track};
 use geom_core::Rect;
 use script_text::Script;
 
@@ -37,7 +37,15 @@ fn size(job: &Job) -> u64 {
         }
         Job::Move { rect, .. } => area(rect).saturating_mul(2),
         Job::Blur { rect, .. } => area(rect),
+        Job::Track { track, .. } => track_size(track),
     }
+}
+
+/// How many points the dabs of a track paint in one tile, if it goes straight through it.
+fn track_size(track: &Track) -> u64 {
+    let side = 2 * u64::from(track.stamp().r) + 1;
+    let dabs = (64 + side) / u64::from(track.gap()).max(1) + 1;
+    (side * side).min(4096) * dabs
 }
 
 /// How many points a rectangle has.

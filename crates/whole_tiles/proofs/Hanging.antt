@@ -10,9 +10,10 @@ use Rattle.geom_core.specs.Overlaps.{any_holds, IsWithin, IsShared}
 use Rattle.geom_core.specs.Grid.{Key, tile}
 use Rattle.geom_core.proofs.Tests.{and_left, and_right, both_true, or_left, taken}
 use Rattle.doc_model.specs.declared.job.Job.{Job}
-use Rattle.doc_model.specs.declared.job.Job.TheVariants.{Fill, Dab, Move, Blur}
+use Rattle.doc_model.specs.declared.job.Job.TheVariants.{Fill, Dab, Move, Blur, Track}
 use Rattle.doc_model.specs.Layers.{Layer, at}
-use Rattle.doc_model.specs.Jobs.{reads, writes, value, apply, grown}
+use Rattle.doc_model.specs.Jobs.{reads, writes, value, apply, grown, all_stamped}
+use Rattle.doc_model.specs.Trails.{centres}
 use Rattle.doc_model.specs.Shots.{in_tile}
 use Rattle.doc_model.proofs.JobLaws.{at-apply, laws_of_jobs}
 use Rattle.job_core.specs.Points.{is_point_op}
@@ -52,6 +53,7 @@ point_value (Fill rect colour op strength) a b p h e = ap (λ d. compose op colo
 point_value (Dab x y r soft colour op strength) a b p h e = ap (λ d. compose op colour d (mul (mask r soft (p.x -ℤ x) (p.y -ℤ y)) strength)) e
 point_value (Move rect dx dy) a b p h e = cc
 point_value (Blur rect r) a b p h e = cc
+point_value (Track t cell) a b p h e = ap (all_stamped t.stamp (centres t) p) e
 
 pub point_enough : (job : Job) (rect part : Area) (key : Key) → is_point_op job ≡ true → writes job ≡ rect ∷ [] → reads job ≡ rect ∷ [] → IsShared rect (tile key) part → IsEnough job key part
 point_enough job rect part key op w r shared = record {
@@ -155,9 +157,11 @@ point_reads (Fill rect colour op strength) h = refl
 point_reads (Dab x y r soft colour op strength) h = refl
 point_reads (Move rect dx dy) h = cc
 point_reads (Blur rect r) h = cc
+point_reads (Track t cell) h = refl
 
 pub point_met : (job : Job) (rect : Area) (key : Key) → is_point_op job ≡ true → writes job ≡ rect ∷ [] → within_limits job ≡ true → list_any (same_key key) (all_keys_of (writes job)) ≡ true → meets rect (tile key) ≡ true
 point_met (Fill r colour op strength) rect key op' w limits met = let e : r ≡ rect = cc in ap (λ (a : Area). meets a (tile key)) (sym e) ∙ one_met r key (some_of_limits r limits) met
 point_met (Dab x y r soft colour op strength) rect key op' w limits met = let e : rect ≡ square x y r = cc in square_met x y r rect key e met
 point_met (Move r dx dy) rect key op' w limits met = cc
 point_met (Blur r n) rect key op' w limits met = cc
+point_met (Track t cell) rect key op' w limits met = let e : tile cell ≡ rect = cc in ap (λ (a : Area). meets a (tile key)) (sym e) ∙ one_met (tile cell) key (omega arith, omega arith) met

@@ -41,7 +41,7 @@ fn needs_of_other(job: &Job, key: TileKey) -> Rect
     match *job {
         Job::Move { rect, dx, dy } => needs_of_move(key, &rect, &written(job, 1), dx, dy),
         Job::Blur { rect, r } => around(&part_in(key, &rect), r),
-        Job::Fill { .. } | Job::Dab { .. } => unreachable!(),
+        Job::Fill { .. } | Job::Dab { .. } | Job::Track { .. } => unreachable!(),
     }
 }
 

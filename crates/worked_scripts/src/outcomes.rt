@@ -21,7 +21,7 @@ const GREEN: [u8; 3] = [0, 255, 0];
 const BLUE: [u8; 3] = [0, 0, 255];
 
 /// Scripts on small canvases, with the colours of all columns.
-pub const ROWS: [Row; 14] = [
+pub const ROWS: [Row; 15] = [
     Row {
         script: b"canvas 1 1 336699\nexport\n",
         colours: &[[51, 102, 153]],
@@ -35,6 +35,12 @@ pub const ROWS: [Row; 14] = [
     Row {
         script: b"canvas 3 3\nlayer 1 0 0\nstroke 1 1\ndab 1 seq 1 1 1 soft 000000ff over 255\nend 1\nexport\n",
         colours: &[WHITE, [128, 128, 128], WHITE],
+        outcomes: &[Outcome::Done, Outcome::Done, Outcome::Done],
+    },
+    // Two dabs of a path, over one another.
+    Row {
+        script: b"canvas 1 1\nlayer 1 0 0\nstroke 1 1\npath 1 1 hard ff000080 over 255 1 0 0 1 0\nend 1\nexport\n",
+        colours: &[[255, 63, 63]],
         outcomes: &[Outcome::Done, Outcome::Done, Outcome::Done],
     },
     // A cancelled stroke keeps what can be redone.

@@ -1,7 +1,7 @@
 //! Scripts and the pixmaps that they give.
 
 /// What is shown, a script, and the pixmaps of a run in which all is done.
-pub const DONE: [(&str, &[u8], &[u8]); 32] = [
+pub const DONE: [(&str, &[u8], &[u8]); 33] = [
     (
         "a new canvas is white",
         b"canvas 1 1\nexport\n",
@@ -101,6 +101,11 @@ pub const DONE: [(&str, &[u8], &[u8]); 32] = [
         "a dab of one point",
         b"canvas 1 1\nlayer 1 0 0\nstroke 1 1\ndab 1 seq 0 0 0 soft 000000ff over 255\nend 1\nexport\n",
         b"P6\n1 1\n255\n\x00\x00\x00",
+    ),
+    (
+        "the dabs of a path, one on another, in the four tiles that meet at the corner",
+        b"canvas 4 1\nlayer 1 0 0\nstroke 1 1\npath 1 12 soft ff204080 over 200 7 -21 -9 20 13 9 -40\nend 1\nexport\n",
+        b"P6\n4 1\n255\n\xff\x77\x8b\xff\x77\x8b\xff\x7b\x8e\xff\x7f\x92",
     ),
     (
         "redo after a stroke that was cancelled",

@@ -37,8 +37,8 @@ returns-in_err-add-clause-fault c = λ ls more fault has told.
     let err : c.from_residual.result ≡ Err c.in_err-add.field-0.0 = search rules in
     let some : IsSome r.canvas = search rules in
     let misfits : IsRefused {A = Reader} (Err c.in_err-add.field-0.0) (n + 1) (misfit (entries r.draft) command) = search rules in
-    let bad : IsRefused {A = Reader} (Err c.in_err-add.field-0.0) (n + 1) (cause_by r.canvas r.draft f) = subst (λ o. IsRefused {A = Reader} (Err c.in_err-add.field-0.0) (n + 1) o) (sym (says.cause r.canvas r.draft some)) misfits in
-    refused all (lines behind) more n f r fault says.is_command going (subst (λ (x : Result Reader ReadRefusal). IsRefused x (n + 1) (cause_by r.canvas r.draft f)) (sym err ∙ told) bad)
+    let bad : IsRefused {A = Reader} (Err c.in_err-add.field-0.0) (n + 1) (cause_by r.canvas r.cells r.draft f) = subst (λ o. IsRefused {A = Reader} (Err c.in_err-add.field-0.0) (n + 1) o) (sym (says.cause r.canvas r.cells r.draft some)) misfits in
+    refused all (lines behind) more n f r fault says.is_command going (subst (λ (x : Result Reader ReadRefusal). IsRefused x (n + 1) (cause_by r.canvas r.cells r.draft f)) (sym err ∙ told) bad)
 
 pub loop-left-preserved-in-Some-plain_job : goal.loop-left-preserved-in-Some-plain_job
 loop-left-preserved-in-Some-plain_job c =
@@ -60,7 +60,7 @@ loop-left-preserved-in-Some-plain_job c =
       going = λ (ls : List Fields) has.
           let all = ls ++ lines c.args.text.now in
           let going : Going all n r (f ∷ lines behind) = subst (Going all n r) (left ∙ job.line) (c.loop-left.invariant.going ls has) in
-          taken all (lines behind) n f r new says.is_command going (takes_job r new (n + 1) f command says t) (says.cause r.canvas r.draft some ∙ none);
+          taken all (lines behind) n f r new says.is_command going (takes_job r new (n + 1) f command says t) (says.cause r.canvas r.cells r.draft some ∙ none);
     }
 
 pub returns-in_err-take-clause-fault : goal.returns-in_err-take-clause-fault
@@ -74,8 +74,8 @@ returns-in_err-take-clause-fault c = λ ls more fault has told.
     let going : Going all n r (f ∷ others) = subst (Going all n r) left (c.loop-left.invariant.going ls has) in
     let is : is_command f ≡ true = search rules in
     let err : c.from_residual-in_err-take.result ≡ Err c.in_err-take.field-0.0 = search rules in
-    let bad : IsRefused {A = Reader} (Err c.in_err-take.field-0.0) (n + 1) (cause_by r.canvas r.draft f) = search rules in
-    refused all others more n f r fault is going (subst (λ (x : Result Reader ReadRefusal). IsRefused x (n + 1) (cause_by r.canvas r.draft f)) (sym err ∙ told) bad)
+    let bad : IsRefused {A = Reader} (Err c.in_err-take.field-0.0) (n + 1) (cause_by r.canvas r.cells r.draft f) = search rules in
+    refused all others more n f r fault is going (subst (λ (x : Result Reader ReadRefusal). IsRefused x (n + 1) (cause_by r.canvas r.cells r.draft f)) (sym err ∙ told) bad)
 
 pub loop-left-preserved-in_ok-take : goal.loop-left-preserved-in_ok-take
 loop-left-preserved-in_ok-take c =
@@ -87,7 +87,7 @@ loop-left-preserved-in_ok-take c =
     let left : lines_behind c.loop-left.left ≡ f ∷ others = search rules in
     let is : is_command f ≡ true = search rules in
     let t : Takes r new (n + 1) f = search rules in
-    let none : cause_by r.canvas r.draft f ≡ None = search rules in
+    let none : cause_by r.canvas r.cells r.draft f ≡ None = search rules in
     record {
       fits = search rules;
       going = λ (ls : List Fields) has.
