@@ -7,8 +7,15 @@
 #
 # Each run is to end with code 6, one line that says so and nothing written, or with the script's whole output, within
 # 20 seconds. PROGRAM is the program, by default crates/strokes/out/strokes. The status is 1 where a run did otherwise.
+#
+#     tools/fail-alloc.sh settled
+#
+# refuses in place of that each growth alone in a test of desk_rows that settles worked scripts on desks, and settles a desk
+# once more that answered NoMemory. It is to pass each time: each desk has its script's pictures then. TESTS is the program of
+# the crate's tests, by default what rt test made in crates/desk_rows.
 here=$(cd "$(dirname "$0")/.." && pwd) || exit 70
 program=${PROGRAM:-$here/crates/strokes/out/strokes}
+tests=${TESTS:-$here/crates/desk_rows/out/desk_rows_tests}
 tmp=$(mktemp -d) || exit 70
 trap 'rm -rf "$tmp"' EXIT
 status=0
@@ -27,24 +34,27 @@ printf 'canvas 1 1\ngroup 1 0 0\nlayer 2 1 0\nlook 1 77 over on\nstroke 1 2\nfil
     printf 'cancel 2\nundo\nexport\nredo\nremove 1\nundo\nexport\n'
 } >"$tmp/large"
 
-# Counts the calls that ask for memory, and refuses those that FAIL_AT, FAIL_FROM or FAIL_EACH names.
+# Counts the calls that ask for memory, and refuses those that FAIL_AT, FAIL_FROM or FAIL_EACH names. Where FAIL_TELL is set
+# each refusal is told on the error stream.
 shim() {
     cat >"$tmp/shim.c" <<'C'
 #define _GNU_SOURCE
 #include <errno.h>
 #include <stdatomic.h>
 #include <stdlib.h>
+#include <unistd.h>
 void *__libc_malloc(size_t), *__libc_calloc(size_t, size_t), *__libc_realloc(void *, size_t), *__libc_memalign(size_t, size_t);
 static atomic_long calls;
-static long at, from, each;
+static long at, from, each, tell;
 static long number(const char *name) { const char *s = getenv(name); return s ? atol(s) : 0; }
 __attribute__((constructor)) static void begin(void) {
-    at = number("FAIL_AT"), from = number("FAIL_FROM"), each = number("FAIL_EACH");
+    at = number("FAIL_AT"), from = number("FAIL_FROM"), each = number("FAIL_EACH"), tell = number("FAIL_TELL");
     atomic_store(&calls, 0);
 }
 static int fails(void) {
     long n = atomic_fetch_add(&calls, 1) + 1;
     int no = n == at || (from && n >= from) || (each && n % each == 0);
+    if (no && tell && write(2, "refused\n", 8) < 0) _exit(71);
     if (no) errno = ENOMEM;
     return no;
 }
@@ -105,5 +115,29 @@ built() {
     done
 }
 
-built
+# Until there are no more growths to refuse.
+settled() {
+    [ -x "$tests" ] || { echo "fail-alloc: $tests isn't there: rt test in crates/desk_rows makes it" >&2; exit 70; }
+    shim
+    name=scripts::a_settled_desk_has_the_pixmaps_of_its_script
+    n=0 passed=0
+    while :; do
+        n=$((n + 1))
+        env FAIL_TELL=1 FAIL_AT=$n LD_PRELOAD="$tmp/shim.so" timeout 60 "$tests" "$name" >"$tmp/out" 2>"$tmp/err"
+        code=$?
+        grep -q refused "$tmp/err" || break
+        if [ $code = 0 ]; then
+            passed=$((passed + 1))
+        else
+            status=1
+            echo "ODD growth $n of $name: code $code, told: $(head -c 200 "$tmp/err")"
+        fi
+    done
+    echo "$name: growths up to $((n - 1)), of which each was refused alone: it passed $passed times"
+}
+
+case ${1:-built} in
+settled) settled ;;
+*) built ;;
+esac
 exit $status

@@ -35,6 +35,7 @@ fn the_workers_that_are_asked_for(rt: HostRuntime) -> Result<(), Fail> {
         ("--workers 2", FOUR_JOBS, 4),
         ("", FOUR_JOBS, 4),
         ("--workers 16 --emit log", FOUR_JOBS, 4),
+        ("--workers 2 --emit live", FOUR_JOBS, 4),
         ("--workers 4", SMALL_JOBS, 0),
     ] {
         let gate = Counter {

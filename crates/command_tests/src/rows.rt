@@ -32,6 +32,28 @@ fn pictures(rt: HostRuntime) -> Result<(), Fail> {
     Ok(())
 }
 
+/// Scripts, and what a live view shows at their end: the document that they make, whatever they export.
+const LIVE: [(&[u8], &[u8]); 3] = [
+    (
+        b"canvas 1 1\nlayer 1 0 0\nstroke 1 1\nfill 1 seq 0 0 1 1 ff000080 over 255\nend 1\n",
+        b"P6\n1 1\n255\n\xff\x7f\x7f",
+    ),
+    (b"canvas 1 1\nexport\n", b"P6\n1 1\n255\n\xff\xff\xff"),
+    (
+        b"canvas 1 1\nexport\nlayer 1 0 0 ff0000ff\nexport\nlayer 2 0 1 0000ffff\n",
+        b"P6\n1 1\n255\n\x00\x00\xff",
+    ),
+];
+
+#[test]
+fn live_pictures(rt: HostRuntime) -> Result<(), Fail> {
+    for (script, out) in LIVE {
+        let got = ran(&rt, rt.alloc(), "--emit live", script)?;
+        assert!(rt; got.is(0, out, b""), "{:?}", str::from_utf8(script));
+    }
+    Ok(())
+}
+
 /// Words that leave the picture as it is.
 #[test]
 fn words(rt: HostRuntime) -> Result<(), Fail> {

@@ -168,7 +168,7 @@ const SUMS: [(&[u8], u8, &[u8]); 3] = [
 
 /// What is told where the words aren't those of the command.
 const USAGE: &[u8] =
-    b"strokes: usage: strokes [--workers N] [--emit picture|log|sum] [--demo NUMBER]\n";
+    b"strokes: usage: strokes [--workers N] [--emit picture|log|sum|live] [--demo NUMBER]\n";
 
 #[test]
 fn bad_lines(rt: HostRuntime) -> Result<(), Fail> {

@@ -1,10 +1,15 @@
-//! Tests of the crew: what it paints by any number of workers, and that they paint side by side.
+//! Tests of the crew: what it paints by any number of workers, and that they paint side by side. And of the
+//! live view: what readers see, also of a script while it is painted.
 #![tactic(auto)]
 
 #[cfg(test)]
 mod compared;
 #[cfg(test)]
 mod gates;
+#[cfg(test)]
+mod live;
+#[cfg(test)]
+mod looks;
 #[cfg(test)]
 mod meets;
 #[cfg(test)]

@@ -1,7 +1,7 @@
 //! The desk's calls, one after another.
 
 use crate::plays::Call::{
-    self, End, Feed, Frame, Group, Look, OnGreen, Publish, Settle, Stray, Take, Whole,
+    self, Beside, End, Feed, Frame, Group, Late, Look, OnGreen, Publish, Settle, Stray, Take, Whole,
 };
 use crate::plays::{Play, first_odd};
 use crate::tickets::Took::{Did, Idle, Paint, Settled, Walk};
@@ -99,8 +99,15 @@ const STORED_WALK: &[Call] = &[
     Frame(0, 0, [128, 0, 127]),
 ];
 
+/// The ticket 0 is of a job that writes two tiles.
+const WIDE_JOB: Play = Play {
+    script: b"canvas 65 1\nlayer 1 0 0\nstroke 1 1\nfill 1 seq 0 0 65 1 ff0000ff over 255\nend 1\n",
+    slots: 1,
+    calls: &[Feed(4), Take(Did), Take(Did), Take(Paint)],
+};
+
 /// What is shown, and the calls of a desk, or of two, one after the other.
-const ROWS: [(&str, &[Play]); 27] = [
+const ROWS: [(&str, &[Play]); 29] = [
     (
         "a new desk is settled, and exports its paper",
         &[Play {
@@ -314,6 +321,90 @@ const ROWS: [(&str, &[Play]); 27] = [
                 Frame(0, 0, [255, 127, 127]),
             ],
         }],
+    ),
+    (
+        "a job is in the one slot: another place, a serial that isn't drawn or has ended, another tile",
+        &[
+            WIDE_JOB,
+            Play {
+                script: TWICE,
+                slots: 1,
+                calls: &[
+                    Feed(1),
+                    Take(Did),
+                    Take(Walk),
+                    Publish(1, 1, Stored),
+                    End(1, Done),
+                    Feed(2),
+                    Take(Did),
+                    Take(Paint),
+                    Stray(
+                        2,
+                        SlotId {
+                            place: 17,
+                            serial: 1,
+                        },
+                    ),
+                    Stray(
+                        2,
+                        SlotId {
+                            place: 0,
+                            serial: 2,
+                        },
+                    ),
+                    Late(2, 1),
+                    Late(1, 1),
+                    Late(1, 2),
+                    Beside(0, 2),
+                    Publish(2, 2, Stored),
+                    End(2, Done),
+                    Settle,
+                    Frame(0, 0, [128, 0, 127]),
+                ],
+            },
+        ],
+    ),
+    (
+        "a walk is in the one slot: the same, and a group that isn't on its path",
+        &[
+            WIDE_JOB,
+            Play {
+                script: b"canvas 1 1\nlayer 1 0 0\nlook 1 9 over on\nexport\n",
+                slots: 1,
+                calls: &[
+                    Feed(1),
+                    Take(Did),
+                    Take(Walk),
+                    Publish(1, 1, Stored),
+                    End(1, Done),
+                    Feed(1),
+                    Take(Did),
+                    Take(Walk),
+                    Stray(
+                        2,
+                        SlotId {
+                            place: 17,
+                            serial: 1,
+                        },
+                    ),
+                    Stray(
+                        2,
+                        SlotId {
+                            place: 0,
+                            serial: 2,
+                        },
+                    ),
+                    Late(2, 1),
+                    Late(1, 1),
+                    Late(0, 2),
+                    Beside(2, 2),
+                    Group(2, 1, Nothing),
+                    Whole(2, 2, Stored),
+                    Settle,
+                    Frame(0, 0, [255; 3]),
+                ],
+            },
+        ],
     ),
     (
         "a stroke is cancelled after two of its jobs",

@@ -17,6 +17,9 @@ use tile_core::Frame;
 /// The tile whose corner is (0, 0).
 const ORIGIN: TileKey = TileKey { row: 0, col: 0 };
 
+/// The tile to its right.
+const BESIDE: TileKey = TileKey { row: 0, col: 1 };
+
 /// A call, and what it answers. A ticket has the number of its take, from 0 on, among those that gave
 /// tickets.
 #[derive(Clone, Copy)]
@@ -34,8 +37,13 @@ pub(crate) enum Call {
     Whole(usize, usize, Published),
     /// Publishes the tile at the corner of a job's ticket, painted on green.
     OnGreen(usize, Published),
-    /// Publishes by a ticket, commits a walk, and ends, for that slot.
+    /// Publishes and commits by a ticket, and ends, for that slot: each answers `Nothing`, and the desk
+    /// tells what it told.
     Stray(usize, SlotId),
+    /// The same for the slot of the work of the second ticket.
+    Late(usize, usize),
+    /// The same of the tile beside the corner, without the calls that name no tile.
+    Beside(usize, usize),
     /// Ends the work of a ticket.
     End(usize, Ended),
     /// Feeds what is left, and settles.
@@ -118,6 +126,8 @@ fn is_answered<L: Ledger>(
         Call::Whole(by, of, answer) => commits(alloc, desk, held, by, of, answer),
         Call::OnGreen(by, answer) => publishes_green(alloc, desk, held, by, answer),
         Call::Stray(by, slot) => is_stray(alloc, desk, held, by, slot),
+        Call::Late(by, of) => is_late(alloc, desk, held, by, of),
+        Call::Beside(by, of) => is_beside(alloc, desk, held, by, of),
         Call::End(of, answer) => Ok(ends(desk, held, of, answer)),
         Call::Look(x, bytes, fresh) => Ok(looks(desk, x, bytes, fresh)),
         Call::Frame(frame, x, colours) => Ok(is_at(desk.frames().get(frame), x, 0, colours)),
@@ -183,7 +193,7 @@ fn publishes_green(
     Ok(held[by].publish_on_green(alloc, desk, ORIGIN)? == answer)
 }
 
-/// Whether a slot takes nothing of a ticket's work, and ends nothing.
+/// Whether a slot takes nothing of a ticket's work, and ends nothing, and the desk tells what it told.
 fn is_stray(
     alloc: Global,
     desk: &mut Desk,
@@ -194,12 +204,55 @@ fn is_stray(
     if by >= held.len() {
         return Ok(false);
     }
-    let published = held[by].publish(alloc, desk, slot, 0, ORIGIN)?;
-    let committed = held[by].commit(alloc, desk, slot)?;
-    Ok(
-        published == Published::Nothing
-            && committed == Published::Nothing
-            && desk.end(slot) == Ended::Nothing,
+    let before = told(desk);
+    let tile = held[by].tile_refused(alloc, desk, slot, ORIGIN)?;
+    let whole = held[by].whole_refused(alloc, desk, slot, ORIGIN)?;
+    let ended = desk.end(slot);
+    Ok(tile && whole && ended == Ended::Nothing && told(desk) == before)
+}
+
+/// The same of the slot of another ticket's work.
+fn is_late(
+    alloc: Global,
+    desk: &mut Desk,
+    held: &[Held],
+    by: usize,
+    of: usize,
+) -> Result<bool, NoMemory> {
+    if of >= held.len() {
+        return Ok(false);
+    }
+    is_stray(alloc, desk, held, by, held[of].slot())
+}
+
+/// Whether the work of a ticket takes nothing of the tile beside the corner, as another has it, and the
+/// desk tells what it told.
+fn is_beside(
+    alloc: Global,
+    desk: &mut Desk,
+    held: &[Held],
+    by: usize,
+    of: usize,
+) -> Result<bool, NoMemory> {
+    if by >= held.len() || of >= held.len() {
+        return Ok(false);
+    }
+    let before = told(desk);
+    let refused = held[by].tile_refused(alloc, desk, held[of].slot(), BESIDE)?;
+    Ok(refused && told(desk) == before)
+}
+
+/// What a desk tells of itself: how many commands it was fed, how many entries have an outcome and how many
+/// of them made a frame, whether commands are of use and whether the head may go, and what it shows at the
+/// corner.
+fn told(desk: &Desk) -> (usize, usize, usize, bool, bool, Option<(Pixel, Fresh)>) {
+    (
+        desk.fed().len(),
+        desk.outcomes().len(),
+        desk.frames().len(),
+        desk.wants_commands(),
+        desk.head_may_go(),
+        look(desk, 0, 0),
     )
 }
 

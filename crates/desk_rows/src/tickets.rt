@@ -18,6 +18,7 @@ use std::alloc::Global;
 use std::sync::ledger::Ledger;
 use tile_core::Shot;
 use walker_core::{Inputs, compose_key, compose_walk};
+use whole_tiles::whole_tile;
 
 /// A ticket that is held.
 #[derive(Drop)]
@@ -77,6 +78,54 @@ impl Held {
         match self {
             Held::Paint(ticket) => paint(alloc, desk, slot, &ticket.work, &ticket.shot, key),
             Held::Walk(ticket) => compose(alloc, desk, slot, &ticket.inputs, group, key),
+        }
+    }
+
+    /// Whether nothing is taken of a tile for the work in a slot: what a job paints there, or what a walk
+    /// composes, alone and as a row of all groups. False where a job doesn't paint there.
+    pub(crate) fn tile_refused(
+        &self,
+        alloc: Global,
+        desk: &mut Desk,
+        slot: SlotId,
+        key: TileKey,
+    ) -> Result<bool, NoMemory> {
+        match self {
+            Held::Paint(ticket) => {
+                if !can_paint(&ticket.work, &ticket.shot, key) {
+                    return Ok(false);
+                }
+                let painted = paint_tile(alloc, &ticket.work, &ticket.shot, key)?;
+                Ok(desk.publish(slot, &painted)? == Published::Nothing)
+            }
+            Held::Walk(ticket) => {
+                let composed = compose_walk(alloc, &ticket.inputs)?;
+                let alone = desk.publish_walk(slot, &composed, 0, key)?;
+                let row = desk.publish_row(slot, &composed, key)?;
+                Ok(alone == Published::Nothing && row == Published::Nothing)
+            }
+        }
+    }
+
+    /// Whether nothing is taken of the whole work for the work in a slot: of a job that writes one tile, or
+    /// of a walk. False where a job doesn't paint in the tile.
+    pub(crate) fn whole_refused(
+        &self,
+        alloc: Global,
+        desk: &mut Desk,
+        slot: SlotId,
+        key: TileKey,
+    ) -> Result<bool, NoMemory> {
+        match self {
+            Held::Paint(ticket) => {
+                if !can_paint(&ticket.work, &ticket.shot, key) {
+                    return Ok(false);
+                }
+                let mut tiles = Vec::new(alloc);
+                tiles.push(whole_tile(alloc, &ticket.work, &ticket.shot, key)?)?;
+                Ok(desk.commit(slot, &tiles)? == Published::Nothing)
+            }
+            Held::Walk(_) => Ok(self.commit(alloc, desk, slot)? == Published::Nothing),
         }
     }
 

@@ -7,5 +7,5 @@ mod screen;
 mod shown;
 
 pub use frames::live_frame;
-pub use run::run_live;
+pub use run::{paint_live, run_live};
 pub use shown::run_live_shown;

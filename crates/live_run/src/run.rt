@@ -44,7 +44,7 @@ pub fn run_live<R: Threads + Wait + Sync, G: Gate>(
     ensures picture { IfOk result (λ r. ShowsPicture (updates_of (published r.1)) r.0) }
 {
     let mut live = live;
-    match paint_shown(rt, alloc, script, workers, gate, &mut live) {
+    match paint_live(rt, alloc, script, workers, gate, &mut live) {
         Ok(desk) => Ok((desk, live)),
         Err(NoMemory) => {
             live.close(rt);
@@ -53,8 +53,11 @@ pub fn run_live<R: Threads + Wait + Sync, G: Gate>(
     }
 }
 
-/// The same, with a writer that is lent.
-fn paint_shown<R: Threads + Wait + Sync, G: Gate>(
+/// The same as `run_live`, with a writer that is lent.
+///
+/// # Errors
+/// `NoMemory`; the writer may have published some of it.
+pub fn paint_live<R: Threads + Wait + Sync, G: Gate>(
     rt: &R,
     alloc: Global,
     script: &Script,

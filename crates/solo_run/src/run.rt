@@ -24,6 +24,8 @@ pub struct Shown {
 
 /// Feeds the script's commands to a queue, and paints each entry as soon as it is the first and
 /// closed.
+// Not inlined: the document stands on its stack, and its callers have other ways beside it.
+#[inline(never)]
 pub fn run_solo(alloc: Global, script: &Script) -> Result<Shown, NoMemory>
     ensures { IfOk result (λ s. Shows script.now s.film s.outcomes.items) }
 {

@@ -1,6 +1,7 @@
 -- What a painted script shows is what is written of it.
-use Rattle.std.proofs.Common.{◌≡◌, ◌≤◌, ◌∙◌, ◌*◌, ℕ, List, [], ◌∷◌, ◌++◌, length, map, Option, Result, OnOk, refl, ap, ap₂, subst, arith}
+use Rattle.std.proofs.Common.{◌≡◌, ◌≤◌, ◌∙◌, ◌*◌, ◌⊎◌, inl, inr, ℕ, List, [], ◌∷◌, ◌++◌, length, map, Option, Result, OnOk, refl, ap, ap₂, subst, arith}
 use Rattle.std.specs.List.{All, flat_map}
+use Rattle.std.proofs.lemmas.List.{append-nil}
 use Rattle.std.proofs.lemmas.List.Elements.{All-nil, All-cons, All-head, All-tail}
 use Rattle.std.specs.Io.KnownBytes.{Appends}
 use Rattle.io_edge.specs.declared.outside.Failed.{Failed}
@@ -17,8 +18,22 @@ use Rattle.log_out.specs.Log.{log_text, Sheet, sum_text}
 use Rattle.script_text.specs.Script.{Contents, meaning_of}
 use Rattle.ppm_out.specs.Sides.{HasSides}
 use Rattle.solo_run.specs.Shows.{Shows}
+use Rattle.strokes_top.specs.declared.choice.Emit.{Emit}
 use Rattle.strokes_top.specs.declared.choice.Emit.TheVariants as emit
+use Rattle.strokes_top.specs.Output.{HasRoom, ShowsFor}
 use Rattle.strokes_top.specs.Run.{output}
+
+-- pictures are asked for
+abbrev IsPictures : Emit → Type 0
+IsPictures e = (e ≡ emit.Picture) ⊎ (e ≡ emit.Live)
+
+no_pictures_in_log : IsPictures emit.Log → ⊥
+no_pictures_in_log (inl h) = cc
+no_pictures_in_log (inr h) = cc
+
+no_pictures_in_sum : IsPictures emit.Sum → ⊥
+no_pictures_in_sum (inl h) = cc
+no_pictures_in_sum (inr h) = cc
 
 -- a frame with the canvas's columns and rows
 abbrev sheet : Canvas → Frame → Sheet
@@ -44,8 +59,27 @@ sheets_are canvas (s ∷ scenes) h =
     let one : sheet_of s ≡ sheet canvas (colours_of s) = rw (sides.width, sides.height) refl in
     ap₂ (λ (x : Sheet) (l : List Sheet). x ∷ l) one (sheets_are canvas scenes (All-tail (HasSides canvas) s scenes h))
 
-pub pictures_are : (script : Contents) (scenes : List Scene) (outcomes : List Outcome) → Shows script scenes outcomes → flat_map scene_bytes scenes ≡ output emit.Picture script
-pictures_are script scenes outcomes h = pixmaps_are script.canvas scenes h.sides ∙ ap (flat_map (frame_bytes script.canvas.w script.canvas.h)) h.colours
+-- where pictures are asked for, the frames' pixmaps are the output
+pub pictures_are : (e : Emit) (script : Contents) (scenes : List Scene) (outcomes : List Outcome) → IsPictures e → ShowsFor e script scenes outcomes → flat_map scene_bytes scenes ≡ output e script
+pictures_are emit.Picture script scenes outcomes which h = pixmaps_are script.canvas scenes h.sides ∙ ap (flat_map (frame_bytes script.canvas.w script.canvas.h)) h.colours
+pictures_are emit.Live script scenes outcomes which h =
+    pixmaps_are script.canvas scenes h.sides ∙ ap (flat_map (frame_bytes script.canvas.w script.canvas.h)) h.colours ∙ append-nil (output emit.Live script)
+pictures_are emit.Log script scenes outcomes which h = absurd (no_pictures_in_log which)
+pictures_are emit.Sum script scenes outcomes which h = absurd (no_pictures_in_sum which)
+
+-- each frame has the canvas's sides
+pub sides_of : (e : Emit) (script : Contents) (scenes : List Scene) (outcomes : List Outcome) → ShowsFor e script scenes outcomes → All (HasSides script.canvas) scenes
+sides_of emit.Picture script scenes outcomes h = h.sides
+sides_of emit.Live script scenes outcomes h = h.sides
+sides_of emit.Log script scenes outcomes h = h.sides
+sides_of emit.Sum script scenes outcomes h = h.sides
+
+-- and there is room for one
+pub room_of : (e : Emit) (canvas : Canvas) (room : List ℕ) → IsPictures e → HasRoom e canvas room → 3 * (canvas.w * canvas.h) ≤ length room
+room_of emit.Picture canvas room which h = h
+room_of emit.Live canvas room which h = h
+room_of emit.Log canvas room which h = absurd (no_pictures_in_log which)
+room_of emit.Sum canvas room which h = absurd (no_pictures_in_sum which)
 
 -- room for a picture of the canvas's sides is room for each frame
 pub room_each : (canvas : Canvas) (n : ℕ) (scenes : List Scene) → 3 * (canvas.w * canvas.h) ≤ n → All (HasSides canvas) scenes → All (λ (f : Scene). 3 * (f.width * f.height) ≤ n) scenes

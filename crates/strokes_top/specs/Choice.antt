@@ -11,7 +11,7 @@ use Rattle.clap.specs.Kinds.{Kinds}
 use Rattle.clap.specs.Faults.{fault_of}
 use Rattle.clap.specs.ValueTests.{is_unsigned_in}
 use Rattle.strokes_top.specs.declared.choice.Emit.{Emit}
-use Rattle.strokes_top.specs.declared.choice.Emit.TheVariants.{Picture, Log, Sum}
+use Rattle.strokes_top.specs.declared.choice.Emit.TheVariants.{Picture, Log, Sum, Live}
 use Rattle.strokes_top.specs.declared.choice.Choice.{Choice}
 
 -- the option of a long name, which takes one value and may be left out
@@ -33,7 +33,7 @@ command = with_rule (with_rule (with_rule named (number_option (codes "workers")
 
 -- what a text names
 abbrev pub emit_named : Text → Option Emit
-emit_named text = lookup (bytes_eq text) ((codes "picture", Picture) ∷ (codes "log", Log) ∷ (codes "sum", Sum) ∷ [])
+emit_named text = lookup (bytes_eq text) ((codes "picture", Picture) ∷ (codes "log", Log) ∷ (codes "sum", Sum) ∷ (codes "live", Live) ∷ [])
 
 -- the picture is written where nothing is named
 abbrev pub emit_of : Option Text → Option Emit

@@ -10,18 +10,20 @@ use Rattle.std.specs.Option.{option_map_or}
 use Rattle.strokes_top.specs.Choice.{choice}
 use Rattle.std.specs.List.{flat_map}
 use Rattle.doc_model.specs.Strokes.{entries}
+use Rattle.doc_model.specs.Picture.{frame}
 use Rattle.ppm_out.specs.Pictures.{frame_bytes}
 use Rattle.log_out.specs.Log.{log_text, sum_text}
-use Rattle.strokes_top.specs.declared.choice.Emit.TheVariants.{Picture, Log, Sum}
+use Rattle.strokes_top.specs.declared.choice.Emit.TheVariants.{Picture, Log, Sum, Live}
 use Rattle.doc_model.specs.Meaning.{some_refused}
 use Rattle.io_edge.specs.Told.{AppendsPrefix}
 
--- what is written of a script: the frames that its exports mean, as pixmaps one after another; a line for each of its entries; or how they
--- ended, and a line for each frame
+-- what is written of a script: the frames that its exports mean, as pixmaps one after another; a line for each of its entries; how they
+-- ended, and a line for each frame; or the frame of the document that it makes, whatever it exports
 abbrev pub output : Emit → Contents → List ℕ
 output Picture s = flat_map (frame_bytes s.canvas.w s.canvas.h) (meaning_of s).frames
 output Log s = log_text (entries s.commands) (meaning_of s).outcomes
 output Sum s = sum_text (map (λ f. record { w = s.canvas.w; h = s.canvas.h; frame = f }) (meaning_of s).frames) (meaning_of s).outcomes
+output Live s = frame_bytes s.canvas.w s.canvas.h (frame (meaning_of s).document s.canvas)
 
 -- all of it was written, and whether some entry was refused
 pub record IsOutput (refusals : Bool) (before after : Option (List ℕ)) (emit : Emit) (s : Contents) : Type 0 where

@@ -28,6 +28,8 @@ pub enum Emit {
     Log,
     /// A short summary.
     Sum,
+    /// A pixmap of what a live view shows at the end: the document that the script makes.
+    Live,
 }
 
 /// What the words ask for.
@@ -64,6 +66,8 @@ impl FromStr for Emit {
             Ok(Emit::Log)
         } else if text == "sum" {
             Ok(Emit::Sum)
+        } else if text == "live" {
+            Ok(Emit::Live)
         } else {
             Err(UnknownEmit)
         }

@@ -10,9 +10,12 @@ ghost use Rattle.strokes_top.specs.Status.{is_done, may_write, told_by};
 ghost use Rattle.strokes_top.specs.Ends.{is_painted};
 ghost use Rattle.doc_model.specs.Meaning.{some_refused as said_refused};
 ghost use Rattle.solo_run.specs.Shows.{Shows};
+ghost use Rattle.live_run.specs.Last.{ShowsLast};
+ghost use Rattle.script_text.specs.Script.{meaning_of};
+ghost use Rattle.strokes_top.specs.Output.{ShowsFor};
 
 use crate::asked::Asked;
-use crate::choice::{ChoiceError, choice_of};
+use crate::choice::{ChoiceError, Emit, choice_of};
 use crate::size::is_for_many;
 use crate::source::take_script;
 use crate::status::Status;
@@ -24,6 +27,7 @@ use crew_run::run_shown;
 use doc_model::Outcome;
 use geom_core::NoMemory;
 use io_edge::{Failed, Gate, Sink, Source};
+use live_run::run_live_shown;
 use script_text::Script;
 use solo_run::{Shown, run_solo};
 use std::alloc::Global;
@@ -40,9 +44,17 @@ fn some_refused(outcomes: &[Outcome]) -> bool
 /// How many commands a desk takes at most.
 const MOST: usize = 4_294_967_295;
 
-/// What the script shows, painted by so many workers and the caller. Without workers, or where its jobs are
-/// small, the caller's own way is the quicker one.
-fn painted<R: Threads + Wait + Sync, G: Gate>(
+/// How many workers are to paint the script beside the caller: none where its jobs are small, since the
+/// caller's own way is the quicker one then.
+fn workers_for(script: &Script, asked: u8) -> u8
+    requires { asked ≤ 16 }
+    ensures { result ≤ 16 }
+{
+    if is_for_many(script) { asked } else { 0 }
+}
+
+/// What the script's exports show, painted by so many workers and the caller.
+fn exported<R: Threads + Wait + Sync, G: Gate>(
     rt: &R,
     alloc: Global,
     script: &Script,
@@ -52,10 +64,48 @@ fn painted<R: Threads + Wait + Sync, G: Gate>(
     requires workers { workers ≤ 16 }
     ensures shows { IfOk result (λ s. Shows script.now s.film s.outcomes.items) }
 {
-    if workers == 0 || script.len() > MOST || !is_for_many(script) {
+    if workers == 0 || script.len() > MOST {
         run_solo(alloc, script)
     } else {
         run_shown(rt, alloc, script, workers, gate)
+    }
+}
+
+/// What a live view shows at the end of the script, painted by so many workers and the caller.
+///
+/// # Errors
+/// `NoMemory`, also where there are more commands than a desk takes.
+fn viewed<R: Threads + Wait + Sync, G: Gate>(
+    rt: &R,
+    alloc: Global,
+    script: &Script,
+    workers: u8,
+    gate: &G,
+) -> Result<Shown, NoMemory>
+    requires workers { workers ≤ 16 }
+    ensures shows { IfOk result (λ s. ShowsLast script.now s.film s.outcomes.items) }
+{
+    if script.len() > MOST {
+        return Err(NoMemory);
+    }
+    run_live_shown(rt, alloc, script, workers, gate)
+}
+
+/// What is asked for of the script, painted by as many workers as serve and the caller.
+fn painted<R: Threads + Wait + Sync, G: Gate>(
+    rt: &R,
+    alloc: Global,
+    asked: &Asked,
+    script: &Script,
+    gate: &G,
+) -> Result<Shown, NoMemory>
+    ensures shows { IfOk result (λ s. ShowsFor asked.now.choice.emit script.now s.film s.outcomes.items) }
+    ensures outcomes { IfOk result (λ s. s.outcomes.items ≡ (meaning_of script.now).outcomes) }
+{
+    let workers = workers_for(script, asked.workers);
+    match asked.choice.emit {
+        Emit::Live => viewed(rt, alloc, script, workers, gate),
+        Emit::Picture | Emit::Log | Emit::Sum => exported(rt, alloc, script, workers, gate),
     }
 }
 
@@ -78,7 +128,7 @@ fn paint<R: Threads + Wait + Sync, K: Sink, G: Gate>(
     ensures later { K.faults out.old ≤ K.faults out.new }
 {
     let emit = asked.choice.emit;
-    let Ok(shown) = painted(rt, alloc, script, asked.workers, gate) else {
+    let Ok(shown) = painted(rt, alloc, asked, script, gate) else {
         return Status::NoMemory;
     };
     let Ok(mut room) = room_for(alloc, emit, script.canvas()) else {
@@ -131,7 +181,7 @@ fn answer<R: Threads + Wait + Sync, S: Source, K: Sink, G: Gate>(
 /// Runs the command: `words` are the command line's without the program's name. The script comes
 /// from `source`, or is the generated one where `--demo` is given. It is painted by the caller and as
 /// many workers as `--workers` names, and what `--emit` names goes to `out`: a pixmap for each export, a
-/// line for each entry, or a summary. One line on what went wrong goes to `err`, whose faults change no
+/// line for each entry, a summary, or a pixmap of the document that the script makes. One line on what went wrong goes to `err`, whose faults change no
 /// status.
 pub fn run<R: Threads + Wait + Sync, S: Source, K: Sink, E: Sink, G: Gate>(
     rt: &R,

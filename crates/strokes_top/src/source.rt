@@ -1,6 +1,6 @@
 //! Taking the script: what the source spells, or a generated one.
 
-ghost use Rattle.std.specs.Prelude.{◌≡◌, ◌≢◌, ◌≤◌, ℕ, true, Err, IfOk, OnErr, IfErr, IsErrOf, is_some};
+ghost use Rattle.std.specs.Prelude.{◌≡◌, ◌≢◌, ◌≤◌, ℕ, true, Err, IfOk, OnErr, IfErr, IsErrOf, is_some, length};
 ghost use Rattle.io_edge.specs.Told.{Rose};
 ghost use Rattle.script_lines.specs.declared.cause.Cause.{Cause};
 ghost use Rattle.strokes_top.specs.Run.{WasRead, IsOf, ConsumesMore, ConsumesAtMost};
@@ -15,12 +15,14 @@ use io_edge::Source;
 use script_text::{ReadRefusal, Script};
 use std::alloc::Global;
 
-/// Reads the script that the source spells, while it comes in. Where a line has a fault the source
-/// is still read to its end, since a longer one is no script whatever its lines say.
+/// Reads the script that the source spells, while it comes in, by pieces of at most what the chunk has
+/// room for. Where a line has a fault the source is still read to its end, since a longer one is no
+/// script whatever its lines say.
 ///
 /// # Errors
 /// The status of a run that has no script.
-fn read_script<S: Source>(alloc: Global, source: &mut S) -> Result<Script, Status>
+fn read_script<S: Source>(alloc: Global, source: &mut S, chunk: &mut [u8]) -> Result<Script, Status>
+    requires { length chunk.old ≡ CHUNK }
     ensures ok { IfOk result (λ s. WasRead (S.left source.old) (S.left source.new) (IsGood (λ t. t ≡ s))) }
     ensures script { (line : ℕ) (cause : Cause) → IsErrOf result (Status.Script line cause) → WasRead (S.left source.old) (S.left source.new) (HasFault (record { line = line; cause = cause })) }
     ensures too_long { IsErrOf result Status.TooLong → ConsumesMore LIMIT CHUNK (S.left source.old) (S.left source.new) }
@@ -32,10 +34,9 @@ fn read_script<S: Source>(alloc: Global, source: &mut S) -> Result<Script, Statu
     let Ok(mut intake) = Intake::new(alloc) else {
         return Err(Status::NoMemory);
     };
-    let mut chunk = [0u8; CHUNK];
     let mut count = 0;
     loop {
-        let n = next_piece(source, &mut chunk, count)?;
+        let n = next_piece(source, chunk, count)?;
         if n == 0 {
             let script = intake.finish()?;
             return Ok(script);
@@ -45,11 +46,30 @@ fn read_script<S: Source>(alloc: Global, source: &mut S) -> Result<Script, Statu
             Ok(more) => more,
             Err(ReadRefusal::NoMemory) => return Err(Status::NoMemory),
             Err(ReadRefusal::Fault(fault)) => {
-                skip_rest(source, &mut chunk, count)?;
+                skip_rest(source, chunk, count)?;
                 return Err(Status::of_fault(fault));
             }
         };
     }
+}
+
+/// The same with a chunk of its own, which stands in a block of memory: it is too large for the stack.
+///
+/// # Errors
+/// The status of a run that has no script.
+fn read_source<S: Source>(alloc: Global, source: &mut S) -> Result<Script, Status>
+    ensures ok { IfOk result (λ s. WasRead (S.left source.old) (S.left source.new) (IsGood (λ t. t ≡ s))) }
+    ensures script { (line : ℕ) (cause : Cause) → IsErrOf result (Status.Script line cause) → WasRead (S.left source.old) (S.left source.new) (HasFault (record { line = line; cause = cause })) }
+    ensures too_long { IsErrOf result Status.TooLong → ConsumesMore LIMIT CHUNK (S.left source.old) (S.left source.new) }
+    ensures within_limit { result ≢ Err Status.TooLong → ConsumesAtMost LIMIT (S.left source.old) (S.left source.new) }
+    ensures read_fault { IsErrOf result Status.ReadFault → Rose (S.faults source.old) (S.faults source.new) }
+    ensures later { S.faults source.old ≤ S.faults source.new }
+    ensures statuses { IfErr result (λ status. is_of_script status ≡ true) }
+{
+    let Ok(mut chunk) = vec![in alloc; 0u8; CHUNK] else {
+        return Err(Status::NoMemory);
+    };
+    read_script(alloc, source, &mut chunk)
 }
 
 /// The generated script of the number, or where there is none the script that the source spells,
@@ -77,6 +97,6 @@ pub(crate) fn take_script<S: Source>(
             Ok(script) => Ok(script),
             Err(_) => Err(Status::NoMemory),
         },
-        None => read_script(alloc, source),
+        None => read_source(alloc, source),
     }
 }

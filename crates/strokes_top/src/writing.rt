@@ -4,8 +4,7 @@ ghost use Rattle.std.specs.Prelude.{IfOk, OnOk, OnErr};
 ghost use Rattle.std.specs.Io.KnownBytes.{Appends};
 ghost use Rattle.io_edge.specs.Told.{AppendsPrefix};
 ghost use Rattle.io_edge.specs.Faults.{HasCause};
-ghost use Rattle.solo_run.specs.Shows.{Shows};
-ghost use Rattle.strokes_top.specs.Output.{HasRoom};
+ghost use Rattle.strokes_top.specs.Output.{HasRoom, ShowsFor};
 ghost use Rattle.strokes_top.specs.Run.{output};
 
 use crate::choice::Emit;
@@ -21,8 +20,9 @@ use std::alloc::{AllocError, Global};
 pub(crate) fn room_for(alloc: Global, emit: Emit, canvas: Canvas) -> Result<Vec<u8>, AllocError>
     ensures { IfOk result (λ v. HasRoom emit canvas v.items) }
 {
+    let colours = 3 * (canvas.w as usize * canvas.h as usize);
     match emit {
-        Emit::Picture => vec![in alloc; 0; 3 * (canvas.w as usize * canvas.h as usize)],
+        Emit::Picture | Emit::Live => vec![in alloc; 0; colours],
         Emit::Log | Emit::Sum => Ok(Vec::new(alloc)),
     }
 }
@@ -38,14 +38,14 @@ pub(crate) fn write_output<K: Sink>(
     room: &mut [u8],
     out: &mut K,
 ) -> Result<(), Failed>
-    requires shows { Shows script.now shown.now.film shown.now.outcomes.items }
+    requires shows { ShowsFor emit script.now shown.now.film shown.now.outcomes.items }
     requires room { HasRoom emit script.now.canvas room.old }
     ensures ok { OnOk result (Appends (K.taken out.old) (K.taken out.new) (output emit script.now)) }
     ensures err { OnErr result (AppendsPrefix (K.taken out.old) (K.taken out.new) (output emit script.now)) }
     ensures cause { HasCause (K.faults out.old) (K.faults out.new) result }
 {
     match emit {
-        Emit::Picture => write_frames(&shown.film, room, out),
+        Emit::Picture | Emit::Live => write_frames(&shown.film, room, out),
         Emit::Log => write_log(script, &shown.outcomes, out),
         Emit::Sum => write_sum(shown.film.frames(), &shown.outcomes, out),
     }

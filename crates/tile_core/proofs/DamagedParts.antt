@@ -16,6 +16,7 @@ use Rattle.geom_core.proofs.Keys.{any_key_in_rows, any_count}
 use Rattle.geom_core.proofs.Lying.{bound_lies, common_lies_left, common_lies_right, lies_trans}
 use Rattle.tile_core.specs.Marks.{Grid, place_at, mark_at, has_mark, on_canvas, no_marks}
 use Rattle.tile_core.specs.Damage.{Parts, part_in, part_at, grown, has_all, intact, FitTiles}
+use Rattle.tile_core.specs.Piece.{IsPiece}
 
 -- whatever of the rectangle lies in the tiles of the list is damaged too
 abbrev pub AddsIn : Area → List Key → Parts → Parts → Type 0
@@ -272,16 +273,47 @@ clipped_in a t = go (meets a t) refl
 part_there : (parts : Parts) (m : Key) (place : ℕ) → Some place ≡ place_at m.col m.row → part_at parts m ≡ get_or parts place None
 part_there parts m place e = ap (part_in parts) (sym e)
 
+lies_there : (parts : Parts) (m : Key) (place : ℕ) (a : Area) (x : Option Area) → FitTiles parts → Some place ≡ place_at m.col m.row → x ≡ grown (get_or parts place None) (clipped a (tile m)) → LiesIn (tile m) x
+lies_there parts m place a x f e is = subst (LiesIn (tile m)) (sym is) (grown_in (tile m) (get_or parts place None) (clipped a (tile m)) (λ b i. f m b (part_there parts m place e ∙ i)) (clipped_in a (tile m)))
+
 pub fit_set : (parts : Parts) (m : Key) (place : ℕ) (a : Area) (x : Option Area) → FitTiles parts → Some place ≡ place_at m.col m.row → place < length parts → x ≡ grown (get_or parts place None) (clipped a (tile m)) → FitTiles (set parts place x)
 fit_set parts m place a x f e l is k d h = go (same_key k m) refl (on_canvas k) (sym (part_set parts m place x e l k) ∙ h)
   where
     there : LiesIn (tile m) x
-    there = subst (LiesIn (tile m)) (sym is) (grown_in (tile m) (get_or parts place None) (clipped a (tile m)) (λ b i. f m b (part_there parts m place e ∙ i)) (clipped_in a (tile m)))
+    there = lies_there parts m place a x f e is
 
     go : (s : Bool) → same_key k m ≡ s → (n : Bool) → cond (s && n) x (part_at parts k) ≡ Some d → IsWithin d (tile k)
     go true s true i = subst (λ (q : Key). IsWithin d (tile q)) (sym (key_same k m s)) (there d i)
     go true s false i = f k d i
     go false s n i = f k d i
+
+-- what lies in a tile of the largest canvas is a piece
+low_edge : (c a : ℤ) → int_le (pos 0) c ≡ true → (pos 64 *ℤ c) ≤ℤ a → pos 0 ≤ℤ a
+low_edge c a h i = grind (arith, ints)
+
+high_edge : (c b : ℤ) → int_lt c (pos 32) ≡ true → b ≤ℤ ((pos 64 *ℤ c) +ℤ pos 64) → b ≤ℤ pos 2048
+high_edge c b h i = grind (arith, ints)
+
+few_between : (c a : ℤ) (n : ℕ) → (pos 64 *ℤ c) ≤ℤ a → (a +ℤ pos n) ≤ℤ ((pos 64 *ℤ c) +ℤ pos 64) → n ≤ 64
+few_between c a n h i = omega (arith, ints)
+
+some_place : {o : Option ℕ} {i : ℕ} → Some i ≡ o → is_some o ≡ true
+some_place h = cc
+
+piece_in : (m : Key) (place : ℕ) (d : Area) → Some place ≡ place_at m.col m.row → IsWithin d (tile m) → IsPiece d
+piece_in m place d e w =
+    let r : ((int_le (pos 0) m.col && int_lt m.col (pos 32)) && (int_le (pos 0) m.row && int_lt m.row (pos 32))) ≡ true = in_range m.col m.row (some_place e) in
+    record {
+      left = low_edge m.col d.x (and_left _ _ (and_left _ _ r)) w.left;
+      right = high_edge m.col (right d) (and_right _ _ (and_left _ _ r)) w.right;
+      top = low_edge m.row d.y (and_left _ _ (and_right _ _ r)) w.top;
+      bottom = high_edge m.row (bottom d) (and_right _ _ (and_right _ _ r)) w.bottom;
+      cols = few_between m.col d.x d.w w.left w.right;
+      rows = few_between m.row d.y d.h w.top w.bottom;
+    }
+
+pub grown_piece : (parts : Parts) (m : Key) (place : ℕ) (a : Area) (x : Option Area) → FitTiles parts → Some place ≡ place_at m.col m.row → x ≡ grown (get_or parts place None) (clipped a (tile m)) → (d : Area) → x ≡ Some d → IsPiece d
+grown_piece parts m place a x f e is d h = piece_in m place d e (lies_there parts m place a x f e is d h)
 
 part_added : (parts : Parts) (m : Key) (place : ℕ) (a : Area) (x : Option Area) → Some place ≡ place_at m.col m.row → place < length parts → x ≡ grown (get_or parts place None) (clipped a (tile m))
     → (k : Key) → part_at (set parts place x) k ≡ cond (same_key k m && on_canvas k) (grown (part_at parts k) (clipped a (tile k))) (part_at parts k)

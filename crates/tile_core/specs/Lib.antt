@@ -8,4 +8,5 @@ pub mod Laws
 pub mod Marks
 pub mod Films
 pub mod Damage
+pub mod Piece
 pub mod Same

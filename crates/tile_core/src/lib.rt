@@ -10,6 +10,7 @@ mod keyed;
 pub mod laws;
 mod marks;
 mod picture;
+mod piece;
 mod rows;
 mod shot;
 mod tile;

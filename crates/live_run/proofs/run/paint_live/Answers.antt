@@ -4,7 +4,7 @@ use Rattle.solo_run.proofs.Scripts.{script_holds}
 use Rattle.live_view.specs.Shown.{updates_of}
 use Rattle.live_view.specs.Views.{published}
 use Rattle.live_run.proofs.RootTiles.{picture_shown}
-use Rattle.live_run.proofs.run.paint_shown.Goals as goal
+use Rattle.live_run.proofs.run.paint_live.Goals as goal
 
 pub show_root-requires-clause-limits : goal.show_root-requires-clause-limits
 show_root-requires-clause-limits g c = subst IsOfLimits (sym c.in_ok-desk.ensures.canvas) (script_holds c.args.script.now c.commands-commands.ensures.script).canvas

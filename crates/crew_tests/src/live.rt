@@ -1,0 +1,197 @@
+//! What readers see of a script while a crew paints it, and once it is done.
+
+ghost use Rattle.live_view.specs.Views.{IsOnCanvas};
+
+use crate::painted::script_of;
+use across::drawn_script;
+use desk_core::Desk;
+use geom_core::TileKey;
+use io_edge::NoGate;
+use live_run::{run_live, run_live_shown};
+use live_view::{LiveReader, LiveWriter, open_live};
+use pixel_core::Pixel;
+use script_text::Script;
+use solo_run::Shown;
+use std::alloc::Global;
+use std::process::Abort;
+use std::sync::atomic::{AtomicU64, Ordering};
+use std::sync::{Arc, Wait};
+use std::test::*;
+use std::thread;
+use std::thread::Threads;
+use tile_core::Tile;
+
+/// How many drawn scripts are painted.
+const SEEDS: u64 = 10;
+
+/// How many times a thread looks at most.
+const LOOKS: u32 = 4_000_000;
+
+/// A half opaque red, which no entry exports.
+const HALF_RED: &[u8] =
+    b"canvas 1 1\nlayer 1 0 0\nstroke 1 1\nfill 1 seq 0 0 1 1 ff000080 over 255\nend 1\n";
+
+/// What a thread saw: whether the versions never fell, and the last of them.
+#[derive(Clone, Copy, Debug, PartialEq, Eq)]
+struct Seen {
+    rises: bool,
+    last: u64,
+}
+
+/// What became of a script: what was seen while it was painted, how many updates there were, and how many
+/// tiles a new reader sees at the end that aren't the desk's.
+#[derive(Clone, Copy, Debug, PartialEq, Eq)]
+struct Told {
+    seen: Seen,
+    count: u64,
+    others: Option<u32>,
+}
+
+/// A tile of the largest canvas, of which there are 32 rows of 32.
+#[tactic(auto, using(std::proofs::lemmas::Bool::Decides::nat_tests))]
+fn key_at(place: u32) -> TileKey
+    ensures { IsOnCanvas result }
+{
+    TileKey {
+        row: (place / 32 % 32) as i16,
+        col: (place % 32) as i16,
+    }
+}
+
+/// Looks at tile after tile until the painting is over.
+fn look_on(reader: LiveReader, over: &AtomicU64) -> Seen {
+    let mut reader = reader;
+    let mut seen = Seen {
+        rises: true,
+        last: 0,
+    };
+    for place in 0..LOOKS {
+        if over.load(Ordering::SeqCst) == 1 {
+            break;
+        }
+        if let Ok(shown) = reader.look(key_at(place)) {
+            seen.rises = seen.rises && seen.last <= shown.version;
+            seen.last = shown.version;
+        }
+    }
+    seen
+}
+
+/// The desk and the writer of a script that was painted by so many workers, if it could be.
+fn painted<R: Threads + Wait + Sync>(
+    rt: &R,
+    alloc: Global,
+    script: &Script,
+    workers: u8,
+    live: LiveWriter,
+) -> Option<(Desk, LiveWriter)> {
+    if workers > 16 || script.len() > 1_000_000 {
+        live.close(rt);
+        return None;
+    }
+    match run_live(rt, alloc, script, workers, &NoGate, live) {
+        Ok(done) => Some(done),
+        Err(_) => None,
+    }
+}
+
+/// Whether both tiles are there with the same pixels. Where the desk has none, all of the other is clear.
+fn is_same(seen: Option<&Tile>, own: Option<&Tile>) -> bool {
+    match (seen, own) {
+        (Some(seen), Some(own)) => seen.pixels() == own.pixels(),
+        (Some(seen), None) => seen.is_plain(Pixel::CLEAR),
+        (None, own) => own.is_none(),
+    }
+}
+
+/// How many tiles a new reader sees that aren't the desk's, or not at the newest version.
+fn others(live: &mut LiveWriter, desk: &Desk) -> Option<u32> {
+    let mut reader = live.reader().ok()?;
+    let mut others = 0u32;
+    for place in 0..1024u32 {
+        let key = key_at(place);
+        let shown = reader.look(key).ok()?;
+        if shown.version != live.count() || !is_same(shown.tile.as_ref(), desk.root_tile(key)) {
+            others = others.saturating_add(1);
+        }
+    }
+    Some(others)
+}
+
+/// What became of it, once the painting is over. The writer is closed.
+fn what_became<R: Wait>(rt: &R, seen: Seen, desk: &Desk, live: LiveWriter) -> Told {
+    let mut live = live;
+    let others = others(&mut live, desk);
+    let count = live.count();
+    live.close(rt);
+    Told {
+        seen,
+        count,
+        others,
+    }
+}
+
+/// Paints beside a thread that looks on.
+fn looked_at<R: Threads + Wait + Sync>(
+    rt: &R,
+    alloc: Global,
+    script: &Script,
+    workers: u8,
+) -> Option<Told> {
+    let over = Arc::new(alloc, AtomicU64::new(0)).ok()?;
+    let theirs = Arc::try_clone(&over).ok()?;
+    let mut live = open_live(alloc, 2).ok()?;
+    let Ok(reader) = live.reader() else {
+        live.close(rt);
+        return None;
+    };
+    let Ok(child) = thread::spawn(rt, move || look_on(reader, &theirs)) else {
+        live.close(rt);
+        return None;
+    };
+    let done = painted(rt, alloc, script, workers, live);
+    over.store(1, Ordering::SeqCst);
+    let seen = child.join(rt);
+    match done {
+        Some((desk, live)) => Some(what_became(rt, seen, &desk, live)),
+        None => None,
+    }
+}
+
+#[test]
+fn who_looks_on_sees_it_come(rt: HostRuntime) -> Result<(), Fail> {
+    for seed in 0..SEEDS {
+        let Some(script) = drawn_script(rt.alloc(), seed)? else {
+            return Err("no script".into());
+        };
+        for workers in [0, 2] {
+            let Some(told) = looked_at(&rt, rt.alloc(), &script, workers) else {
+                return Err("not painted".into());
+            };
+            let is_right = told.seen.rises
+                && told.seen.last <= told.count
+                && told.others == Some(0);
+            assert!(rt; is_right, "seed {seed}, {workers} workers: {told:?}");
+        }
+    }
+    Ok(())
+}
+
+/// The colours of the one point that new readers see at the end.
+fn point_of(shown: &Shown) -> Option<[u8; 3]> {
+    match shown.film.frames() {
+        [frame] if frame.width() == 1 && frame.height() == 1 => Some(frame.at(0, 0)),
+        _ => None,
+    }
+}
+
+#[test]
+fn the_last_picture(rt: HostRuntime) -> Result<(), Fail> {
+    let script = script_of(rt.alloc(), HALF_RED)?;
+    if script.len() > 100 {
+        return Err("too many".into());
+    }
+    let shown = run_live_shown(&rt, rt.alloc(), &script, 2, &NoGate)?;
+    assert_eq!(rt; point_of(&shown), Some([255, 127, 127]));
+    Ok(())
+}

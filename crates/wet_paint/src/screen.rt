@@ -1,0 +1,95 @@
+//! What the screen's thread does: it looks, and writes what it sees.
+
+ghost use Rattle.live_view.specs.Views.{IsOnCanvas};
+
+use crate::paint::WetError;
+use geom_core::{NoMemory, TileKey};
+use io_edge::StdSink;
+use live_view::LiveReader;
+use ppm_out::write_frame;
+use script_text::Script;
+use std::alloc::Global;
+use std::sync::Wait;
+use std::sync::atomic::{AtomicU64, Ordering};
+use std::{io, thread};
+use tile_core::Frame;
+
+/// How many tiles the largest canvas has: 32 rows of 32.
+const TILES: u32 = 1024;
+
+/// The tile at a place of the largest canvas, in row order.
+#[tactic(auto, using(std::proofs::lemmas::Bool::Decides::nat_tests))]
+fn key_at(place: u32) -> TileKey
+    ensures { IsOnCanvas result }
+{
+    TileKey {
+        row: (place / 32 % 32) as i16,
+        col: (place % 32) as i16,
+    }
+}
+
+/// The script's canvas without a tile.
+fn bare(alloc: Global, script: &Script) -> Result<Frame, NoMemory> {
+    let canvas = script.canvas();
+    let _commands = script.commands();
+    Frame::new(alloc, canvas.w, canvas.h, canvas.paper)
+}
+
+/// The picture that the reader sees. Where a look is refused the paper shows.
+fn picture(alloc: Global, reader: &mut LiveReader, script: &Script) -> Result<Frame, NoMemory> {
+    let mut frame = bare(alloc, script)?;
+    for place in 0..TILES {
+        let key = key_at(place);
+        if let Ok(shown) = reader.look(key) {
+            if let Some(tile) = shown.tile {
+                frame.put(key, &tile)?;
+            }
+        }
+    }
+    Ok(frame)
+}
+
+/// How many updates the reader sees.
+fn version(reader: &mut LiveReader) -> u64 {
+    match reader.look(key_at(0)) {
+        Ok(shown) => shown.version,
+        Err(_) => 0,
+    }
+}
+
+/// Writes a picture each time that so many further tiles were published, until the painting is over.
+pub(crate) fn watch<R: Wait + Print>(
+    rt: &R,
+    alloc: Global,
+    reader: LiveReader,
+    script: &Script,
+    every: u64,
+    is_over: &AtomicU64,
+) -> Result<(), WetError> {
+    let mut reader = reader;
+    let mut due = every;
+    for _ in rt.forever() {
+        if is_over.load(Ordering::SeqCst) == 1 {
+            return Ok(());
+        }
+        let seen = version(&mut reader);
+        if seen >= due {
+            write_picture(rt, alloc, &picture(alloc, &mut reader, script)?)?;
+            due = seen.saturating_add(every);
+        } else {
+            thread::yield_now();
+        }
+    }
+    unreachable!()
+}
+
+/// Writes a picture as a pixmap.
+pub(crate) fn write_picture<R: Print>(
+    rt: &R,
+    alloc: Global,
+    picture: &Frame,
+) -> Result<(), WetError> {
+    let mut row = vec![in alloc; 0; 3 * picture.width() as usize]?;
+    write_frame(picture, &mut row, &mut StdSink::new(io::writer(rt)))?;
+    Ok(())
+}
