@@ -4,6 +4,7 @@ ghost use Rattle.live_view.specs.Views.{IsOnCanvas};
 
 use crate::painted::script_of;
 use across::drawn_script;
+use demo_gen::script_of as generated_script;
 use desk_core::Desk;
 use geom_core::TileKey;
 use io_edge::NoGate;
@@ -158,10 +159,19 @@ fn looked_at<R: Threads + Wait + Sync>(
     }
 }
 
+/// The drawn script of a number, and behind the last of them the generated one of 1.
+fn script_at(alloc: Global, seed: u64) -> Option<Script> {
+    if seed < SEEDS {
+        drawn_script(alloc, seed).ok()?
+    } else {
+        generated_script(alloc, 1).ok()
+    }
+}
+
 #[test]
 fn who_looks_on_sees_it_come(rt: HostRuntime) -> Result<(), Fail> {
-    for seed in 0..SEEDS {
-        let Some(script) = drawn_script(rt.alloc(), seed)? else {
+    for seed in 0..=SEEDS {
+        let Some(script) = script_at(rt.alloc(), seed) else {
             return Err("no script".into());
         };
         for workers in [0, 2] {

@@ -11,7 +11,8 @@ ghost use Rattle.desk_core.specs.declared.answers.Published.TheVariants as answe
 
 use crate::answers::Published;
 use crate::desk::Desk;
-use desk_machine::{Machine, SlotId};
+use desk_damage::TrackedMachine;
+use desk_machine::SlotId;
 use geom_core::NoMemory;
 use walker_core::Composed;
 use whole_tiles::Whole;
@@ -72,7 +73,7 @@ impl Desk {
 }
 
 /// Publishes the tiles of the job in a slot, one after another.
-fn exchange_all(machine: &mut Machine, slot: SlotId, tiles: &[Whole]) -> Result<(), NoMemory>
+fn exchange_all(machine: &mut TrackedMachine, slot: SlotId, tiles: &[Whole]) -> Result<(), NoMemory>
     requires { MayCommit machine.old slot.place slot.serial tiles.now }
     ensures front { RunsFront machine.old (commit_events slot.place tiles.now) machine.new }
     ensures all { (new : State) → OnOk result (Step machine.new (End slot.place) new → Run machine.old (commit_events slot.place tiles.now) new) }

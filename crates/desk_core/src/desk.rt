@@ -12,7 +12,8 @@ ghost use Rattle.desk_core.specs.declared.answers.Ended.TheVariants as ended;
 ghost use Rattle.desk_parts.specs.Enabled.{Takes, IsEnd, MayEnd};
 
 use crate::answers::{Ended, Published};
-use desk_machine::{Machine, SlotId};
+use desk_damage::TrackedMachine;
+use desk_machine::SlotId;
 use doc_model::{Canvas, Command};
 use geom_core::NoMemory;
 use job_core::Painted;
@@ -23,7 +24,7 @@ use std::marker::Model;
 /// with its history, what its groups show, and what is at work.
 #[derive(Drop)]
 pub struct Desk {
-    pub(crate) machine: Machine,
+    pub(crate) machine: TrackedMachine,
 }
 
 impl Model for Desk {
@@ -45,7 +46,7 @@ impl Desk {
         requires few { slots ≤ 17 }
         ensures { IfOk result (λ d. d ≡ new_state canvas slots) }
     {
-        let machine = Machine::new(alloc, canvas, slots)?;
+        let machine = TrackedMachine::new(alloc, canvas, slots)?;
         Ok(Desk { machine })
     }
 

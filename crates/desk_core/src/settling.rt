@@ -11,7 +11,8 @@ ghost use Rattle.desk_parts.specs.Settles.{Settles, GoesOn};
 
 use crate::desk::Desk;
 use crate::tickets::Taken;
-use desk_machine::{Lack, Machine};
+use desk_damage::TrackedMachine;
+use desk_machine::Lack;
 use geom_core::NoMemory;
 use memento_core::Steps;
 use std::sync::ledger::Ledger;
@@ -76,7 +77,7 @@ impl Desk {
 }
 
 /// Publishes one more tile of the work in a slot, or ends it where all are published.
-fn do_own(machine: &mut Machine, place: u8) -> Result<(), NoMemory>
+fn do_own(machine: &mut TrackedMachine, place: u8) -> Result<(), NoMemory>
     requires { IsSomeAnd (slice_get machine.old.slots place) (λ slot. is_free slot ≡ false) }
     ensures ok { OnOk result (GoesOn machine.old machine.new) }
     ensures err { OnErr result (Settles machine.old machine.new) }

@@ -12,7 +12,7 @@ ghost use Rattle.desk_parts.specs.Choices.{IsIdle, MayWant, HeadWaits, DoesAtOnc
 
 use crate::desk::Desk;
 use crate::tickets::Taken;
-use desk_machine::Machine;
+use desk_damage::TrackedMachine;
 use desk_parts::Choice;
 use geom_core::NoMemory;
 use memento_core::Steps;
@@ -58,7 +58,7 @@ impl Desk {
 }
 
 /// Starts a walk, where one may start, while the entry at the head waits.
-fn take_walk(machine: &mut Machine) -> Result<Taken, NoMemory>
+fn take_walk(machine: &mut TrackedMachine) -> Result<Taken, NoMemory>
     requires { HeadWaits machine.old }
     ensures paint { (t : PaintTicket) → result ≡ Ok (taken.Paint t) → ⊥ }
     ensures walk { (t : WalkTicket) → result ≡ Ok (taken.Walk t) → Step machine.old (WalkStart t.slot.place t.inputs.patch) machine.new × IsWalkTicket t machine.new }

@@ -2,7 +2,7 @@
 use Rattle.std.proofs.Common.{◌≡◌, ℕ, true, false, Option, Some, None, Result, Ok, Err, OnOk, OnErr, List, [], ◌∷◌, map, refl, ap, ◌∙◌}
 use Rattle.std.specs.Prelude.{slice_get, slice_set}
 use Rattle.std.specs.Ordering.{nat_cmp}
-use Rattle.std.specs.List.{list_any}
+use Rattle.std.specs.List.{list_any, list_all}
 use Rattle.std.specs.FinMap.{FinMap}
 use Rattle.geom_core.specs.Grid.{Key, same_key, keys_of, all_keys_of, IsWorldKey}
 use Rattle.doc_model.specs.Jobs.{reads, writes}
@@ -35,7 +35,7 @@ use Rattle.desk_parts.proofs.Laying.{takes_is, IsLaidAt, laid_at}
 use Rattle.desk_work.specs.LaidTiles.{laid_as, laid_all, lacking, pairs_at, Lays, LaysFront}
 use Rattle.whole_tiles.proofs.Seen.{own_seen}
 use Rattle.desk_machine.specs.Commits.{pair_events}
-use Rattle.desk_machine.specs.OwnWork.{WalkLacks}
+use Rattle.desk_machine.specs.OwnWork.{WalkLacks, WalksOn, is_walk_publish}
 use Rattle.desk_machine.proofs.PairRuns.{AreNext, IsRun, next_lacking, front_next, own_at, some_lacking, none_fed, walk_run}
 use Rattle.desk_parts.proofs.SettlingRuns.{goes_on}
 
@@ -83,6 +83,11 @@ pub record IsComposedAt {A E : Type 0} (d new : Parts) (r : Result A E) : Type 0
   pub desk : IsDesk new
   pub ok : OnOk r (GoesOn (state_of d) (state_of new))
   pub err : OnErr r (Settles (state_of d) (state_of new))
+  pub walks : WalksOn (state_of d) (state_of new)
+
+all_walks : (place : ℕ) (ps : List (ℕ × Key)) → list_all is_walk_publish (pair_events place ps) ≡ true
+all_walks place [] = refl
+all_walks place (p ∷ ps) = all_walks place ps
 
 in_err : {A E P : Type 0} (r : Result A E) → P → OnErr r P
 in_err (Ok x) p = tt
@@ -95,6 +100,11 @@ composed_at {A = A} {E = E} d place w w' key r caches slots desk h lacks all fro
   desk = (run front.front (front_next w.inputs w.published (pairs_at (path_in w.inputs) key) front.front front.rest (own_at w.inputs key in_patch) front.are) front.lays).desk;
   ok = go r all;
   err = in_err r (settles front.front (front_next w.inputs w.published (pairs_at (path_in w.inputs) key) front.front front.rest (own_at w.inputs key in_patch) front.are) front.lays);
+  walks = record {
+    events = pair_events place front.front;
+    walks = all_walks place front.front;
+    run = (run front.front (front_next w.inputs w.published (pairs_at (path_in w.inputs) key) front.front front.rest (own_at w.inputs key in_patch) front.are) front.lays).run;
+  };
 }
   where
     same : walker_of w ≡ lacks.enabled.1.walker

@@ -1,8 +1,10 @@
 -- What the work in a slot lacks.
-use Rattle.std.specs.Prelude.{ℕ}
+use Rattle.std.specs.Prelude.{◌≡◌, ℕ, Bool, true, false, List}
+use Rattle.std.specs.List.{list_all}
 use Rattle.geom_core.specs.Grid.{Key, IsWorldKey}
 use Rattle.machine_model.specs.State.{State}
-use Rattle.machine_model.specs.Event.{Publish, End, WalkPublish, WalkEnd}
+use Rattle.machine_model.specs.Event.{Event, Publish, End, WalkPublish, WalkEnd}
+use Rattle.machine_model.specs.Step.{Run}
 use Rattle.desk_machine.specs.declared.own_work.Lack.{Lack}
 use Rattle.desk_machine.specs.declared.own_work.Lack.TheVariants as lack
 use Rattle.desk_parts.specs.Enabled.{Enabled}
@@ -19,3 +21,14 @@ IsLack s place (lack.Tile key) = Enabled s (Publish place key)
 IsLack s place (lack.Groups key) = WalkLacks s place key
 IsLack s place lack.JobEnd = Enabled s (End place)
 IsLack s place lack.WalkEnd = Enabled s (WalkEnd place)
+
+-- whether a walk publishes a tile
+abbrev pub is_walk_publish : Event → Bool
+is_walk_publish (WalkPublish place g key) = true
+is_walk_publish e = false
+
+-- tiles of walks were published, one after another
+pub record WalksOn (old new : State) : Type 0 where
+  pub events : List Event
+  pub walks : list_all is_walk_publish events ≡ true
+  pub run : Run old events new

@@ -254,7 +254,7 @@ impl Machine {
     }
 
     /// Whether nothing is at work or waits to be composed.
-    fn is_resting(&self) -> bool
+    pub fn is_resting(&self) -> bool
         ensures { result ≡ (is_clean self.now && no_painter self.now && no_walker self.now) }
     {
         self.is_clean() && self.no_painter() && self.no_walker()

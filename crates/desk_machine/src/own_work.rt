@@ -8,7 +8,7 @@ ghost use Rattle.machine_model.specs.Step.{Step};
 ghost use Rattle.machine_model.specs.Sound.{IsOrderly};
 ghost use Rattle.desk_parts.specs.Enabled.{Enabled};
 ghost use Rattle.desk_parts.specs.Settles.{Settles, GoesOn};
-ghost use Rattle.desk_machine.specs.OwnWork.{IsLack, WalkLacks};
+ghost use Rattle.desk_machine.specs.OwnWork.{IsLack, WalkLacks, WalksOn};
 
 use crate::machine::Machine;
 use desk_parts::Work;
@@ -84,6 +84,7 @@ impl Machine {
         requires { WalkLacks self.old place key }
         ensures ok { OnOk result (GoesOn self.old self.new) }
         ensures err { OnErr result (Settles self.old self.new) }
+        ensures walks { WalksOn self.old self.new }
     {
         match self.slots.clear(place) {
             Some(Work::Walk(mut walker)) => {

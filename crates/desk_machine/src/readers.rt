@@ -17,6 +17,7 @@ use desk_work::{some_waits, some_works};
 use doc_model::{Canvas, Command, Outcome};
 use entry_queue::Entry;
 use geom_core::TileKey;
+use group_caches::Caches;
 use pixel_core::Pixel;
 use tile_core::{Film, Frame, Tile};
 
@@ -40,6 +41,13 @@ impl Machine {
         ensures { result ≡ covered self.now 0 (point x y) }
     {
         some_waits(&self.updates, x, y) || some_works(&self.slots, x, y)
+    }
+
+    /// The caches of the document's groups.
+    pub fn caches(&self) -> &Caches
+        ensures { result.now ≡ self.now.caches }
+    {
+        self.filmed.caches()
     }
 
     /// The tile of the root's cache under a key. None only where the root's cache is clear on that tile.

@@ -1,7 +1,7 @@
 -- The values that are given for the groups of a walk.
-use Rattle.std.proofs.Common.{◌≡◌, ◌≢◌, ℕ, zero, suc, ◌+◌, ◌<◌, Bool, true, false, cond, List, [], ◌∷◌, ◌++◌, take, length, get_or, Some, map, refl, sym, ap, ◌∙◌, arith, eqb}
+use Rattle.std.proofs.Common.{◌≡◌, ◌≢◌, ℕ, suc, ◌+◌, ◌<◌, Bool, true, false, cond, List, [], ◌∷◌, ◌++◌, take, length, get_or, Some, map, refl, sym, ap, ◌∙◌, arith, eqb}
 use Rattle.std.specs.Option.{unwrap_or}
-use Rattle.std.proofs.lemmas.List.{take_more, length-take-le}
+use Rattle.std.proofs.lemmas.List.{take_more, length-take-le, length-map, get_or-map}
 use Rattle.std.proofs.lemmas.Bool.Decides.{nat_tests}
 use Rattle.pixel_core.specs.Rgba.{Rgba, clear}
 use Rattle.geom_core.specs.Areas.{Area, Point}
@@ -13,7 +13,8 @@ use Rattle.compose_core.specs.declared.children.Given.TheVariants.{Plain}
 use Rattle.walker_core.specs.declared.inputs.Source.{Source}
 use Rattle.compose_core.specs.Spots.{given_on}
 use Rattle.walker_core.specs.Rows.{given_values, found}
-use Rattle.walker_core.specs.Views.{children_in, groups_of}
+use Rattle.walker_core.specs.Knowing.{value_at}
+use Rattle.walker_core.specs.Views.{groups_of}
 
 -- one group more
 pub given_more : (gs : List ℕ) (xs : List Given) (g : ℕ) (x : Given) (vs : List (ℕ × Rgba)) (p : Point) → length gs ≡ length xs → given_values (gs ++ g ∷ []) (xs ++ x ∷ []) vs p ≡ (g, given_on x p) ∷ given_values gs xs vs p
@@ -26,10 +27,6 @@ walked_more : (es : List (ℕ × List Child)) (e : ℕ × List Child) (vs : List
 walked_more [] e vs p = refl
 walked_more (d ∷ es) e vs p = walked_more es e ((d.0, walk_folded vs d.1 p clear) ∷ vs) p
 
-groups_more : (rect : Area) (ss : List Source) (gs : List ℕ) (g : ℕ) → groups_of rect ss (gs ++ g ∷ []) ≡ groups_of rect ss gs ++ (g, children_in rect g ss) ∷ []
-groups_more rect ss [] g = refl
-groups_more rect ss (h ∷ gs) g = ap (λ es. (h, children_in rect h ss) ∷ es) (groups_more rect ss gs g)
-
 pub groups_count : (rect : Area) (ss : List Source) (gs : List ℕ) → length (groups_of rect ss gs) ≡ length gs
 groups_count rect ss [] = refl
 groups_count rect ss (g ∷ gs) = ap suc (groups_count rect ss gs)
@@ -37,21 +34,6 @@ groups_count rect ss (g ∷ gs) = ap suc (groups_count rect ss gs)
 pub groups_path : (rect : Area) (ss : List Source) (gs : List ℕ) → map (λ (e : ℕ × List Child). e.0) (groups_of rect ss gs) ≡ gs
 groups_path rect ss [] = refl
 groups_path rect ss (g ∷ gs) = ap (λ hs. g ∷ hs) (groups_path rect ss gs)
-
--- the walk's values of the groups so far, and of one more
-pub row_more : (rect : Area) (ss : List Source) (path : List ℕ) (xs : List Given) (x : Given) (i g : ℕ) (p : Point) → i < length path → length xs ≡ i → g ≡ get_or path i 0
-    → given_values (take i path) xs [] p ≡ walk_values (groups_of rect ss (take i path)) [] p
-    → given_on x p ≡ walk_folded (given_values (take i path) xs [] p) (children_in rect g ss) p clear
-    → given_values (take (i + 1) path) (xs ++ x ∷ []) [] p ≡ walk_values (groups_of rect ss (take (i + 1) path)) [] p
-row_more rect ss path xs x i g p h n at so_far value =
-    let longer : take (i + 1) path ≡ take i path ++ g ∷ [] = take_more path i 0 h ∙ ap (λ q. take i path ++ q ∷ []) (sym at) in
-    let few : length (take i path) ≡ length xs = length-take-le i path (omega arith) ∙ sym n in
-    ap (λ gs. given_values gs (xs ++ x ∷ []) [] p) longer
-    ∙ given_more (take i path) xs g x [] p few
-    ∙ (λ k. (g, value k) ∷ given_values (take i path) xs [] p)
-    ∙ (λ k. (g, walk_folded (so_far k) (children_in rect g ss) p clear) ∷ so_far k)
-    ∙ sym (walked_more (groups_of rect ss (take i path)) (g, children_in rect g ss) [] p)
-    ∙ ap (λ es. walk_values es [] p) (sym (groups_more rect ss (take i path) g) ∙ ap (groups_of rect ss) (sym longer))
 
 -- the value of a child, by what was found
 pub value_found : (vs : List (ℕ × Rgba)) (c : Child) (p : Point) → value_in vs c p ≡ unwrap_or (found vs c.id) (at c.pixels p)
@@ -87,17 +69,17 @@ pub is_last : (gs : List ℕ) (xs : List Given) (n k g : ℕ) (x : Given) (p : P
     → found (given_values (take n gs) (take n xs) [] p) g ≡ Some (given_on x p)
 is_last gs xs n k g x p m h e at same = ap (λ j. found (given_values (take j gs) (take j xs) [] p) g) m ∙ last_found gs xs k g x p true h e (grind (arith, nat_tests)) ∙ ap (λ y. Some (given_on y p)) (sym at)
 
--- the first groups
-groups_take : (rect : Area) (ss : List Source) (gs : List ℕ) (i : ℕ) → take i (groups_of rect ss gs) ≡ groups_of rect ss (take i gs)
-groups_take rect ss gs zero = refl
-groups_take rect ss [] (suc i) = refl
-groups_take rect ss (g ∷ gs) (suc i) = ap (λ es. (g, children_in rect g ss) ∷ es) (groups_take rect ss gs i)
-
--- the same of a walk's groups
-pub row_next : (rect : Area) (ss : List Source) (path : List ℕ) (es : List (ℕ × List Child)) (xs : List Given) (x : Given) (i g : ℕ) (p : Point) → es ≡ groups_of rect ss path → i < length path → length xs ≡ i → g ≡ get_or path i 0
-    → given_values (take i path) xs [] p ≡ walk_values (take i es) [] p
-    → given_on x p ≡ walk_folded (given_values (take i path) xs [] p) (children_in rect g ss) p clear
+-- the walk's values of the groups so far, and of one more
+pub row_next : (es : List (ℕ × List Child)) (path : List ℕ) (xs : List Given) (x : Given) (i : ℕ) (p : Point) → path ≡ map (λ (e : ℕ × List Child). e.0) es → i < length es → length xs ≡ i
+    → given_values (take i path) xs [] p ≡ walk_values (take i es) [] p → given_on x p ≡ value_at es i p
     → given_values (take (i + 1) path) (xs ++ x ∷ []) [] p ≡ walk_values (take (i + 1) es) [] p
-row_next rect ss path es xs x i g p e h n at so_far value =
-    row_more rect ss path xs x i g p h n at (so_far ∙ ap (λ t. walk_values t [] p) (ap (take i) e ∙ groups_take rect ss path i)) value
-    ∙ ap (λ t. walk_values t [] p) (sym (ap (take (i + 1)) e ∙ groups_take rect ss path (i + 1)))
+row_next es path xs x i p e h n so_far value =
+    let many : length path ≡ length es = ap length e ∙ length-map es (λ (e : ℕ × List Child). e.0) in
+    let at : get_or path i 0 ≡ (get_or {A = ℕ × List Child} es i (0, [])).0 = ap (λ gs. get_or gs i 0) e ∙ get_or-map (λ (e : ℕ × List Child). e.0) es i (0, []) 0 h in
+    let longer : take (i + 1) path ≡ take i path ++ (get_or {A = ℕ × List Child} es i (0, [])).0 ∷ [] = take_more path i 0 (omega arith) ∙ ap (λ q. take i path ++ q ∷ []) at in
+    let few : length (take i path) ≡ length xs = length-take-le i path (omega arith) ∙ sym n in
+    ap (λ gs. given_values gs (xs ++ x ∷ []) [] p) longer
+    ∙ given_more (take i path) xs (get_or {A = ℕ × List Child} es i (0, [])).0 x [] p few
+    ∙ (λ k. ((get_or {A = ℕ × List Child} es i (0, [])).0, value k) ∷ so_far k)
+    ∙ sym (walked_more (take i es) (get_or es i (0, [])) [] p)
+    ∙ ap (λ t. walk_values t [] p) (sym (take_more es i (0, []) h))

@@ -4,3 +4,4 @@ pub mod Shown
 pub mod RowLists
 pub mod WaysUp
 pub mod SameReadings
+pub mod Kept

@@ -3,11 +3,14 @@
 
 mod composed;
 mod inputs;
+mod known;
+mod overlay;
 mod paths;
 mod row;
 mod same;
 
 pub use composed::{Composed, compose_key, compose_keys, compose_walk};
 pub use inputs::Inputs;
+pub use known::{Damaged, Known};
 pub use paths::{Path, all_groups, plan};
 pub use same::same_values;

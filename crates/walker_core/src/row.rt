@@ -1,20 +1,23 @@
 //! The pictures of a walk's groups on one tile.
 
-ghost use Rattle.std.specs.Prelude.{◌≡◌, true, [], length, IfOk, OnOk};
+ghost use Rattle.std.specs.Prelude.{◌≡◌, ◌<◌, true, [], length, take, slice_index_or, IfOk, OnOk};
 ghost use Rattle.std.specs.Option.{option_copied};
 ghost use Rattle.pixel_core.specs.Rgba.{clear};
 ghost use Rattle.geom_core.specs.Areas.{holds, Point};
 ghost use Rattle.geom_core.specs.Grid.{IsWorldKey};
 ghost use Rattle.doc_model.specs.Shots.{in_tile};
 ghost use Rattle.doc_model.specs.Picture.{with_look};
-ghost use Rattle.tile_core.specs.Shots.{sight_at};
-ghost use Rattle.machine_model.specs.Walks.{value_in, walk_folded};
-ghost use Rattle.walker_core.specs.Views.{child_of, children_in};
-ghost use Rattle.compose_core.specs.Spots.{IsSpot, Catches, given_on};
+ghost use Rattle.machine_model.specs.Walks.{value_in, walk_folded, walk_values};
+ghost use Rattle.walker_core.specs.Readings.{path_in};
+ghost use Rattle.walker_core.specs.Views.{child_of, children_in, groups_of};
+ghost use Rattle.walker_core.specs.Knowing.{value_at};
+ghost use Rattle.compose_core.specs.Spots.{IsSpot, given_on};
 ghost use Rattle.compose_core.specs.Piles.{IsPile, pile_at};
 ghost use Rattle.walker_core.specs.Rows.{given_values, found, maybe_on, IsRow};
 
 use crate::inputs::{Inputs, Source};
+use crate::known::Kept;
+use crate::overlay::{overlaid, shown_on};
 use compose_core::{Given, Pile, Spot};
 use geom_core::{NoMemory, Rect, TileKey};
 use std::alloc::Global;
@@ -39,15 +42,14 @@ pub(crate) fn compose_row(
     ensures values { IfOk result (λ row. IsRow inputs.now row.key row.given.items) }
 {
     let path = inputs.path();
-    let rect = inputs.patch().rect;
-    let spot = Spot::new(&rect, key);
+    let sources = inputs.sources();
     let mut given = Vec::with_capacity(alloc, path.len())?;
     for i in 0..path.len() {
         let below = Below {
             path: &path[..i],
             given: &given,
         };
-        let one = compose_group(alloc, inputs.sources(), path[i], &below, &spot, &rect, pile)?;
+        let one = compose_next(alloc, inputs, sources, path[i], &below, key, pile)?;
         given.push(one)?;
     }
     Ok(Row { key, given })
@@ -58,6 +60,37 @@ pub(crate) fn compose_row(
 struct Below<'a> {
     path: &'a [u16],
     given: &'a [Given],
+}
+
+/// Composes the next group of a walk on a tile, or that part of it which isn't known.
+fn compose_next(
+    alloc: Global,
+    inputs: &Inputs,
+    sources: &[Source],
+    group: u16,
+    below: &Below<'_>,
+    key: TileKey,
+    pile: &mut Pile,
+) -> Result<Given, NoMemory>
+    requires key { IsWorldKey key }
+    requires sources { inputs.now.groups ≡ groups_of inputs.now.patch.rect sources.now (path_in inputs.now) }
+    requires next { length below.now.given.now < length (path_in inputs.now) }
+    requires group { group ≡ slice_index_or (path_in inputs.now) (length below.now.given.now) 0 }
+    requires paired { length below.now.given.now ≡ length below.now.path.now }
+    ensures { IfOk result (λ g. (p : Point) → holds inputs.now.patch.rect p ≡ true → in_tile key p ≡ true → given_values below.now.path.now below.now.given.now [] p ≡ walk_values (take (length below.now.given.now) inputs.now.groups) [] p → given_on g p ≡ value_at inputs.now.groups (length below.now.given.now) p) }
+{
+    let rect = inputs.patch().rect;
+    match inputs.kept(below.given.len(), key)? {
+        Kept::Nothing => {
+            let spot = Spot::new(&rect, key);
+            compose_group(alloc, sources, group, below, &spot, &rect, pile)
+        }
+        Kept::Whole(given) => Ok(given),
+        Kept::Outside(spot, given) => {
+            let fresh = compose_group(alloc, sources, group, below, &spot, &rect, pile)?;
+            overlaid(alloc, given, &fresh, &spot)
+        }
+    }
 }
 
 /// Composes one group of a walk on a part of a tile.
@@ -71,9 +104,8 @@ fn compose_group(
     pile: &mut Pile,
 ) -> Result<Given, NoMemory>
     requires spot { IsSpot spot.now }
-    requires catches { Catches rect.now spot.now }
     requires paired { length below.now.given.now ≡ length below.now.path.now }
-    ensures { IfOk result (λ g. (p : Point) → holds rect.now p ≡ true → in_tile spot.now.key p ≡ true → given_on g p ≡ walk_folded (given_values below.now.path.now below.now.given.now [] p) (children_in rect.now group sources.now) p clear) }
+    ensures { IfOk result (λ g. (p : Point) → holds rect.now p ≡ true → in_tile spot.now.key p ≡ true → holds spot.now.part p ≡ true → given_on g p ≡ walk_folded (given_values below.now.path.now below.now.given.now [] p) (children_in rect.now group sources.now) p clear) }
 {
     pile.clear();
     for source in sources {
@@ -99,7 +131,7 @@ fn add_child(
 {
     let given = match walked(below.path, below.given, source.id) {
         Some(given) => given.share()?,
-        None => source_on(source, key)?,
+        None => shown_on(&source.shot, key)?,
     };
     pile.add(source.look, given)
 }
@@ -116,14 +148,4 @@ pub(crate) fn walked<'a>(path: &[u16], given: &'a [Given], group: u16) -> Option
         }
     }
     None
-}
-
-/// What a child has on a tile: its tile, shared, or its default pixel.
-fn source_on(source: &Source, key: TileKey) -> Result<Given, NoMemory>
-    ensures { IfOk result (λ g. (p : Point) → in_tile key p ≡ true → given_on g p ≡ sight_at source.now.shot p) }
-{
-    match source.shot.tile(key) {
-        Some(tile) => Ok(Given::Held(tile.share()?)),
-        None => Ok(Given::Plain(source.shot.ground())),
-    }
 }

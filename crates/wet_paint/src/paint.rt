@@ -78,7 +78,9 @@ fn paint_watched<R: Threads + Wait + Print + Sync>(
     let (watched, painted) = join(
         rt,
         || watch(rt, alloc, reader, script, every, &is_over),
-        || {
+        ||
+            requires { length script.now.commands ≤ 2 ^ 32 - 1 }
+        {
             let painted = paint(rt, alloc, script, live);
             is_over.store(1, Ordering::SeqCst);
             painted

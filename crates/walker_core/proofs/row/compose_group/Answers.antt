@@ -39,6 +39,6 @@ loop-source-preserved c = elim c.if-source-group.branch [
 
 pub returns : goal.returns
 returns c = IfOk-weaker c.composed.result (ShowsPile c.loop-source.pile c.in_tile.result) _
-    (λ g shows p h k. shows p (spot_held c.args.spot.now c.in_tile.result p c.requires.spot c.in_tile.ensures.value (c.requires.catches p h k)) ∙ c.loop-source.invariant.1 p h k
+    (λ g shows p h k q. shows p (spot_held c.args.spot.now c.in_tile.result p c.requires.spot c.in_tile.ensures.value q) ∙ c.loop-source.invariant.1 p h k
     ∙ ap (λ ss. walk_folded (given_values c.args.below.now.path.now c.args.below.now.given.now [] p) (children_in c.args.rect.now c.args.group ss) p clear) (take_all c.loop-source.source-index c.args.sources.now (omega arith)))
     c.composed.ensures

@@ -1,26 +1,35 @@
-use Rattle.std.proofs.Common.{◌≡◌, ◌+◌, ◌<◌, ◌∙◌, ℕ, [], List, ap, sym, subst, arith, take, length, get_or, refl}
+use Rattle.std.proofs.Common.{◌≡◌, ◌+◌, ◌<◌, ◌∙◌, ℕ, [], List, ap, sym, subst, arith, take, length, refl, true}
 use Rattle.std.proofs.lemmas.List.{take_all, length-map}
-use Rattle.pixel_core.specs.Rgba.{clear}
-use Rattle.geom_core.specs.Areas.{holds}
-use Rattle.doc_model.specs.declared.canvas.Patch.{Patch}
+use Rattle.geom_core.specs.Areas.{holds, Point}
 use Rattle.doc_model.specs.Shots.{in_tile}
 use Rattle.machine_model.specs.State.{Child}
-use Rattle.machine_model.specs.Walks.{walk_folded, walk_values}
+use Rattle.machine_model.specs.Walks.{walk_values}
 use Rattle.walker_core.specs.Readings.{path_in}
 use Rattle.walker_core.specs.Rows.{given_values}
-use Rattle.walker_core.specs.Views.{children_in}
+use Rattle.compose_core.specs.Spots.{given_on}
+use Rattle.walker_core.specs.Knowing.{value_at}
 use Rattle.walker_core.proofs.Given.{row_next}
 use Rattle.walker_core.proofs.row.compose_row.Goals as goal
+
+few : (c : goal.In_ok-push) → c.loop-i.i < length c.args.inputs.now.groups
+few c =
+    let on_path : c.loop-i.i < length (path_in c.args.inputs.now) = subst (λ (ps : List ℕ). c.loop-i.i < length ps) c.path-path.ensures (omega arith) in
+    let groups : length (path_in c.args.inputs.now) ≡ length c.args.inputs.now.groups = length-map c.args.inputs.now.groups (λ (e : ℕ × List Child). e.0) in
+    omega arith
+
+-- what was composed next is the walk's value
+value : (c : goal.In_ok-push) (p : Point) → holds c.args.inputs.now.patch.rect p ≡ true → in_tile c.args.key p ≡ true → given_on c.in_ok-one.one p ≡ value_at c.args.inputs.now.groups c.loop-i.i p
+value c p h k =
+    let count : length c.deref.result.now ≡ c.loop-i.i = ap length c.deref.ensures.value ∙ c.loop-i.invariant.0 in
+    c.in_ok-one.ensures p h k ((λ j. given_values (take c.loop-i.i (c.path-path.ensures j)) (c.deref.ensures.value j) [] p) ∙ c.loop-i.invariant.1 p h k ∙ ap (λ n. walk_values (take n c.args.inputs.now.groups) [] p) (sym count))
+    ∙ ap (λ n. value_at c.args.inputs.now.groups n p) count
 
 pub loop-i-preserved : goal.loop-i-preserved
 loop-i-preserved c = (
   omega (arith, c.in_ok-push.ensures.len, c.loop-i.invariant.0),
   λ p h k.
       ap (λ zs. given_values (take (c.loop-i.i + 1) (path_in c.args.inputs.now)) zs [] p) c.in_ok-push.ensures.items
-      ∙ row_next c.args.inputs.now.patch.rect c.sources.result.now (path_in c.args.inputs.now) c.args.inputs.now.groups c.loop-i.given.items c.in_ok-one.one c.loop-i.i (get_or (path_in c.args.inputs.now) c.loop-i.i 0) p
-      c.sources.ensures (subst (λ (ps : List ℕ). c.loop-i.i < length ps) c.path-path.ensures (omega arith)) c.loop-i.invariant.0 refl (c.loop-i.invariant.1 p h k)
-      (c.in_ok-one.ensures p (ap (λ (q : Patch). holds q.rect p) c.patch-rect.ensures ∙ h) (ap (λ q. in_tile q p) c.new-spot.ensures.key ∙ k)
-      ∙ (λ j. walk_folded (given_values (take c.loop-i.i (c.path-path.ensures j)) (c.deref.ensures.value j) [] p) (children_in (c.patch-rect.ensures j).rect (get_or (c.path-path.ensures j) c.loop-i.i 0) c.sources.result.now) p clear)),
+      ∙ row_next c.args.inputs.now.groups (path_in c.args.inputs.now) c.loop-i.given.items c.in_ok-one.one c.loop-i.i p refl (few c) c.loop-i.invariant.0 (c.loop-i.invariant.1 p h k) (value c p h k),
 )
 
 pub returns-clause-values : goal.returns-clause-values

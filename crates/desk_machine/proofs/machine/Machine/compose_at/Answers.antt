@@ -8,7 +8,7 @@ use Rattle.desk_parts.specs.Settles.{Settles, GoesOn}
 use Rattle.desk_parts.specs.declared.work.Work.TheVariants.{Walk}
 use Rattle.desk_parts.proofs.WalkPlaces.{walking_at}
 use Rattle.desk_parts.proofs.Taking.{walk_at_job, walk_at_none}
-use Rattle.desk_machine.specs.OwnWork.{WalkLacks}
+use Rattle.desk_machine.specs.OwnWork.{WalkLacks, WalksOn}
 use Rattle.desk_machine.proofs.OwnTiles.{IsComposedAt, composed_at}
 use Rattle.desk_machine.proofs.machine.Machine.compose_at.Goals as goal
 
@@ -39,6 +39,9 @@ returns-clause-ok c = subst (λ s. OnOk c.compose_own-laid.result (GoesOn s (sta
 
 pub returns-clause-err : goal.returns-clause-err
 returns-clause-err c = subst (λ s. OnErr c.compose_own-laid.result (Settles s (state_of (after c)))) c.self.view_is (composed c).err
+
+pub returns-clause-walks : goal.returns-clause-walks
+returns-clause-walks c = subst (λ s. WalksOn s (state_of (after c))) c.self.view_is (composed c).walks
 
 pub unreachable-requires : goal.unreachable-requires
 unreachable-requires c = walk_at_job (parts c.self.inside.canvas c.self.inside.fed.items c.self.inside.queue c.self.inside.store c.self.inside.filmed.caches c.self.inside.updates c.self.inside.slots c.self.inside.filmed.frames c.self.inside.way c.self.inside.next) c.args.place _ c.requires.enabled.1.walker (sym c.clear.ensures.work ∙ c.in-Some-Paint.is ∙ ap Some c.in-Some-Paint.field-0-is) (ap (λ (s : State). slice_get s.slots c.args.place) c.self.view_is ∙ c.requires.enabled.1.runs)

@@ -1,0 +1,6 @@
+pub mod Values
+pub mod Steps
+pub mod Shots
+pub mod Tracking
+pub mod Telling
+pub mod Growing

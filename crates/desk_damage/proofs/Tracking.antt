@@ -1,0 +1,110 @@
+-- A machine goes on being tracked.
+use Rattle.std.proofs.Common.{◌≡◌, ℕ, ◌*◌, ◌+◌, ◌/◌, ◌<◌, true, false, ◌&&◌, List, [], ◌∷◌, Result, Ok, Err, OnOk, OnErr, Option, Some, None, is_some, nat_lt, sym, ap, ◌∙◌, subst, arith, ◌⊎◌, inl, inr}
+use Rattle.std.specs.Prelude.{slice_get, ℤ, pos, negsuc, ◌+ℤ◌, int_le, int_lt}
+use Rattle.std.specs.List.{list_all}
+use Rattle.std.proofs.lemmas.Bool.Decides.{nat_tests}
+use borrow.Author.Differences.{ints}
+use Rattle.geom_core.specs.Areas.{holds, Point, point}
+use Rattle.geom_core.specs.Overlaps.{any_holds}
+use Rattle.geom_core.specs.Grid.{key_of}
+use Rattle.geom_core.proofs.Tests.{taken, both_true, and_left, and_right}
+use Rattle.tile_core.specs.Marks.{on_canvas}
+use Rattle.tile_core.specs.Damage.{Parts, is_damaged}
+use Rattle.doc_model.specs.declared.job.Job.{Job}
+use Rattle.doc_model.specs.Jobs.{reads, writes}
+use Rattle.doc_model.specs.Shots.{shot_of}
+use Rattle.machine_model.specs.Effects.{layer_in}
+use Rattle.machine_model.specs.Walks.{walk_values}
+use Rattle.machine_model.specs.Walking.{WalkInside}
+use Rattle.doc_model.specs.Picture.{canvas_area}
+use Rattle.doc_model.proofs.QueueLaws.{in_grid}
+use Rattle.machine_model.specs.State.{Painter, Walker, Slot, Paints, Walks, State}
+use Rattle.machine_model.specs.Event.{Event, Start}
+use Rattle.machine_model.specs.Step.{Step, Run}
+use Rattle.machine_model.specs.Sound.{IsSound}
+use Rattle.machine_model.proofs.CanvasPoints.{canvas_grid}
+use Rattle.machine_model.proofs.Lists.{all_get, get_set}
+use Rattle.machine_model.proofs.RunsSound.{step_keeps_sound}
+use Rattle.desk_damage.specs.Fresh.{AreCached, cached_at, LeavesPoint, IsFresh, IsStill, Tracks}
+use Rattle.desk_damage.specs.Events.{is_quiet}
+use Rattle.desk_damage.proofs.Steps.{quiet_step, start_step, still_fresh}
+
+-- after a quiet event
+pub then_tracks : (old new : State) (e : Event) (d : Parts) → is_quiet e ≡ true → Step old e new → Tracks old d → Tracks new d
+then_tracks old new e d quiet step is = record { sound = step_keeps_sound old new e is.sound step; fresh = quiet_step old new e d is.sound step quiet is.fresh }
+
+-- or after nothing, where there was no memory
+pub result_tracks : {A E : Type 0} (r : Result A E) (old new : State) (e : Event) (d : Parts) → is_quiet e ≡ true → OnOk r (Step old e new) → OnErr r (new ≡ old) → Tracks old d → Tracks new d
+result_tracks (Ok x) old new e d quiet step same is = then_tracks old new e d quiet step is
+result_tracks (Err x) old new e d quiet step same is = subst (λ s. Tracks s d) (sym same) is
+
+-- after several
+pub run_tracks : (events : List Event) (old new : State) (d : Parts) → list_all is_quiet events ≡ true → Run old events new → Tracks old d → Tracks new d
+run_tracks [] old new d quiet run is = subst (λ s. Tracks s d) (sym run) is
+run_tracks (e ∷ events) old new d quiet run is = run_tracks events run.0 new d (and_right (is_quiet e) _ quiet) run.2 (then_tracks old run.0 e d (and_left (is_quiet e) _ quiet) run.1 is)
+
+few_tiles : (x : ℕ) → x < 2048 → nat_lt (x / 64) 32 ≡ true
+few_tiles x h = let few : x / 64 < 32 = omega arith in grind (arith, nat_tests)
+
+in_below : (x : ℕ) → (int_le (pos 0) (pos x) && int_lt (pos x) (pos 0 +ℤ pos 2048)) ≡ true → x < 2048
+in_below x h = grind (arith, ints)
+
+none_below : (x : ℕ) → (int_le (pos 0) (negsuc x) && int_lt (negsuc x) (pos 0 +ℤ pos 2048)) ≡ true → ⊥
+none_below x h = grind (arith, ints)
+
+-- a point of the largest canvas lies in one of its tiles
+grid_key : (x y : ℤ) → in_grid (point x y) ≡ true → on_canvas (key_of (point x y)) ≡ true
+grid_key (pos x) (pos y) h = ap is_some (taken (nat_lt (x / 64) 32 && nat_lt (y / 64) 32) (Some (32 * (y / 64) + x / 64)) None (both_true _ _ (few_tiles x (in_below x (and_left _ _ h))) (few_tiles y (in_below y (and_right _ _ h)))))
+grid_key (negsuc x) y h = absurd (none_below x (and_left _ (int_le (pos 0) y && int_lt y (pos 0 +ℤ pos 2048)) h))
+grid_key (pos x) (negsuc y) h = absurd (none_below y (and_right (int_le (pos 0) (pos x) && int_lt (pos x) (pos 0 +ℤ pos 2048)) _ h))
+
+pub canvas_key : (s : State) (p : Point) → IsSound s → holds (canvas_area s.canvas) p ≡ true → on_canvas (key_of p) ≡ true
+canvas_key s p sound inside = grid_key p.x p.y (canvas_grid s.canvas sound.orderly.counted.canvas p inside)
+
+-- where all is damaged, unless nothing is at work and nothing waits
+pub anew_tracks : (s : State) (d : Parts) → IsSound s → ((p : Point) → on_canvas (key_of p) ≡ true → is_damaged d p ≡ false → IsStill s) → Tracks s d
+anew_tracks s d sound still = record {
+  sound = sound;
+  fresh = λ p inside whole. let is : IsStill s = still p (canvas_key s p sound inside) whole in still_fresh s sound is.updates is.painters is.walkers p inside;
+}
+
+-- where damage is forgotten only then
+pub forgetful_tracks : (s : State) (d d' : Parts) → ((p : Point) → is_damaged d' p ≡ false → (is_damaged d p ≡ false) ⊎ IsStill s) → Tracks s d → Tracks s d'
+forgetful_tracks s d d' less is = record {
+  sound = is.sound;
+  fresh = λ p inside whole. elim (less p whole) [
+    | inl e ↦ is.fresh p inside e
+    | inr still ↦ still_fresh s is.sound still.updates still.painters still.walkers p inside
+  ];
+}
+
+-- a job starts, and what it writes is damaged
+pub start_tracks : (old new : State) (place : ℕ) (d d' : Parts) (w : Painter) → Step old (Start place) new → slice_get new.slots place ≡ Some (Paints w)
+    → ((p : Point) → on_canvas (key_of p) ≡ true → is_damaged d' p ≡ false → (is_damaged d p ≡ false) × (any_holds (writes w.job) p ≡ false)) → Tracks old d → Tracks new d'
+start_tracks old new place d d' w step at grows is = record {
+  sound = sound;
+  fresh = start_step old new place d d' step (λ p inside whole. (
+    (grows p (canvas_key new p sound inside) whole).0,
+    ap (λ (j : Job). any_holds (writes j) p) job ∙ (grows p (canvas_key new p sound inside) whole).1,
+  )) is.fresh;
+}
+  where
+    sound : IsSound new
+    sound = step_keeps_sound old new (Start place) is.sound step
+
+    job : step.job.1 ≡ w.job
+    job =
+        let placed = get_set old.slots place _ (Paints (record { serial = old.next; index = step.next; job = step.job.1; shot = shot_of (reads step.job.1) (layer_in step.stroke.layer old.present); published = [] })) step.free in
+        let same : Some (Paints (record { serial = old.next; index = step.next; job = step.job.1; shot = shot_of (reads step.job.1) (layer_in step.stroke.layer old.present); published = [] })) ≡ Some (Paints w) = sym placed ∙ ap (λ (s : State). slice_get s.slots place) (sym step.new_is) ∙ at in
+        ap job_in same
+      where
+        job_in : Option Slot → Job
+        job_in (Some (Paints v)) = v.job
+        job_in o = w.job
+
+-- the values of a walk at work are those of the caches
+pub walk_known : (s : State) (d : Parts) (place : ℕ) (w : Walker) (p : Point) → Tracks s d → slice_get s.slots place ≡ Some (Walks w) → holds w.patch.rect p ≡ true → is_damaged d p ≡ false
+    → AreCached (cached_at s.caches p) (walk_values w.shot [] p)
+walk_known s d place w p is at held whole =
+    let fresh : IsFresh s p = is.fresh p (all_get (WalkInside (canvas_area s.canvas)) s.slots place (Walks w) is.sound.inside at p held) whole in
+    all_get (LeavesPoint s.caches p) s.slots place (Walks w) fresh.leaves at held

@@ -1,0 +1,11 @@
+//! A machine beside what of its caches may be out of date, so that its walks compose that alone.
+#![tactic(auto)]
+
+mod asks;
+mod changes;
+mod events;
+mod known;
+mod shows;
+mod tracked;
+
+pub use tracked::TrackedMachine;
