@@ -1,5 +1,5 @@
 -- What is told of a walk as it starts, and runs that damage nothing.
-use Rattle.std.proofs.Common.{◌≡◌, ℕ, suc, zero, true, List, [], ◌∷◌, ◌++◌, take, Some, refl, sym, ◌∙◌, subst}
+use Rattle.std.proofs.Common.{Bool, ◌≡◌, ℕ, suc, zero, true, List, [], ◌∷◌, ◌++◌, take, Some, refl, sym, ◌∙◌, subst}
 use Rattle.std.specs.Prelude.{slice_get}
 use Rattle.std.specs.List.{list_all}
 use Rattle.geom_core.specs.Areas.{holds, Point}
@@ -16,17 +16,18 @@ use Rattle.walker_core.specs.Knowing.{is_stale, IsKnown}
 use Rattle.desk_machine.specs.Commits.{RunsFront, pair_events}
 use Rattle.desk_machine.specs.OwnWork.{WalksOn, is_walk_publish}
 use Rattle.desk_damage.specs.Events.{is_quiet}
-use Rattle.desk_damage.specs.Fresh.{AreCached, cached_at, Tracks}
+use Rattle.desk_damage.specs.Fresh.{AreCached, cached_at}
+use Rattle.desk_damage.specs.Tracking.{Tracks}
 use Rattle.desk_damage.specs.Shown.{ShowCaches}
 use Rattle.desk_damage.proofs.Shots.{show_values}
 use Rattle.desk_damage.proofs.Tracking.{run_tracks, walk_known}
 
 -- shots of the caches have the values of a walk at work, but on damaged parts
-pub ticket_known : (s : State) (d : Parts) (place : ℕ) (w : Walker) (r : Readings) (k : Known) → Tracks s d → slice_get s.slots place ≡ Some (Walks w) → w.patch ≡ r.patch → w.shot ≡ r.groups
+pub ticket_known : (s : State) (d : Parts) (b : Bool) (place : ℕ) (w : Walker) (r : Readings) (k : Known) → Tracks s d b → slice_get s.slots place ≡ Some (Walks w) → w.patch ≡ r.patch → w.shot ≡ r.groups
     → ((p : Point) → holds r.patch.rect p ≡ true → ShowCaches s.caches (path_in r) k.shots.items p) → ((p : Point) → holds r.patch.rect p ≡ true → is_stale k.damaged.items p ≡ is_damaged d p) → IsKnown r k
-ticket_known s d place w r k is at patch shot shots damaged = λ p h fresh. show_values s.caches r.groups k.shots.items [] p
+ticket_known s d b place w r k is at patch shot shots damaged = λ p h fresh. show_values s.caches r.groups k.shots.items [] p
     (subst (λ es. AreCached (cached_at s.caches p) (walk_values es [] p)) shot
-    (walk_known s d place w p is at (subst (λ (q : Patch). holds q.rect p ≡ true) (sym patch) h) (sym (damaged p h) ∙ fresh)))
+    (walk_known s d b place w p is at (subst (λ (q : Patch). holds q.rect p ≡ true) (sym patch) h) (sym (damaged p h) ∙ fresh)))
     (shots p h)
 
 -- tiles of a walk
@@ -42,11 +43,11 @@ quiet_commit place [] (suc zero) = refl
 quiet_commit place [] (suc (suc n)) = refl
 quiet_commit place (p ∷ ps) (suc n) = quiet_commit place ps n
 
-pub front_tracks : (place : ℕ) (ps : List (ℕ × Key)) (old new : State) (d : Parts) → RunsFront old (pair_events place ps) new → Tracks old d → Tracks new d
-front_tracks place ps old new d front is = run_tracks (take front.count (pair_events place ps)) old new d (quiet_front place ps front.count) front.run is
+pub front_tracks : (place : ℕ) (ps : List (ℕ × Key)) (old new : State) (d : Parts) (b : Bool) → RunsFront old (pair_events place ps) new → Tracks old d b → Tracks new d b
+front_tracks place ps old new d b front is = run_tracks (take front.count (pair_events place ps)) old new d b (quiet_front place ps front.count) front.run is
 
-pub commit_tracks : (place : ℕ) (ps : List (ℕ × Key)) (old new : State) (d : Parts) → RunsFront old (pair_events place ps ++ WalkEnd place ∷ []) new → Tracks old d → Tracks new d
-commit_tracks place ps old new d front is = run_tracks (take front.count (pair_events place ps ++ WalkEnd place ∷ [])) old new d (quiet_commit place ps front.count) front.run is
+pub commit_tracks : (place : ℕ) (ps : List (ℕ × Key)) (old new : State) (d : Parts) (b : Bool) → RunsFront old (pair_events place ps ++ WalkEnd place ∷ []) new → Tracks old d b → Tracks new d b
+commit_tracks place ps old new d b front is = run_tracks (take front.count (pair_events place ps ++ WalkEnd place ∷ [])) old new d b (quiet_commit place ps front.count) front.run is
 
 walk_is_quiet : (e : Event) → is_walk_publish e ≡ true → is_quiet e ≡ true
 walk_is_quiet (Feed c) h = refl
@@ -65,5 +66,5 @@ walks_are_quiet : (es : List Event) → list_all is_walk_publish es ≡ true →
 walks_are_quiet [] h = refl
 walks_are_quiet (e ∷ es) h = both_true (is_quiet e) _ (walk_is_quiet e (and_left (is_walk_publish e) _ h)) (walks_are_quiet es (and_right (is_walk_publish e) _ h))
 
-pub walks_track : (old new : State) (d : Parts) → WalksOn old new → Tracks old d → Tracks new d
-walks_track old new d on is = run_tracks on.events old new d (walks_are_quiet on.events on.walks) on.run is
+pub walks_track : (old new : State) (d : Parts) (b : Bool) → WalksOn old new → Tracks old d b → Tracks new d b
+walks_track old new d b on is = run_tracks on.events old new d b (walks_are_quiet on.events on.walks) on.run is

@@ -14,7 +14,6 @@ use Rattle.doc_model.specs.Picture.{Doc, canvas_area}
 use Rattle.machine_model.specs.State.{Slot, Free, Paints, Walks, State}
 use Rattle.machine_model.specs.Groups.{cache, with_pixels, nodes_in, folded}
 use Rattle.machine_model.specs.Slots.{no_painter, no_walker}
-use Rattle.machine_model.specs.Sound.{IsSound}
 use Rattle.machine_model.specs.Walks.{walk_values}
 
 -- values that were computed for groups are those of their caches
@@ -50,8 +49,3 @@ pub record IsStill (s : State) : Type 0 where
   pub updates : s.updates ≡ []
   pub painters : no_painter s ≡ true
   pub walkers : no_walker s ≡ true
-
--- the state is sound, and all points of the canvas but damaged ones are fresh
-pub record Tracks (s : State) (d : Parts) : Type 0 where
-  pub sound : IsSound s
-  pub fresh : IsTracked s d

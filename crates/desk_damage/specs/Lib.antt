@@ -1,3 +1,5 @@
 pub mod Fresh
+pub mod Calm
+pub mod Tracking
 pub mod Events
 pub mod Shown

@@ -15,7 +15,7 @@ ghost use Rattle.machine_model.specs.Step.{Run, Step};
 ghost use Rattle.machine_model.specs.UnderWay.{IsOnWay};
 ghost use Rattle.std.specs.Prelude.{IfOk, Ok, OnErr, OnOk, length, slice_get, true, ◌+◌, ◌-◌, ◌<◌, ◌^◌, ◌≡◌};
 
-use crate::changes::{begin_anew, damage_all, forget};
+use crate::changes::{begin_anew, damage_all, forget, forget_in, renewed};
 use crate::known::known_of;
 use crate::tracked::TrackedMachine;
 use desk_machine::{PaintTicket, SlotId, WalkTicket};
@@ -64,6 +64,7 @@ impl TrackedMachine {
         let ticket = self.machine.start(place)?;
         let writes = ticket.work.writes();
         damage_all(&mut self.damage, writes.as_slice());
+        self.calm = false;
         Ok(ticket)
     }
 
@@ -118,6 +119,7 @@ impl TrackedMachine {
         ensures counts { steps.new ≡ steps.old + steps_of self.old Cancel }
     {
         self.machine.cancel(steps);
+        self.calm = false;
         begin_anew(&self.machine, &mut self.damage);
     }
 
@@ -134,6 +136,7 @@ impl TrackedMachine {
         ensures takes { OnErr result (takes_memory (head self.old) Act ≡ true) }
     {
         self.machine.act(steps)?;
+        self.calm = false;
         begin_anew(&self.machine, &mut self.damage);
         Ok(())
     }
@@ -145,7 +148,9 @@ impl TrackedMachine {
         ensures ticket { IfOk result (λ t. IsWalkTicket t self.new) }
         ensures err { OnErr result (self.new ≡ self.old) }
     {
+        let calm = self.calm || self.machine.busy_place().is_none();
         let mut ticket = self.machine.start_walk(place)?;
+        self.calm = calm;
         match known_of(
             self.alloc,
             &ticket.inputs,
@@ -219,7 +224,10 @@ impl TrackedMachine {
         requires { Enabled self.old (WalkEnd place) }
         ensures { Step self.old (WalkEnd place) self.new }
     {
+        let canvas = self.machine.canvas().rect();
+        let renewed = renewed(&self.machine, self.calm, place);
         self.machine.end_walk(place);
+        forget_in(&canvas, &mut self.damage, &renewed);
         forget(&self.machine, &mut self.damage);
     }
 }

@@ -20,6 +20,9 @@ pub struct TrackedMachine {
     pub(crate) alloc: Global,
     pub(crate) machine: Machine,
     pub(crate) damage: Box<Damage>,
+    /// Whether it is known that no job is at work, and that none has begun since the walks at work
+    /// did.
+    pub(crate) calm: bool,
 }
 
 impl Model for TrackedMachine {
@@ -30,11 +33,11 @@ impl Model for TrackedMachine {
 
     ghost coded = { state_code };
 
-    ghost use Rattle.desk_damage.specs.Fresh.{Tracks};
+    ghost use Rattle.desk_damage.specs.Tracking.{Tracks};
 
     ghost view = { λ t. t.machine };
 
-    ghost invariant = { λ t. Tracks t.machine t.damage.value };
+    ghost invariant = { λ t. Tracks t.machine t.damage.value t.calm };
 }
 
 impl TrackedMachine {
@@ -52,6 +55,7 @@ impl TrackedMachine {
             alloc,
             machine,
             damage,
+            calm: false,
         })
     }
 

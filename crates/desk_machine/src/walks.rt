@@ -1,7 +1,7 @@
 //! Walks, which compose groups anew.
 
 ghost use Rattle.std.specs.Prelude.{◌≡◌, OnErr, IfOk, IfSome, IfNone, Some, false, slice_get};
-ghost use Rattle.machine_model.specs.State.{head_stroke, Free};
+ghost use Rattle.machine_model.specs.State.{Walker as At, head_stroke, Free, Walks};
 ghost use Rattle.machine_model.specs.Guards.{is_exclusive};
 ghost use Rattle.machine_model.specs.Event.{WalkStart};
 ghost use Rattle.machine_model.specs.Step.{Step};
@@ -55,6 +55,17 @@ impl Machine {
         match self.head_stroke() {
             Some(head) => head.exclusive && self.way.is_some(),
             None => false,
+        }
+    }
+
+    /// The patch of the walk in a slot.
+    pub fn walk_patch(&self, place: u8) -> Option<Patch>
+        ensures { (w : At) → slice_get self.now.slots place ≡ Some (Walks w) → result ≡ Some w.patch }
+    {
+        match self.slots.work(place) {
+            Some(Work::Walk(walker)) => Some(walker.inputs.patch()),
+            Some(Work::Paint(_)) => None,
+            None => None,
         }
     }
 
