@@ -1,5 +1,5 @@
 -- What composes what is there goes on to do so, and leaves fresh points.
-use Rattle.std.proofs.Common.{Option, None, is_some, ◌≡◌, ◌≢◌, ℕ, suc, zero, Bool, true, false, ◌||◌, ◌&&◌, cond, List, [], ◌∷◌, map, Some, refl, sym, ap, ◌∙◌, arith, eqb, subst, ◌⊎◌, inl, inr}
+use Rattle.std.proofs.Common.{Option, None, is_some, ◌≡◌, ◌≢◌, ℕ, suc, zero, Bool, true, false, ◌||◌, ◌&&◌, cond, List, [], ◌∷◌, map, Some, refl, sym, ap, ◌∙◌, arith, eqb, subst, inl, inr}
 use Rattle.std.specs.Prelude.{IfNone, slice_get, slice_set, not}
 use Rattle.std.specs.Ordering.{nat_cmp}
 use Rattle.std.specs.FinMap.{FinMap}
@@ -10,21 +10,20 @@ use Rattle.geom_core.specs.Areas.{Area, holds, meets, Point}
 use Rattle.geom_core.specs.Grid.{Key, key_of, keys_of, same_key}
 use Rattle.geom_core.proofs.Common.{meets_held}
 use Rattle.geom_core.proofs.Keys.{key_of_held}
-use Rattle.geom_core.proofs.Tests.{not_true, and_left, and_right, both_true, or_cases, or_left, or_right, taken}
+use Rattle.geom_core.proofs.Tests.{not_true, and_left, and_right, or_cases, or_left, or_right}
 use Rattle.doc_model.specs.declared.canvas.Patch.{Patch}
 use Rattle.doc_model.specs.declared.canvas.Walk.TheVariants.{All}
 use Rattle.doc_model.specs.Layers.{Layer, at}
 use Rattle.doc_model.specs.Picture.{Doc}
 use Rattle.doc_model.specs.Forest.{none, paint, group}
 use Rattle.doc_model.specs.Ids.{IsTree}
-use Rattle.doc_model.specs.Shots.{in_tile}
 use Rattle.doc_model.specs.Strokes.{Stroke}
 use Rattle.doc_model.proofs.Parents.{side}
 use Rattle.doc_model.proofs.Paths.{Orderly}
 use Rattle.doc_model.proofs.Shots.{at-shot_of}
 use Rattle.machine_model.specs.State.{Child, Walker, Slot, Free, Paints, Walks, State, is_free}
 use Rattle.machine_model.specs.Event.{Event, Feed, Init, Start, Publish, End, Finish, Cancel, Act, WalkStart, WalkPublish, WalkEnd}
-use Rattle.machine_model.specs.Step.{Step, WalkStartStep, WalkPublishStep, WalkEndStep}
+use Rattle.machine_model.specs.Step.{Step, WalkPublishStep, WalkEndStep}
 use Rattle.machine_model.specs.Slots.{is_painter, no_painter}
 use Rattle.machine_model.specs.Groups.{with_pixels, nodes_in, children_of, folded, on, path_of}
 use Rattle.machine_model.specs.Guards.{same_pair, is_paint}
@@ -36,12 +35,12 @@ use Rattle.machine_model.specs.Walking.{SameChildren, WalkStands}
 use Rattle.machine_model.specs.Walks.{walk_value, walk_values, looked_up, walk_shot, cut_child, shots_of}
 use Rattle.machine_model.proofs.Covers.{any_found, any_set_same}
 use Rattle.machine_model.proofs.EffectsHold.{walk_stays_in_tile}
-use Rattle.machine_model.proofs.Lists.{all_set, all_get, all_map, set_cases}
+use Rattle.machine_model.proofs.Lists.{all_set, all_get, set_cases}
 use Rattle.machine_model.proofs.Sharing.{walks_never_meet}
 use Rattle.machine_model.proofs.StateTrees.{present_tree}
 use Rattle.machine_model.proofs.WalkFolds.{walk_settles, Ordered, ComposedBefore, OnPathCached, Distinct as DistinctShots}
 use Rattle.machine_model.proofs.WalkPaths.{grouped, path_all, path_orderly_of}
-use Rattle.desk_damage.specs.Fresh.{cached_at, LeavesPoint, Fresh, IsFresh}
+use Rattle.desk_damage.specs.Fresh.{cached_at, LeavesPoint, IsFresh}
 use Rattle.desk_damage.specs.Calm.{ReadsNow, IsRipe, IsCalm}
 use Rattle.desk_damage.specs.Events.{is_quiet}
 use Rattle.desk_damage.proofs.Values.{firsts, on_path_cached, paint_off_path}

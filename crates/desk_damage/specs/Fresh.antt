@@ -1,5 +1,5 @@
 -- Points at which no cache is out of date.
-use Rattle.std.specs.Prelude.{◌≡◌, ℕ, ◌==◌, ◌||◌, true, false, List, [], ◌∷◌}
+use Rattle.std.specs.Prelude.{Bool, ◌≡◌, ℕ, ◌==◌, ◌||◌, true, false, List, [], ◌∷◌}
 use Rattle.std.specs.Ordering.{nat_cmp}
 use Rattle.std.specs.FinMap.{FinMap}
 use Rattle.std.specs.List.{AllByRecursion}
@@ -7,6 +7,8 @@ use Rattle.pixel_core.specs.Rgba.{Rgba, clear}
 use Rattle.geom_core.specs.Areas.{holds, Point}
 use Rattle.geom_core.specs.Overlaps.{any_holds}
 use Rattle.tile_core.specs.Damage.{Parts, is_damaged}
+use Rattle.tile_core.specs.Marks.{on_canvas}
+use Rattle.geom_core.specs.Grid.{key_of}
 use Rattle.doc_model.specs.Forest.{is_group}
 use Rattle.doc_model.specs.Jobs.{writes}
 use Rattle.doc_model.specs.Layers.{Layer, at}
@@ -43,6 +45,10 @@ IsFresh s p = Fresh s.present s.caches s.slots p
 -- all points of the canvas but damaged ones are fresh
 abbrev pub IsTracked : State → Parts → Type 0
 IsTracked s d = (p : Point) → holds (canvas_area s.canvas) p ≡ true → is_damaged d p ≡ false → IsFresh s p
+
+-- where it is known that all is damaged, all points of the largest canvas are
+abbrev pub IsAll : Bool → Parts → Type 0
+IsAll known d = (p : Point) → known ≡ true → on_canvas (key_of p) ≡ true → is_damaged d p ≡ true
 
 -- nothing is at work, and nothing waits to be composed
 pub record IsStill (s : State) : Type 0 where

@@ -1,45 +1,35 @@
-//! How damage grows, and where it is forgotten.
+//! Where damage is begun anew, and where it is forgotten.
 
 ghost use Rattle.std.specs.Prelude.{◌≡◌, ◌⊎◌, true, false, IfSome, IsSomeAnd};
 ghost use Rattle.geom_core.specs.Areas.{holds, Point};
 ghost use Rattle.geom_core.specs.Grid.{key_of};
-ghost use Rattle.geom_core.specs.Overlaps.{any_holds};
 ghost use Rattle.tile_core.specs.Marks.{on_canvas};
 ghost use Rattle.tile_core.specs.Damage.{is_damaged};
 ghost use Rattle.desk_damage.specs.Calm.{IsRenewed};
 ghost use Rattle.desk_damage.specs.Fresh.{IsStill};
 
+use crate::spread::Spread;
 use desk_machine::Machine;
 use doc_model::Walk;
 use geom_core::Rect;
-use tile_core::Damage;
-
-/// The points of the rectangles are damaged too.
-pub(crate) fn damage_all(damage: &mut Damage, rects: &[Rect])
-    ensures { (p : Point) → on_canvas (key_of p) ≡ true → is_damaged damage.new p ≡ false → (is_damaged damage.old p ≡ false) × (any_holds rects.now p ≡ false) }
-{
-    for rect in rects {
-        damage.add(rect);
-    }
-}
 
 /// All is damaged, or nothing where nothing is at work and nothing waits to be composed.
-pub(crate) fn begin_anew(machine: &Machine, damage: &mut Damage)
+pub(crate) fn begin_anew(machine: &Machine, damage: &mut Spread)
     ensures { (p : Point) → on_canvas (key_of p) ≡ true → is_damaged damage.new p ≡ false → IsStill machine.now }
 {
     if machine.is_resting() {
-        *damage = Damage::none();
+        damage.clear();
     } else {
-        *damage = Damage::all();
+        damage.fill();
     }
 }
 
 /// Where nothing is at work and nothing waits to be composed, nothing is damaged any more.
-pub(crate) fn forget(machine: &Machine, damage: &mut Damage)
+pub(crate) fn forget(machine: &Machine, damage: &mut Spread)
     ensures { (p : Point) → is_damaged damage.new p ≡ false → (is_damaged damage.old p ≡ false) ⊎ IsStill machine.now }
 {
     if machine.is_resting() {
-        *damage = Damage::none();
+        damage.clear();
     }
 }
 
@@ -56,25 +46,10 @@ pub(crate) fn renewed(machine: &Machine, calm: bool, place: u8) -> Option<Rect>
 
 /// In a rectangle, if there is one, nothing on the canvas is damaged any more, but where a tile has a
 /// damaged part that goes beyond it.
-pub(crate) fn forget_in(canvas: &Rect, damage: &mut Damage, renewed: &Option<Rect>)
+pub(crate) fn forget_in(canvas: &Rect, damage: &mut Spread, renewed: &Option<Rect>)
     ensures { (p : Point) → holds canvas.now p ≡ true → on_canvas (key_of p) ≡ true → is_damaged damage.new p ≡ false → (is_damaged damage.old p ≡ false) ⊎ (IsSomeAnd renewed.now (λ a. holds a p ≡ true)) }
 {
     if let Some(rect) = renewed {
-        *damage = damage_beyond(canvas, damage, rect);
+        damage.clear_in(canvas, rect);
     }
-}
-
-/// The damaged parts that go beyond a rectangle, on the tiles of the canvas.
-fn damage_beyond(canvas: &Rect, damage: &Damage, rect: &Rect) -> Damage
-    ensures { (p : Point) → holds canvas.now p ≡ true → on_canvas (key_of p) ≡ true → is_damaged result p ≡ false → (is_damaged damage.now p ≡ false) ⊎ (holds rect.now p ≡ true) }
-{
-    let mut left = Damage::none();
-    for i in 0..canvas.tile_count() {
-        if let Some(part) = damage.part(canvas.tile_at(i)) {
-            if !part.lies_in(rect) {
-                left.add(&part);
-            }
-        }
-    }
-    left
 }

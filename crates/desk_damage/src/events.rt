@@ -15,7 +15,7 @@ ghost use Rattle.machine_model.specs.Step.{Run, Step};
 ghost use Rattle.machine_model.specs.UnderWay.{IsOnWay};
 ghost use Rattle.std.specs.Prelude.{IfOk, Ok, OnErr, OnOk, length, slice_get, true, ◌+◌, ◌-◌, ◌<◌, ◌^◌, ◌≡◌};
 
-use crate::changes::{begin_anew, damage_all, forget, forget_in, renewed};
+use crate::changes::{begin_anew, forget, forget_in, renewed};
 use crate::known::known_of;
 use crate::tracked::TrackedMachine;
 use desk_machine::{PaintTicket, SlotId, WalkTicket};
@@ -63,7 +63,7 @@ impl TrackedMachine {
     {
         let ticket = self.machine.start(place)?;
         let writes = ticket.work.writes();
-        damage_all(&mut self.damage, writes.as_slice());
+        self.damage.add_all(writes.as_slice());
         self.calm = false;
         Ok(ticket)
     }

@@ -10,13 +10,14 @@ ghost use Rattle.walker_core.specs.Readings.{path_in};
 ghost use Rattle.desk_damage.specs.Fresh.{cached_at};
 ghost use Rattle.desk_damage.specs.Shown.{ShowCaches};
 
+use crate::spread::Spread;
 use geom_core::{NoMemory, Rect};
 use group_caches::Caches;
 use paint_device::Device;
 use pixel_core::Pixel;
 use std::alloc::Global;
 use std::slice;
-use tile_core::{Damage, Shot};
+use tile_core::Shot;
 use walker_core::{Damaged, Inputs, Known};
 
 /// The caches of a walk's groups on its patch, and the damaged parts of the patch's tiles. Tiles are
@@ -25,7 +26,7 @@ pub(crate) fn known_of(
     alloc: Global,
     inputs: &Inputs,
     caches: &Caches,
-    damage: &Damage,
+    damage: &Spread,
 ) -> Result<Known, NoMemory>
     ensures shots { IfOk result (λ k. (p : Point) → holds inputs.now.patch.rect p ≡ true → ShowCaches caches.now (path_in inputs.now) k.shots.items p) }
     ensures damaged { IfOk result (λ k. (p : Point) → holds inputs.now.patch.rect p ≡ true → is_stale k.damaged.items p ≡ is_damaged damage.now p) }
@@ -66,7 +67,7 @@ fn shot_of(alloc: Global, group: u16, caches: &Caches, rect: &Rect) -> Result<Sh
 }
 
 /// The damaged parts of the tiles that a rectangle meets.
-fn damaged_on(alloc: Global, damage: &Damage, rect: &Rect) -> Result<Vec<Damaged>, NoMemory>
+fn damaged_on(alloc: Global, damage: &Spread, rect: &Rect) -> Result<Vec<Damaged>, NoMemory>
     ensures { IfOk result (λ parts. (p : Point) → holds rect.now p ≡ true → is_stale parts.items p ≡ is_damaged damage.now p) }
 {
     let mut parts = Vec::new(alloc);

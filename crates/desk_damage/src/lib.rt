@@ -6,6 +6,7 @@ mod changes;
 mod events;
 mod known;
 mod shows;
+mod spread;
 mod tracked;
 
 pub use tracked::TrackedMachine;

@@ -5,12 +5,12 @@ ghost use Rattle.doc_model.specs.Canvases.{IsOfLimits};
 ghost use Rattle.machine_model.specs.State.{new_state};
 
 use crate::changes::begin_anew;
+use crate::spread::Spread;
 use desk_machine::Machine;
 use doc_model::Canvas;
 use geom_core::NoMemory;
 use std::alloc::Global;
 use std::marker::Model;
-use tile_core::Damage;
 
 /// A machine, and of each tile of its canvas the part at which a group's cache may be out of date. All
 /// other points are up to date, and nothing at work will change them: so a walk composes the damaged
@@ -19,7 +19,7 @@ use tile_core::Damage;
 pub struct TrackedMachine {
     pub(crate) alloc: Global,
     pub(crate) machine: Machine,
-    pub(crate) damage: Box<Damage>,
+    pub(crate) damage: Box<Spread>,
     /// Whether it is known that no job is at work, and that none has begun since the walks at work
     /// did.
     pub(crate) calm: bool,
@@ -49,7 +49,7 @@ impl TrackedMachine {
         ensures { IfOk result (λ d. d ≡ new_state canvas slots) }
     {
         let machine = Machine::new(alloc, canvas, slots)?;
-        let mut damage = Box::new(alloc, Damage::none())?;
+        let mut damage = Box::new(alloc, Spread::none())?;
         begin_anew(&machine, &mut damage);
         Ok(TrackedMachine {
             alloc,

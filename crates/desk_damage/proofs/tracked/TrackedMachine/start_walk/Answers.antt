@@ -4,7 +4,6 @@ use Rattle.geom_core.specs.Areas.{Point, holds}
 use Rattle.tile_core.specs.Damage.{is_damaged}
 use Rattle.walker_core.specs.Readings.{path_in}
 use Rattle.machine_model.specs.Event.{WalkStart}
-use Rattle.desk_damage.specs.Calm.{IsCalm}
 use Rattle.desk_damage.specs.Shown.{ShowCaches}
 use Rattle.desk_damage.proofs.Ripe.{free_calm, where_none}
 use Rattle.desk_damage.proofs.Tracking.{calm_tracks, then_tracks}

@@ -4,7 +4,7 @@ use Rattle.geom_core.specs.Grid.{key_of}
 use Rattle.geom_core.specs.Overlaps.{any_holds}
 use Rattle.tile_core.specs.Marks.{on_canvas}
 use Rattle.tile_core.specs.Damage.{is_damaged}
-use Rattle.desk_damage.proofs.changes.damage_all.Given as goal
+use Rattle.desk_damage.proofs.spread.damage_all.Given as goal
 
 -- the points of the rectangles so far are damaged, and those that were
 abbrev pub invariant-loop-rect : goal.invariant-loop-rect

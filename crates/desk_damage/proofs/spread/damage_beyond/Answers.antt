@@ -2,8 +2,8 @@ use Rattle.std.proofs.Common.{arith, subst, ◌∙◌, sym, ◌+◌, take}
 use Rattle.geom_core.specs.Grid.{keys_of}
 use Rattle.geom_core.proofs.Bounds.{lies_held}
 use Rattle.desk_damage.proofs.Forgetting.{LeftOn, left_none, left_out, left_kept, left_whole}
-use Rattle.desk_damage.proofs.changes.damage_beyond.Goals as goal
-use Rattle.desk_damage.proofs.changes.damage_beyond.Goals.{in-Some+then-not-lies_in, in-Some+else-not-lies_in, in_default}
+use Rattle.desk_damage.proofs.spread.damage_beyond.Goals as goal
+use Rattle.desk_damage.proofs.spread.damage_beyond.Goals.{in-Some+then-not-lies_in, in-Some+else-not-lies_in, in_default}
 
 pub loop-i-preserved : goal.loop-i-preserved
 loop-i-preserved c = elim c.match-part.branch [
