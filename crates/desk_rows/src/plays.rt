@@ -147,7 +147,8 @@ fn take<L: Ledger>(
     Ok(took)
 }
 
-/// Whether a publish by one ticket, for the work of another, has that answer.
+/// Whether a publish by one ticket, for the work of another, has that answer. After `Nothing` the desk tells
+/// what it told.
 fn publishes(
     alloc: Global,
     desk: &mut Desk,
@@ -161,7 +162,9 @@ fn publishes(
         return Ok(false);
     }
     let slot = held[of].slot();
-    Ok(held[by].publish(alloc, desk, slot, group, ORIGIN)? == answer)
+    let before = told(desk);
+    let answered = held[by].publish(alloc, desk, slot, group, ORIGIN)?;
+    Ok(answered == answer && (answered != Published::Nothing || told(desk) == before))
 }
 
 /// Whether a walk of one ticket, committed for the work of another, has that answer.
