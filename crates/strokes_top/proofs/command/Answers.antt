@@ -1,0 +1,7 @@
+use Rattle.std.proofs.Common.{IfOk, subst, sym}
+use Rattle.strokes_top.specs.Output.{ShowsFor}
+use Rattle.strokes_top.proofs.command.painted.Goals as goal
+
+-- the live view is that of a reader
+pub returns-in-Live-clause-shows : goal.returns-in-Live-clause-shows
+returns-in-Live-clause-shows g c = subst (λ e. IfOk c.viewed.result (λ s. ShowsFor e c.args.script.now s.film s.outcomes.items)) (sym c.in-Live.is) c.viewed.ensures.shows
