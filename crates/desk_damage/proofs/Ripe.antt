@@ -302,14 +302,14 @@ end_fresh old new place w p sound step calm here whole h = subst (λ s. IsFresh 
     settles = walk_settles (cached_at old.caches p) (children_of old) (firsts w.shot) p w.shot [] tt
         (ordered_from (firsts w.shot) [] old w.shot (λ c. refl) orderly stands.2) (distinct_from old w.shot orderly) stands.2
         (all_on (λ (e : ℕ × List Child). OnPathCached (firsts w.shot) (cached_at old.caches p) (children_of old e.0) p) w.shot (λ e on'. on_path_cached (firsts w.shot) old.caches (nodes_in e.0 old.present) p
-            (λ c child. ap (on c) stands.1 ∙ paint_off_path c e.0 w.patch.walk old.present tree stands.0 child)))
+        (λ c child. ap (on c) stands.1 ∙ paint_off_path c e.0 w.patch.walk old.present tree stands.0 child)))
         (all_both (λ (e : ℕ × List Child). on e.0 (firsts w.shot) ≡ true) (λ (e : ℕ × List Child). ReadsNow old.present old.caches w e.0 e.1 p) (λ (e : ℕ × List Child). cached_at old.caches p e.0 ≡ looked_up (walk_values w.shot [] p) e.0) w.shot
-            (λ e on' r. r.published (done e.0 on') ∙ looked w.shot e.0 p) (all_on (λ (e : ℕ × List Child). on e.0 (firsts w.shot) ≡ true) w.shot (λ e on'. on')) reads)
+        (λ e on' r. r.published (done e.0 on') ∙ looked w.shot e.0 p) (all_on (λ (e : ℕ × List Child). on e.0 (firsts w.shot) ≡ true) w.shot (λ e on'. on')) reads)
 
     folds : (g : ℕ) → grouped g old.present ≡ true → cached_at old.caches p g ≡ folded (children_of old g) p clear
     folds g is = all_pick (λ c. cached_at old.caches p c ≡ folded (children_of old c) p clear) w.shot g
         (all_both (λ (e : ℕ × List Child). SamePixels (firsts w.shot) e.1 (children_of old e.0) p → cached_at old.caches p e.0 ≡ folded (children_of old e.0) p clear) (λ (e : ℕ × List Child). ReadsNow old.present old.caches w e.0 e.1 p)
-            (λ (e : ℕ × List Child). cached_at old.caches p e.0 ≡ folded (children_of old e.0) p clear) w.shot (λ e f r. f r.current) settles reads)
+        (λ (e : ℕ × List Child). cached_at old.caches p e.0 ≡ folded (children_of old e.0) p clear) w.shot (λ e f r. f r.current) settles reads)
         (ap (on g) (stands.1 ∙ ap (λ k. path_of k old.present) whole) ∙ path_all g old.present is)
 
     other : (i : ℕ) (slot : Slot) → (i ≢ place) → slice_get old.slots i ≡ Some slot → LeavesPoint old.caches p slot

@@ -17,4 +17,4 @@ invariant_of-self c = forgetful_tracks c.end_walk.new.self c.forget_in.new.damag
     (subst (λ ps. (p : Point) → is_damaged c.forget.new.damage p ≡ false → (is_damaged ps p ≡ false) ⊎ IsStill c.end_walk.new.self) c.deref_mut-2.ensures.value c.forget.ensures)
     (renewed_tracks c.self.inside.machine c.end_walk.new.self c.args.place c.self.inside.damage.value c.forget_in.new.damage c.self.inside.calm c.renewed-renewed.result c.renewed-renewed.ensures c.end_walk.ensures
     (λ p inside on whole. subst (λ ps. (is_damaged ps p ≡ false) ⊎ (IsSomeAnd c.renewed-renewed.result (λ a. holds a p ≡ true))) c.deref_mut.ensures.value
-        (c.forget_in.ensures p (ap (λ a. holds a p) (c.rect-canvas.ensures ∙ ap canvas_area (c.canvas.ensures ∙ sym (end_canvas c.self.inside.machine c.end_walk.new.self c.args.place c.end_walk.ensures))) ∙ inside) on whole)) c.self.invariant)
+    (c.forget_in.ensures p (ap (λ a. holds a p) (c.rect-canvas.ensures ∙ ap canvas_area (c.canvas.ensures ∙ sym (end_canvas c.self.inside.machine c.end_walk.new.self c.args.place c.end_walk.ensures))) ∙ inside) on whole)) c.self.invariant)
