@@ -8,16 +8,17 @@ use crate::calls::{Took, end_walk, put_job, put_rows, take};
 use crate::feeding::feed_ahead;
 use crate::pieces::{Piece, Walking};
 use crate::work::{Rows, TakenJob, Tiles, Work};
-use desk_core::{Desk, Ended, Published, SlotId, WalkTicket};
+use desk_core::{Desk, Ended, Published};
 use geom_core::NoMemory;
 use memento_core::Steps;
 use script_text::Script;
+use stamp_core::Naming;
+use stamped_desk::{StampedDesk, StampedTiles, StampedWalk};
 use std::alloc::Global;
 use std::marker::{Brand, PhantomData};
 use std::sync::Arc;
 use std::sync::ledger::Ledger;
 use walker_core::Composed;
-use whole_tiles::Whole;
 
 /// From how many points on work is worth waking another thread for what is left beside it.
 const WORTH_TWO: u64 = 7_500;
@@ -34,17 +35,17 @@ impl Following for Brand {
 /// A desk whose canvas is the script's and whose commands begin the script, and what is known of the
 /// threads.
 #[derive(Drop)]
-pub(crate) struct Board<J: Following> {
+pub(crate) struct Board<J: Following + Naming> {
     alloc: Global,
-    desk: Desk,
+    desk: StampedDesk<J>,
     /// The caller's thread and those of the workers.
     threads: usize,
     /// The jobs that several threads paint.
-    pieces: Vec<Piece>,
+    pieces: Vec<Piece<J>>,
     /// How many jobs were taken and not published.
     jobs: usize,
     /// The walks that were taken and aren't ended.
-    walks: Vec<Walking>,
+    walks: Vec<Walking<J>>,
     /// Whether another job could start beside the one that was taken last.
     run_goes_on: bool,
     /// How many threads sleep.
@@ -58,27 +59,27 @@ pub(crate) struct Board<J: Following> {
 
 /// What a thread has to do.
 #[derive(Drop)]
-pub(crate) struct Part {
-    pub(crate) work: Work,
+pub(crate) struct Part<J: Naming> {
+    pub(crate) work: Work<J>,
     /// Whether something is left at once that is worth another thread.
     pub(crate) leaves: bool,
 }
 
 /// What is to be done with the tiles that a thread brought.
 #[derive(Drop)]
-pub(crate) enum Brought {
+pub(crate) enum Brought<J: Naming> {
     /// Nothing: some tiles of the job are missing.
     Kept,
     /// All tiles are there: the gate is entered, and then they are published.
-    All(Arc<TakenJob, Global>, Vec<Whole>),
+    All(Arc<TakenJob<J>, Global>, StampedTiles<J>),
     /// The threads stop.
     Over,
 }
 
 /// One look at the board.
 #[derive(Drop)]
-pub(crate) enum Next {
-    Part(Part),
+pub(crate) enum Next<J: Naming> {
+    Part(Part<J>),
     /// An event was made; more may be there.
     Again,
     /// Others have all the work that can be done now.
@@ -87,9 +88,9 @@ pub(crate) enum Next {
     Stop,
 }
 
-impl<J: Following> Board<J> {
+impl<J: Following + Naming> Board<J> {
     /// A board on which nothing is at work.
-    pub(crate) fn new(alloc: Global, desk: Desk, threads: usize) -> Board<J>
+    pub(crate) fn new(alloc: Global, desk: StampedDesk<J>, threads: usize) -> Board<J>
         requires canvas { desk.canvas ≡ J.script.canvas }
         requires front { IsFront desk.fed J.script.commands }
     {
@@ -109,7 +110,7 @@ impl<J: Following> Board<J> {
 
     /// The desk.
     pub(crate) fn desk(&self) -> &Desk {
-        &self.desk
+        self.desk.desk()
     }
 
     /// The desk on its own.
@@ -118,11 +119,11 @@ impl<J: Following> Board<J> {
         ensures front { IsFront result.fed J.script.commands }
     {
         let Board { desk, .. } = self;
-        desk
+        desk.into_desk()
     }
 
     /// Tiles of work under way, or new work, or one event. Where that can't be done, the threads are to stop.
-    pub(crate) fn look<L: Ledger>(&mut self, script: &Script, steps: &mut Steps<L>) -> Next
+    pub(crate) fn look<L: Ledger>(&mut self, script: &Script, steps: &mut Steps<L>) -> Next<J>
         requires { script.now ≡ J.script }
     {
         if self.is_over {
@@ -143,7 +144,7 @@ impl<J: Following> Board<J> {
     }
 
     /// Tiles of work under way.
-    fn join(&mut self) -> Result<Option<Part>, NoMemory> {
+    fn join(&mut self) -> Result<Option<Part<J>>, NoMemory> {
         for piece in &mut self.pieces {
             if piece.is_open() {
                 let tiles = piece.give()?;
@@ -157,7 +158,7 @@ impl<J: Following> Board<J> {
     }
 
     /// Tiles of a walk under way.
-    fn join_walk(&mut self) -> Result<Option<Part>, NoMemory> {
+    fn join_walk(&mut self) -> Result<Option<Part<J>>, NoMemory> {
         for walk in &mut self.walks {
             if walk.is_open() {
                 let rows = walk.give()?;
@@ -172,13 +173,17 @@ impl<J: Following> Board<J> {
 
     /// New work, or one event. While jobs are at work for which the head waits nothing is composed: what they
     /// change would be composed again.
-    fn take<L: Ledger>(&mut self, script: &Script, steps: &mut Steps<L>) -> Result<Next, NoMemory>
+    fn take<L: Ledger>(
+        &mut self,
+        script: &Script,
+        steps: &mut Steps<L>,
+    ) -> Result<Next<J>, NoMemory>
         requires { script.now ≡ J.script }
     {
         if !feed_ahead(&mut self.desk, script) {
             return Err(NoMemory);
         }
-        if self.jobs > 0 && !self.desk.head_may_go() {
+        if self.jobs > 0 && !self.desk.desk().head_may_go() {
             return Ok(Next::Wait);
         }
         match take(self.alloc, &mut self.desk, steps)? {
@@ -191,14 +196,14 @@ impl<J: Following> Board<J> {
     }
 
     /// Some tiles of a new job, or all.
-    fn begin_job(&mut self, job: TakenJob) -> Result<Next, NoMemory> {
+    fn begin_job(&mut self, job: TakenJob<J>) -> Result<Next<J>, NoMemory> {
         self.jobs = self.jobs.saturating_add(1);
         let job = Arc::new(self.alloc, job)?;
         if Piece::is_worth(&job, self.threads) {
             return self.begin_piece(job);
         }
         let is_first = !self.run_goes_on;
-        self.run_goes_on = self.desk.head_may_go();
+        self.run_goes_on = self.desk.desk().head_may_go();
         let leaves = self.run_goes_on && (is_first || job.load > WORTH_TWO);
         let to = job.painting.tile_count();
         let tiles = Tiles {
@@ -214,8 +219,8 @@ impl<J: Following> Board<J> {
     }
 
     /// The first tiles of a new job that several threads paint.
-    fn begin_piece(&mut self, job: Arc<TakenJob, Global>) -> Result<Next, NoMemory> {
-        self.run_goes_on = self.desk.head_may_go();
+    fn begin_piece(&mut self, job: Arc<TakenJob<J>, Global>) -> Result<Next<J>, NoMemory> {
+        self.run_goes_on = self.desk.desk().head_may_go();
         let mut piece = Piece::new(self.alloc, job, self.threads)?;
         if !piece.is_open() {
             return Err(NoMemory);
@@ -230,8 +235,8 @@ impl<J: Following> Board<J> {
     }
 
     /// The first tiles of a new walk. Whoever looks next finds those that are left, or another walk.
-    fn begin_walk(&mut self, walk: WalkTicket) -> Result<Next, NoMemory> {
-        let rect = walk.inputs.patch().rect;
+    fn begin_walk(&mut self, walk: StampedWalk<J>) -> Result<Next<J>, NoMemory> {
+        let rect = walk.ticket().inputs.patch().rect;
         let points = u64::from(rect.w()).saturating_mul(u64::from(rect.h()));
         let mut walk = Walking::new(Arc::new(self.alloc, walk)?, self.threads);
         if !walk.is_open() {
@@ -246,7 +251,7 @@ impl<J: Following> Board<J> {
     }
 
     /// Takes what was painted of some tiles of a job.
-    pub(crate) fn bring(&mut self, serial: u64, made: &mut Vec<Whole>) -> Brought {
+    pub(crate) fn bring(&mut self, serial: u64, made: &mut StampedTiles<J>) -> Brought<J> {
         let Some(i) = self.pieces.iter().position(|p| p.serial() == serial) else {
             return Brought::Over;
         };
@@ -261,9 +266,9 @@ impl<J: Following> Board<J> {
     }
 
     /// Publishes all tiles of a job. Where that can't be done the threads are to stop.
-    pub(crate) fn put_job(&mut self, slot: SlotId, made: &[Whole]) {
+    pub(crate) fn put_job(&mut self, made: &StampedTiles<J>) {
         self.jobs = self.jobs.saturating_sub(1);
-        match put_job(&mut self.desk, slot, made) {
+        match put_job(&mut self.desk, made) {
             Ok(Published::Stored) => {}
             Ok(Published::Nothing) | Err(NoMemory) => self.is_over = true,
         }
@@ -271,7 +276,9 @@ impl<J: Following> Board<J> {
 
     /// Publishes tiles of a walk, and ends it where they are its last. Where that can't be done the threads are
     /// to stop.
-    pub(crate) fn put_rows(&mut self, rows: &Rows, composed: &Composed<'_>) {
+    pub(crate) fn put_rows(&mut self, rows: &Rows<J>, composed: &Composed<'_>)
+        requires { composed.now.readings ≡ rows.now.walk.value.inputs }
+    {
         match put_rows(&mut self.desk, rows, composed) {
             Ok(Published::Stored) => self.tell_done(rows),
             Ok(Published::Nothing) | Err(NoMemory) => self.is_over = true,
@@ -279,8 +286,8 @@ impl<J: Following> Board<J> {
     }
 
     /// Ends a walk where these were its last tiles.
-    fn tell_done(&mut self, rows: &Rows) {
-        let slot = rows.walk.slot;
+    fn tell_done(&mut self, rows: &Rows<J>) {
+        let slot = rows.walk.ticket().slot;
         let Some(i) = self.walks.iter().position(|w| w.serial() == slot.serial) else {
             self.is_over = true;
             return;

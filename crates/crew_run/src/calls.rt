@@ -1,21 +1,23 @@
 //! The calls on a desk that aren't feeding: each keeps its canvas and the commands that were fed.
 
+ghost use Rattle.std.specs.Prelude.{◌≡◌};
 ghost use Rattle.crew_run.specs.Front.{KeepsFed};
 
 use crate::work::{Rows, TakenJob};
-use desk_core::{Desk, Ended, Published, SlotId, Taken, WalkTicket};
+use desk_core::{Ended, Published, SlotId, Taken};
 use geom_core::NoMemory;
 use memento_core::Steps;
+use stamp_core::Naming;
+use stamped_desk::{StampedDesk, StampedTiles, StampedWalk};
 use std::alloc::Global;
 use std::sync::ledger::Ledger;
 use walker_core::Composed;
-use whole_tiles::Whole;
 
 /// What was taken.
 #[derive(Drop)]
-pub(crate) enum Took {
-    Job(TakenJob),
-    Walk(WalkTicket),
+pub(crate) enum Took<J: Naming> {
+    Job(TakenJob<J>),
+    Walk(StampedWalk<J>),
     /// Something was done at once.
     Did,
     /// All that can be done is at work.
@@ -25,16 +27,17 @@ pub(crate) enum Took {
 }
 
 /// Takes what may be done next.
-pub(crate) fn take<L: Ledger>(
+pub(crate) fn take<J: Naming, L: Ledger>(
     alloc: Global,
-    desk: &mut Desk,
+    desk: &mut StampedDesk<J>,
     steps: &mut Steps<L>,
-) -> Result<Took, NoMemory>
+) -> Result<Took<J>, NoMemory>
     ensures { KeepsFed desk.old desk.new }
 {
-    match desk.take(steps)? {
-        Taken::Paint(ticket) => Ok(Took::Job(TakenJob::new(alloc, ticket)?)),
-        Taken::Walk(ticket) => Ok(Took::Walk(ticket)),
+    let (taken, stamp) = desk.take(steps)?;
+    match taken {
+        Taken::Paint(ticket) => Ok(Took::Job(TakenJob::new(alloc, ticket, stamp)?)),
+        Taken::Walk(ticket) => Ok(Took::Walk(StampedWalk::new(ticket, stamp))),
         Taken::Did => Ok(Took::Did),
         Taken::Idle => Ok(Took::Idle),
         Taken::Settled => Ok(Took::Settled),
@@ -42,26 +45,30 @@ pub(crate) fn take<L: Ledger>(
 }
 
 /// Publishes all tiles of a job, and ends it, in one hold of the lock.
-pub(crate) fn put_job(desk: &mut Desk, slot: SlotId, tiles: &[Whole]) -> Result<Published, NoMemory>
+pub(crate) fn put_job<J: Naming>(
+    desk: &mut StampedDesk<J>,
+    tiles: &StampedTiles<J>,
+) -> Result<Published, NoMemory>
     ensures { KeepsFed desk.old desk.new }
 {
-    desk.commit(slot, tiles)
+    desk.commit(tiles)
 }
 
 /// Publishes some tiles of a walk of all its groups, in one hold of the lock. `Nothing` where one isn't of the
 /// work in that slot.
-pub(crate) fn put_rows(
-    desk: &mut Desk,
-    rows: &Rows,
+pub(crate) fn put_rows<J: Naming>(
+    desk: &mut StampedDesk<J>,
+    rows: &Rows<J>,
     composed: &Composed<'_>,
 ) -> Result<Published, NoMemory>
+    requires { composed.now.readings ≡ rows.now.walk.value.inputs }
     ensures { KeepsFed desk.old desk.new }
 {
-    let rect = rows.walk.inputs.patch().rect;
+    let rect = rows.walk.ticket().inputs.patch().rect;
     let to = rows.to.min(rect.tile_count() as usize);
     for i in rows.from..to {
         let key = rect.tile_at(i as u32);
-        if desk.publish_row(rows.walk.slot, composed, key)? == Published::Nothing {
+        if desk.publish_row(&rows.walk, composed, key)? == Published::Nothing {
             return Ok(Published::Nothing);
         }
     }
@@ -69,7 +76,7 @@ pub(crate) fn put_rows(
 }
 
 /// Ends a walk whose tiles are all published.
-pub(crate) fn end_walk(desk: &mut Desk, slot: SlotId) -> Ended
+pub(crate) fn end_walk<J: Naming>(desk: &mut StampedDesk<J>, slot: SlotId) -> Ended
     ensures { KeepsFed desk.old desk.new }
 {
     desk.end(slot)

@@ -8,22 +8,23 @@ use crate::board::{Board, Brought, Following, Next, Part};
 use crate::feeding::finish;
 use crate::watching::{Unwatched, Watching};
 use crate::work::{Rows, TakenJob, Tiles, Work};
-use desk_core::Desk;
+use desk_core::{Desk, Taken};
 use geom_core::NoMemory;
 use io_edge::Gate;
 use memento_core::Steps;
 use script_text::Script;
+use stamp_core::{Naming, Unnamed};
+use stamped_desk::{StampedDesk, StampedTiles};
 use std::alloc::Global;
 use std::marker::Brand;
 use std::sync::ledger::{Blank, Ledger};
 use std::sync::{Condvar, Mutex, MutexGuard, Wait};
 use std::thread;
 use std::thread::Threads;
-use whole_tiles::Whole;
 
 /// What the threads share.
 #[derive(Drop)]
-struct Crew<'s, 'g, 'w, J: Following, G, W> {
+struct Crew<'s, 'g, 'w, J: Following + Naming, G, W> {
     script: &'s Script,
     gate: &'g G,
     watch: &'w W,
@@ -32,9 +33,9 @@ struct Crew<'s, 'g, 'w, J: Following, G, W> {
     ghost script_is: { script.now ≡ J.script },
 }
 
-impl<'s, 'g, 'w, J: Following, G: Gate, W: Watching> Crew<'s, 'g, 'w, J, G, W> {
+impl<'s, 'g, 'w, J: Following + Naming, G: Gate, W: Watching> Crew<'s, 'g, 'w, J, G, W> {
     /// The first work of a thread.
-    fn first<L: Ledger, R: Wait>(&self, rt: &R, steps: &mut Steps<L>) -> Option<Part> {
+    fn first<L: Ledger, R: Wait>(&self, rt: &R, steps: &mut Steps<L>) -> Option<Part<J>> {
         self.next(rt, self.board.lock(rt), steps)
     }
 
@@ -45,7 +46,7 @@ impl<'s, 'g, 'w, J: Following, G: Gate, W: Watching> Crew<'s, 'g, 'w, J, G, W> {
         rt: &R,
         board: MutexGuard<'_, Board<J>>,
         steps: &mut Steps<L>,
-    ) -> Option<Part> {
+    ) -> Option<Part<J>> {
         let mut board = board;
         for _ in rt.forever() {
             match board.look(self.script, steps) {
@@ -79,9 +80,9 @@ impl<'s, 'g, 'w, J: Following, G: Gate, W: Watching> Crew<'s, 'g, 'w, J, G, W> {
         &self,
         rt: &R,
         alloc: Global,
-        work: &Work,
+        work: &Work<J>,
         steps: &mut Steps<L>,
-    ) -> Option<Part> {
+    ) -> Option<Part<J>> {
         match work {
             Work::Tiles(tiles) => self.paint(rt, alloc, tiles, steps),
             Work::Rows(rows) => self.compose(rt, alloc, rows, steps),
@@ -93,9 +94,9 @@ impl<'s, 'g, 'w, J: Following, G: Gate, W: Watching> Crew<'s, 'g, 'w, J, G, W> {
         &self,
         rt: &R,
         alloc: Global,
-        tiles: &Tiles,
+        tiles: &Tiles<J>,
         steps: &mut Steps<L>,
-    ) -> Option<Part> {
+    ) -> Option<Part<J>> {
         let Ok(mut made) = tiles.paint(alloc) else {
             return self.give_up(rt);
         };
@@ -103,7 +104,7 @@ impl<'s, 'g, 'w, J: Following, G: Gate, W: Watching> Crew<'s, 'g, 'w, J, G, W> {
             return self.publish(rt, &tiles.job, &made, steps);
         }
         let mut board = self.board.lock(rt);
-        match board.bring(tiles.job.slot.serial, &mut made) {
+        match board.bring(tiles.job.painting.slot().serial, &mut made) {
             Brought::Kept => self.next(rt, board, steps),
             Brought::All(job, made) => {
                 drop(board);
@@ -120,13 +121,14 @@ impl<'s, 'g, 'w, J: Following, G: Gate, W: Watching> Crew<'s, 'g, 'w, J, G, W> {
     fn publish<L: Ledger, R: Wait>(
         &self,
         rt: &R,
-        job: &TakenJob,
-        made: &[Whole],
+        job: &TakenJob<J>,
+        made: &StampedTiles<J>,
         steps: &mut Steps<L>,
-    ) -> Option<Part> {
-        self.gate.painting(job.stroke, job.job);
+    ) -> Option<Part<J>> {
+        self.gate
+            .painting(job.painting.stroke(), job.painting.job());
         let mut board = self.board.lock(rt);
-        board.put_job(job.slot, made);
+        board.put_job(made);
         self.next(rt, board, steps)
     }
 
@@ -135,9 +137,9 @@ impl<'s, 'g, 'w, J: Following, G: Gate, W: Watching> Crew<'s, 'g, 'w, J, G, W> {
         &self,
         rt: &R,
         alloc: Global,
-        rows: &Rows,
+        rows: &Rows<J>,
         steps: &mut Steps<L>,
-    ) -> Option<Part> {
+    ) -> Option<Part<J>> {
         let Ok(composed) = rows.compose(alloc) else {
             return self.give_up(rt);
         };
@@ -148,7 +150,7 @@ impl<'s, 'g, 'w, J: Following, G: Gate, W: Watching> Crew<'s, 'g, 'w, J, G, W> {
     }
 
     /// All threads are to stop.
-    fn give_up<R: Wait>(&self, rt: &R) -> Option<Part> {
+    fn give_up<R: Wait>(&self, rt: &R) -> Option<Part<J>> {
         self.board.lock(rt).give_up();
         self.changed.notify_all();
         None
@@ -160,7 +162,7 @@ impl<'s, 'g, 'w, J: Following, G: Gate, W: Watching> Crew<'s, 'g, 'w, J, G, W> {
         rt: &R,
         alloc: Global,
         steps: &mut Steps<L>,
-    ) -> Option<Part> {
+    ) -> Option<Part<J>> {
         let mut next = self.first(rt, steps);
         for _ in rt.forever() {
             match next {
@@ -177,7 +179,7 @@ impl<'s, 'g, 'w, J: Following, G: Gate, W: Watching> Crew<'s, 'g, 'w, J, G, W> {
         &self,
         rt: &R,
         alloc: Global,
-        first: Option<Part>,
+        first: Option<Part<J>>,
         steps: &mut Steps<L>,
     ) {
         let mut next = first;
@@ -207,12 +209,18 @@ impl<'s, 'g, 'w, J: Following, G: Gate, W: Watching> Crew<'s, 'g, 'w, J, G, W> {
 }
 
 /// So many threads and the caller work until nothing is left to be done.
-fn together<J: Following + Send + Sync, L: Ledger, R: Threads + Wait + Sync, G: Gate, W: Watching>(
+fn together<
+    J: Following + Naming + Send + Sync,
+    L: Ledger,
+    R: Threads + Wait + Sync,
+    G: Gate,
+    W: Watching,
+>(
     rt: &R,
     alloc: Global,
     crew: &Crew<'_, '_, '_, J, G, W>,
     workers: u8,
-    part: Part,
+    part: Part<J>,
     steps: &mut Steps<L>,
 ) {
     thread::scope(thread::scope_env(), rt, move |scope| {
@@ -225,7 +233,13 @@ fn together<J: Following + Send + Sync, L: Ledger, R: Threads + Wait + Sync, G: 
 }
 
 /// The caller works on the desk, with so many threads from the first work on that is worth it.
-fn with_crew<J: Following + Send + Sync, L: Ledger, R: Threads + Wait + Sync, G: Gate, W: Watching>(
+fn with_crew<
+    J: Following + Naming + Send + Sync,
+    L: Ledger,
+    R: Threads + Wait + Sync,
+    G: Gate,
+    W: Watching,
+>(
     rt: &R,
     alloc: Global,
     script: &Script,
@@ -233,15 +247,18 @@ fn with_crew<J: Following + Send + Sync, L: Ledger, R: Threads + Wait + Sync, G:
     gate: &G,
     watch: &W,
     desk: Desk,
+    unnamed: Unnamed<Taken>,
     steps: &mut Steps<L>,
 ) -> Desk
     requires workers { workers ≤ 16 }
     requires canvas { desk.canvas ≡ J.script.canvas }
     requires front { IsFront desk.fed J.script.commands }
     requires script { script.now ≡ J.script }
+    requires name { unnamed ≡ J.book }
     ensures canvas { result.canvas ≡ J.script.canvas }
     ensures front { IsFront result.fed J.script.commands }
 {
+    let desk = StampedDesk::new(desk, unnamed);
     let crew: Crew<'_, '_, '_, J, G, W> = Crew {
         script,
         gate,
@@ -321,7 +338,15 @@ fn run_on<L: Ledger, R: Threads + Wait + Sync, G: Gate, W: Watching>(
     let mut steps = Steps::<L>::new(blank);
     let desk = new_desk(alloc, script, workers + 1)?;
     let mut desk = with_crew::<Brand, L, R, G, W>(
-        rt, alloc, script, workers, gate, watch, desk, &mut steps,
+        rt,
+        alloc,
+        script,
+        workers,
+        gate,
+        watch,
+        desk,
+        Unnamed::new(),
+        &mut steps,
     );
     finish(&mut desk, script, &mut steps)?;
     Ok(desk)

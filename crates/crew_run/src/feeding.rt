@@ -8,6 +8,8 @@ use desk_core::Desk;
 use geom_core::NoMemory;
 use memento_core::Steps;
 use script_text::Script;
+use stamp_core::Naming;
+use stamped_desk::StampedDesk;
 use std::sync::ledger::Ledger;
 
 /// How many commands are fed at most.
@@ -15,13 +17,13 @@ const MOST: usize = 4_294_967_295;
 
 /// Feeds the next command of a script. `false` where none is left, or no memory.
 #[tactic(auto, using(crate::proofs::Fronts::front_more, crate::proofs::Fronts::next_follows))]
-fn feed_next(desk: &mut Desk, script: &Script) -> bool
+fn feed_next<J: Naming>(desk: &mut StampedDesk<J>, script: &Script) -> bool
     requires front { IsFront desk.old.fed script.now.commands }
     ensures front { IsFront desk.new.fed script.now.commands }
     ensures canvas { desk.new.canvas ≡ desk.old.canvas }
 {
     let _lawful = script.commands();
-    let count = desk.fed().len();
+    let count = desk.desk().fed().len();
     if count >= script.len() || count >= MOST {
         return false;
     }
@@ -30,13 +32,13 @@ fn feed_next(desk: &mut Desk, script: &Script) -> bool
 
 /// Feeds a script on until the entry at the head is closed, or nothing is left. `false` where no memory
 /// was left.
-pub(crate) fn feed_ahead(desk: &mut Desk, script: &Script) -> bool
+pub(crate) fn feed_ahead<J: Naming>(desk: &mut StampedDesk<J>, script: &Script) -> bool
     requires front { IsFront desk.old.fed script.now.commands }
     ensures front { IsFront desk.new.fed script.now.commands }
     ensures canvas { desk.new.canvas ≡ desk.old.canvas }
 {
-    for _ in desk.fed().len()..script.len() {
-        if !desk.wants_commands() {
+    for _ in desk.desk().fed().len()..script.len() {
+        if !desk.desk().wants_commands() {
             return true;
         }
         if !feed_next(desk, script) {

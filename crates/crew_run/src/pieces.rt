@@ -3,11 +3,11 @@
 ghost use Rattle.std.specs.Prelude.{◌≡◌, ◌≤◌, ◌<◌, nat_lt, IfOk, OnErr};
 
 use crate::work::{Rows, TakenJob, Tiles};
-use desk_core::WalkTicket;
 use geom_core::NoMemory;
+use stamp_core::Naming;
+use stamped_desk::{StampedTiles, StampedWalk};
 use std::alloc::Global;
 use std::sync::Arc;
-use whole_tiles::Whole;
 
 /// How many points work has at most that one thread does alone.
 const ALONE: u64 = 60_000;
@@ -60,37 +60,38 @@ impl Ranges {
 
 /// A job that several threads paint, tile by tile. What they painted is gathered here.
 #[derive(Drop)]
-pub(crate) struct Piece {
-    job: Arc<TakenJob, Global>,
+pub(crate) struct Piece<J: Naming> {
+    job: Arc<TakenJob<J>, Global>,
     ranges: Ranges,
-    made: Vec<Whole>,
+    made: StampedTiles<J>,
 }
 
-impl Piece {
+impl<J: Naming> Piece<J> {
     /// Whether a job is worth several threads.
-    pub(crate) fn is_worth(job: &TakenJob, threads: usize) -> bool {
+    pub(crate) fn is_worth(job: &TakenJob<J>, threads: usize) -> bool {
         threads > 1 && job.load > ALONE && job.painting.tile_count() > 1
     }
 
     /// A job of which no tile was given out.
     pub(crate) fn new(
         alloc: Global,
-        job: Arc<TakenJob, Global>,
+        job: Arc<TakenJob<J>, Global>,
         threads: usize,
-    ) -> Result<Piece, NoMemory>
+    ) -> Result<Piece<J>, NoMemory>
         ensures { IfOk result (λ p. p.ranges.next ≡ 0) }
     {
         let tiles = job.painting.tile_count();
+        let made = job.painting.no_tiles(alloc, tiles)?;
         Ok(Piece {
             job,
             ranges: Ranges::new(tiles, threads.saturating_mul(RANGES)),
-            made: Vec::with_capacity(alloc, tiles)?,
+            made,
         })
     }
 
     /// The serial of the job's slot.
     pub(crate) fn serial(&self) -> u64 {
-        self.job.slot.serial
+        self.job.painting.slot().serial
     }
 
     /// Whether some tiles weren't given out.
@@ -104,7 +105,7 @@ impl Piece {
     ///
     /// # Errors
     /// `NoMemory`; nothing is given out.
-    pub(crate) fn give(&mut self) -> Result<Tiles, NoMemory>
+    pub(crate) fn give(&mut self) -> Result<Tiles<J>, NoMemory>
         requires open { self.old.ranges.next < self.old.ranges.tiles }
         ensures from { IfOk result (λ t. t.from ≡ self.old.ranges.next) }
         ensures to { IfOk result (λ t. t.to ≡ self.new.ranges.next) }
@@ -128,13 +129,13 @@ impl Piece {
     ///
     /// # Errors
     /// `NoMemory`; the job can't be published then.
-    pub(crate) fn gather(&mut self, made: &mut Vec<Whole>) -> Result<bool, NoMemory> {
+    pub(crate) fn gather(&mut self, made: &mut StampedTiles<J>) -> Result<bool, NoMemory> {
         self.made.append(made)?;
         Ok(self.made.len() >= self.ranges.tiles)
     }
 
     /// The job, with all that was painted of it.
-    pub(crate) fn into_results(self) -> (Arc<TakenJob, Global>, Vec<Whole>) {
+    pub(crate) fn into_results(self) -> (Arc<TakenJob<J>, Global>, StampedTiles<J>) {
         let Piece { job, made, .. } = self;
         (job, made)
     }
@@ -142,19 +143,19 @@ impl Piece {
 
 /// A walk, whose tiles several threads compose. What is composed of a tile is published at once.
 #[derive(Drop)]
-pub(crate) struct Walking {
-    walk: Arc<WalkTicket, Global>,
+pub(crate) struct Walking<J: Naming> {
+    walk: Arc<StampedWalk<J>, Global>,
     ranges: Ranges,
     /// How many tiles are published.
     done: usize,
 }
 
-impl Walking {
+impl<J: Naming> Walking<J> {
     /// A walk of which no tile was given out. One whose patch has few points is for one thread.
-    pub(crate) fn new(walk: Arc<WalkTicket, Global>, threads: usize) -> Walking
+    pub(crate) fn new(walk: Arc<StampedWalk<J>, Global>, threads: usize) -> Walking<J>
         ensures { result.ranges.next ≡ 0 }
     {
-        let rect = walk.inputs.patch().rect;
+        let rect = walk.ticket().inputs.patch().rect;
         let points = u64::from(rect.w()).saturating_mul(u64::from(rect.h()));
         let count = if threads > 1 && points > ALONE {
             threads.saturating_mul(RANGES)
@@ -170,7 +171,7 @@ impl Walking {
 
     /// The serial of the walk's slot.
     pub(crate) fn serial(&self) -> u64 {
-        self.walk.slot.serial
+        self.walk.ticket().slot.serial
     }
 
     /// Whether some tiles weren't given out.
@@ -184,7 +185,7 @@ impl Walking {
     ///
     /// # Errors
     /// `NoMemory`; nothing is given out.
-    pub(crate) fn give(&mut self) -> Result<Rows, NoMemory>
+    pub(crate) fn give(&mut self) -> Result<Rows<J>, NoMemory>
         requires open { self.old.ranges.next < self.old.ranges.tiles }
         ensures from { IfOk result (λ r. r.from ≡ self.old.ranges.next) }
         ensures to { IfOk result (λ r. r.to ≡ self.new.ranges.next) }

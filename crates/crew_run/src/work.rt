@@ -1,43 +1,42 @@
 //! What a thread does outside the lock: it paints tiles of a job or composes those of a walk.
 
-ghost use Rattle.std.specs.Prelude.{◌≡◌, true};
+ghost use Rattle.std.specs.Prelude.{◌≡◌, true, Some, IfOk, IfSome};
 ghost use Rattle.doc_model.specs.Jobs.{checks, reads};
 ghost use Rattle.doc_model.specs.Lawful.{within_limits};
+ghost use Rattle.desk_core.specs.declared.tickets.Taken.TheVariants as taken;
 
-use desk_core::{PaintTicket, SlotId, WalkTicket};
+use desk_core::{PaintTicket, Taken};
 use doc_model::Job;
 use geom_core::{NoMemory, Rect};
+use stamp_core::{Naming, Stamp};
+use stamped_desk::{StampedPainting, StampedTiles, StampedWalk};
 use std::alloc::Global;
 use std::sync::Arc;
-use tile_core::Tile;
 use walker_core::{Composed, compose_keys};
-use whole_tiles::{Painting, Whole};
 
 /// A job that was taken. Several threads may paint tiles of it.
 #[derive(Drop)]
-pub(crate) struct TakenJob {
-    pub(crate) slot: SlotId,
-    /// The number of its stroke, and its own in the stroke, from 1.
-    pub(crate) stroke: u32,
-    pub(crate) job: u32,
-    pub(crate) painting: Painting,
+pub(crate) struct TakenJob<J: Naming> {
+    pub(crate) painting: StampedPainting<J>,
     /// How many points it writes, those of two rectangles counted twice.
     pub(crate) load: u64,
 }
 
-impl TakenJob {
-    /// The job of a ticket.
-    pub(crate) fn new(alloc: Global, ticket: PaintTicket) -> Result<TakenJob, NoMemory>
+impl<J: Naming> TakenJob<J> {
+    /// The job of a ticket that was stamped as it was taken.
+    pub(crate) fn new(
+        alloc: Global,
+        ticket: PaintTicket,
+        stamp: Option<Stamp<J, Taken>>,
+    ) -> Result<TakenJob<J>, NoMemory>
         requires checked { checks ticket.work ≡ true }
         requires limits { within_limits ticket.work ≡ true }
         requires reads { ticket.shot.rects ≡ reads ticket.work }
+        requires stamped { IfSome stamp (λ s. s.value ≡ Some (taken.Paint ticket)) }
     {
         let load = load_of(&ticket.work);
         Ok(TakenJob {
-            slot: ticket.slot,
-            stroke: ticket.stroke,
-            job: ticket.job,
-            painting: Painting::new(alloc, ticket.work, ticket.shot)?,
+            painting: StampedPainting::new(alloc, ticket, stamp)?,
             load,
         })
     }
@@ -57,59 +56,47 @@ fn load_of(job: &Job) -> u64
 
 /// Some tiles of a job: those from one place of its list to before another.
 #[derive(Drop)]
-pub(crate) struct Tiles {
-    pub(crate) job: Arc<TakenJob, Global>,
+pub(crate) struct Tiles<J: Naming> {
+    pub(crate) job: Arc<TakenJob<J>, Global>,
     pub(crate) from: usize,
     pub(crate) to: usize,
     /// Whether they are all that the job has, for one thread.
     pub(crate) are_all: bool,
 }
 
-impl Tiles {
-    /// Paints them. Where a fill leaves one pixel all over neighbours, they share one tile.
-    pub(crate) fn paint(&self, alloc: Global) -> Result<Vec<Whole>, NoMemory> {
-        let painting = &self.job.painting;
-        let to = self.to.min(painting.tile_count());
-        let mut made = Vec::with_capacity(alloc, to.saturating_sub(self.from))?;
-        for i in self.from..to {
-            let whole = painting.paint_like(alloc, i, newest(&made))?;
-            made.push(whole)?;
-        }
-        Ok(made)
-    }
-}
-
-/// The tile that was painted last.
-fn newest(made: &[Whole]) -> Option<&Tile> {
-    match made.last() {
-        Some(whole) => Some(whole.tile()),
-        None => None,
+impl<J: Naming> Tiles<J> {
+    /// Paints them.
+    pub(crate) fn paint(&self, alloc: Global) -> Result<StampedTiles<J>, NoMemory> {
+        self.job.painting.paint(alloc, self.from, self.to)
     }
 }
 
 /// Some tiles of a walk: those of its patch from one place to before another.
 #[derive(Drop)]
-pub(crate) struct Rows {
-    pub(crate) walk: Arc<WalkTicket, Global>,
+pub(crate) struct Rows<J: Naming> {
+    pub(crate) walk: Arc<StampedWalk<J>, Global>,
     pub(crate) from: usize,
     pub(crate) to: usize,
 }
 
-impl Rows {
+impl<J: Naming> Rows<J> {
     /// Composes them, of all groups of the walk.
-    pub(crate) fn compose(&self, alloc: Global) -> Result<Composed<'_>, NoMemory> {
-        let rect = self.walk.inputs.patch().rect;
+    pub(crate) fn compose(&self, alloc: Global) -> Result<Composed<'_>, NoMemory>
+        ensures { IfOk result (λ c. c.readings ≡ self.now.walk.value.inputs) }
+    {
+        let inputs = &self.walk.ticket().inputs;
+        let rect = inputs.patch().rect;
         let to = self.to.min(rect.tile_count() as usize);
         let mut keys = Vec::with_capacity(alloc, to.saturating_sub(self.from))?;
         for i in self.from..to {
             keys.push(rect.tile_at(i as u32))?;
         }
-        compose_keys(alloc, &self.walk.inputs, &keys)
+        compose_keys(alloc, inputs, &keys)
     }
 
     /// A rectangle round them.
     pub(crate) fn bound(&self) -> Rect {
-        let rect = self.walk.inputs.patch().rect;
+        let rect = self.walk.ticket().inputs.patch().rect;
         let to = self.to.min(rect.tile_count() as usize);
         let mut bound = None;
         for i in self.from..to {
@@ -129,7 +116,7 @@ fn round(bound: Option<Rect>, rect: Rect) -> Rect {
 
 /// Work that was taken from the board.
 #[derive(Drop)]
-pub(crate) enum Work {
-    Tiles(Tiles),
-    Rows(Rows),
+pub(crate) enum Work<J: Naming> {
+    Tiles(Tiles<J>),
+    Rows(Rows<J>),
 }

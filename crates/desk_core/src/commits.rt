@@ -5,7 +5,7 @@ ghost use Rattle.machine_model.specs.State.{State};
 ghost use Rattle.machine_model.specs.Event.{End};
 ghost use Rattle.machine_model.specs.Step.{Step, Run};
 ghost use Rattle.desk_parts.specs.Settles.{Settles};
-ghost use Rattle.desk_machine.specs.Commits.{MayCommit, MayCommitWalk, RunsFront, commit_walk_events};
+ghost use Rattle.desk_machine.specs.Commits.{AreOfWork, MayCommit, MayCommitWalk, RunsFront, commit_walk_events};
 ghost use Rattle.desk_core.specs.Commits.{commit_events};
 ghost use Rattle.desk_core.specs.declared.answers.Published.TheVariants as answers;
 
@@ -26,6 +26,27 @@ impl Desk {
     /// # Errors
     /// `NoMemory`; of the tiles some, from the first on, are published, or none.
     pub fn commit(&mut self, slot: SlotId, tiles: &[Whole]) -> Result<Published, NoMemory>
+        ensures stored { result ≡ Ok answers.Stored → Run self.old (commit_events slot.place tiles.now) self.new }
+        ensures nothing { result ≡ Ok answers.Nothing → self.new ≡ self.old }
+        ensures refused { result ≡ Ok answers.Nothing → MayCommit self.old slot.place slot.serial tiles.now → ⊥ }
+        ensures front { OnErr result (RunsFront self.old (commit_events slot.place tiles.now) self.new) }
+        ensures runs { Settles self.old self.new }
+        ensures canvas { self.new.canvas ≡ self.old.canvas }
+        ensures fed { self.new.fed ≡ self.old.fed }
+    {
+        if !self.machine.are_of_work(slot, tiles) {
+            return Ok(Published::Nothing);
+        }
+        self.commit_known(slot, tiles)
+    }
+
+    /// The same of tiles of which it is known that they were made of the slot's work, if it is there: so no
+    /// pixel is compared. `Nothing` exactly where `commit` says so.
+    ///
+    /// # Errors
+    /// `NoMemory`; of the tiles some, from the first on, are published, or none.
+    pub fn commit_known(&mut self, slot: SlotId, tiles: &[Whole]) -> Result<Published, NoMemory>
+        requires { AreOfWork self.old slot.place slot.serial tiles.now }
         ensures stored { result ≡ Ok answers.Stored → Run self.old (commit_events slot.place tiles.now) self.new }
         ensures nothing { result ≡ Ok answers.Nothing → self.new ≡ self.old }
         ensures refused { result ≡ Ok answers.Nothing → MayCommit self.old slot.place slot.serial tiles.now → ⊥ }

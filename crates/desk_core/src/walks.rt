@@ -5,7 +5,7 @@ ghost use Rattle.machine_model.specs.Event.{WalkPublish};
 ghost use Rattle.machine_model.specs.Step.{Step, Run};
 ghost use Rattle.desk_parts.specs.Enabled.{TakesWalk};
 ghost use Rattle.desk_parts.specs.Settles.{Settles};
-ghost use Rattle.desk_machine.specs.Commits.{MayPublishRow, RunsFront, row_events};
+ghost use Rattle.desk_machine.specs.Commits.{MayPublishRow, ReadsAsWork, RunsFront, row_events};
 ghost use Rattle.desk_core.specs.declared.answers.Published.TheVariants as answers;
 
 use crate::answers::Published;
@@ -53,6 +53,32 @@ impl Desk {
         composed: &Composed<'_>,
         key: TileKey,
     ) -> Result<Published, NoMemory>
+        ensures stored { result ≡ Ok answers.Stored → Run self.old (row_events self.old slot.place key) self.new }
+        ensures nothing { result ≡ Ok answers.Nothing → self.new ≡ self.old }
+        ensures refused { result ≡ Ok answers.Nothing → MayPublishRow self.old slot.place slot.serial composed.now key → ⊥ }
+        ensures front { OnErr result (RunsFront self.old (row_events self.old slot.place key) self.new) }
+        ensures runs { Settles self.old self.new }
+        ensures canvas { self.new.canvas ≡ self.old.canvas }
+        ensures fed { self.new.fed ≡ self.old.fed }
+    {
+        if !self.machine.reads_as_work(slot, composed, key) {
+            return Ok(Published::Nothing);
+        }
+        self.publish_known_row(slot, composed, key)
+    }
+
+    /// The same of what is known to have been composed of the slot's walk, if it is there: so no pixel is compared.
+    /// `Nothing` exactly where `publish_row` says so.
+    ///
+    /// # Errors
+    /// `NoMemory`; of the groups some, from the first on, are published, or none.
+    pub fn publish_known_row(
+        &mut self,
+        slot: SlotId,
+        composed: &Composed<'_>,
+        key: TileKey,
+    ) -> Result<Published, NoMemory>
+        requires { ReadsAsWork self.old slot.place slot.serial composed.now key }
         ensures stored { result ≡ Ok answers.Stored → Run self.old (row_events self.old slot.place key) self.new }
         ensures nothing { result ≡ Ok answers.Nothing → self.new ≡ self.old }
         ensures refused { result ≡ Ok answers.Nothing → MayPublishRow self.old slot.place slot.serial composed.now key → ⊥ }

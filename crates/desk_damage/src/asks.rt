@@ -1,6 +1,6 @@
 //! What may be done next.
 
-ghost use Rattle.desk_machine.specs.Commits.{MayCommit, MayCommitWalk, MayPublishRow};
+ghost use Rattle.desk_machine.specs.Commits.{AreOfWork, MayCommit, MayCommitWalk, MayPublishRow, ReadsAsWork};
 ghost use Rattle.desk_machine.specs.OwnWork.{IsLack};
 ghost use Rattle.desk_parts.specs.Choices.{CanWalk, IsChoice, Tells, WalksWait};
 ghost use Rattle.desk_parts.specs.Enabled.{Enabled, Takes, TakesWalk};
@@ -68,9 +68,19 @@ impl TrackedMachine {
         self.machine.is_walked(slot)
     }
 
+    /// Whether the job with that serial is at work in the slot, and each of the tiles was made of it and
+    /// from the pixels that it was started with. No memory.
+    pub fn are_of_work(&self, slot: SlotId, tiles: &[Whole]) -> bool
+        ensures some { result ≡ true → AreOfWork self.now slot.place slot.serial tiles.now }
+        ensures none { result ≡ false → MayCommit self.now slot.place slot.serial tiles.now → ⊥ }
+    {
+        self.machine.are_of_work(slot, tiles)
+    }
+
     /// Whether the job with that serial is at work in the slot, and the tiles are just those that it
-    /// lacks.
+    /// lacks. It looks at no pixel.
     pub fn may_commit(&self, slot: SlotId, tiles: &[Whole]) -> Result<bool, NoMemory>
+        requires { AreOfWork self.now slot.place slot.serial tiles.now }
         ensures some { result ≡ Ok true → MayCommit self.now slot.place slot.serial tiles.now }
         ensures none { result ≡ Ok false → MayCommit self.now slot.place slot.serial tiles.now → ⊥ }
     {
@@ -94,9 +104,19 @@ impl TrackedMachine {
         self.machine.may_commit_walk(slot, composed)
     }
 
+    /// Whether the walk with that serial is at work in the slot, its patch has points in the tile, and what was
+    /// composed read the same there. No memory.
+    pub fn reads_as_work(&self, slot: SlotId, composed: &Composed<'_>, key: TileKey) -> bool
+        ensures some { result ≡ true → ReadsAsWork self.now slot.place slot.serial composed.now key }
+        ensures none { result ≡ false → MayPublishRow self.now slot.place slot.serial composed.now key → ⊥ }
+    {
+        self.machine.reads_as_work(slot, composed, key)
+    }
+
     /// Whether the walk with that serial is at work in the slot, its patch has points in the tile, and all its
-    /// groups were composed there, of the same as the walk reads. No memory.
+    /// groups were composed there. It looks at no pixel. No memory.
     pub fn may_publish_row(&self, slot: SlotId, composed: &Composed<'_>, key: TileKey) -> bool
+        requires { ReadsAsWork self.now slot.place slot.serial composed.now key }
         ensures some { result ≡ true → MayPublishRow self.now slot.place slot.serial composed.now key }
         ensures none { result ≡ false → MayPublishRow self.now slot.place slot.serial composed.now key → ⊥ }
     {

@@ -33,7 +33,8 @@ use Rattle.desk_parts.proofs.Taking.{walk_is}
 use Rattle.desk_parts.proofs.WalkPlaces.{walking_at}
 use Rattle.desk_work.specs.LaidTiles.{Laid, laid, laid_as, laid_all, lacking, pairs_at, pairs_on, Lays, LaysFront}
 use Rattle.desk_work.specs.OfWalk.{IsOfWalk, IsRowOfWalk}
-use Rattle.desk_machine.specs.Commits.{MayCommitWalk, MayPublishRow, RunsFront, lacking_in, lacking_at, pair_events, row_events, commit_walk_events}
+use Rattle.walker_core.specs.Sameness.{ReadTheSame}
+use Rattle.desk_machine.specs.Commits.{MayCommitWalk, MayPublishRow, ReadsAsWork, RunsFront, lacking_in, lacking_at, pair_events, row_events, commit_walk_events}
 use Rattle.desk_machine.proofs.PairRuns.{IsRun, all_pairs, own_on, own_at, next_lacking, front_next, walk_run}
 
 -- ---- the walk in the slot
@@ -51,6 +52,12 @@ module _ (d : Parts) (place serial : ℕ) (w : Walker) (c : Composition) (h : wo
 module _ (d : Parts) (place serial : ℕ) (w : Walker) (c : Composition) (key : Key) (h : work_at place d.slots ≡ Some (work.Walk w)) where
   pub row_may : IsDesk d → w.serial ≡ serial → IsRowOfWalk w.inputs c key → MayPublishRow (state_of d) place serial c key
   row_may desk drawn of = record { walker = walker_of w; runs = held d place _ (walking_at d.slots place w desk.slots h); drawn = drawn; of = of }
+
+  pub reads_own : IsDesk d → w.serial ≡ serial → ReadsAsWork (state_of d) place serial c key → ReadTheSame w.inputs c.readings key
+  reads_own desk drawn reads = reads (walker_of w) (held d place _ (walking_at d.slots place w desk.slots h)) drawn
+
+  pub own_reads : ReadTheSame w.inputs c.readings key → ReadsAsWork (state_of d) place serial c key
+  own_reads same q runs drawn = subst (λ (q : state.Walker). ReadTheSame (readings q.patch q.shot) c.readings key) (walk_is d place w q h runs) same
 
   pub row_drawn : MayPublishRow (state_of d) place serial c key → w.serial ≡ serial
   row_drawn m = ap (λ (q : state.Walker). q.serial) (walk_is d place w m.walker h m.runs) ∙ m.drawn

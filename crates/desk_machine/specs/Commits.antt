@@ -1,5 +1,5 @@
 -- Whole jobs and walks that come to a desk in one hold.
-use Rattle.std.specs.Prelude.{◌≡◌, ℕ, true, false, Option, Some, List, [], ◌∷◌, ◌++◌, map, take, slice_get}
+use Rattle.std.specs.Prelude.{◌≡◌, ℕ, All, true, false, Option, Some, List, [], ◌∷◌, ◌++◌, map, take, slice_get}
 use Rattle.std.specs.List.{list_any}
 use Rattle.geom_core.specs.Grid.{Key, same_key, keys_of, all_keys_of}
 use Rattle.doc_model.specs.Jobs.{writes}
@@ -8,10 +8,15 @@ use Rattle.machine_model.specs.State.{State, Child, Painter, Walker, Slot, Paint
 use Rattle.machine_model.specs.Event.{Event, WalkPublish, WalkEnd}
 use Rattle.machine_model.specs.Step.{Run}
 use Rattle.walker_core.specs.Readings.{readings}
+use Rattle.walker_core.specs.Sameness.{ReadTheSame}
 use Rattle.walker_core.specs.Composing.{Composition}
 use Rattle.desk_work.specs.Lacking.{IsOfJob, AreLacking}
 use Rattle.desk_work.specs.LaidTiles.{lacking, pairs_at, pairs_on}
 use Rattle.desk_work.specs.OfWalk.{IsOfWalk, IsRowOfWalk}
+
+-- if the job with that serial is at work in the slot, each of the tiles was made of it and from the pixels that it was started with
+abbrev pub AreOfWork : State → ℕ → ℕ → List Entire → Type 0
+AreOfWork s place serial tiles = (w : Painter) → slice_get s.slots place ≡ Some (Paints w) → w.serial ≡ serial → All (IsOfJob w.job w.shot) tiles
 
 -- the job with that serial is at work in the slot, and the tiles are just those that it lacks, made of it and from the pixels that it was started with
 pub record MayCommit (s : State) (place serial : ℕ) (tiles : List Entire) : Type 0 where
@@ -53,6 +58,10 @@ pair_events place (p ∷ ps) = WalkPublish place p.0 p.1 ∷ pair_events place p
 -- it publishes all pairs that it lacks, and ends
 abbrev pub commit_walk_events : State → ℕ → List Event
 commit_walk_events s place = pair_events place (lacking_in (slice_get s.slots place)) ++ WalkEnd place ∷ []
+
+-- if the walk with that serial is at work in the slot, what was composed read the same in the tile
+abbrev pub ReadsAsWork : State → ℕ → ℕ → Composition → Key → Type 0
+ReadsAsWork s place serial c key = (w : Walker) → slice_get s.slots place ≡ Some (Walks w) → w.serial ≡ serial → ReadTheSame (readings w.patch w.shot) c.readings key
 
 -- the walk with that serial is at work in the slot, its patch has points in the tile, and all its groups were composed there, of the same as the walk reads
 pub record MayPublishRow (s : State) (place serial : ℕ) (c : Composition) (key : Key) : Type 0 where

@@ -2,19 +2,35 @@
 
 ghost use Rattle.std.specs.Prelude.{◌≡◌, true, false, OnOk};
 ghost use Rattle.machine_model.specs.Step.{Run};
-ghost use Rattle.desk_machine.specs.Commits.{MayPublishRow, RunsFront, row_events};
+ghost use Rattle.desk_machine.specs.Commits.{MayPublishRow, ReadsAsWork, RunsFront, row_events};
 
 use crate::machine::Machine;
 use crate::tickets::SlotId;
 use desk_parts::Work;
-use desk_work::{is_row_of_walk, lay_row};
+use desk_work::{is_row_of_walk, lay_row, reads_alike};
 use geom_core::{NoMemory, TileKey};
 use walker_core::Composed;
 
 impl Machine {
+    /// Whether the walk with that serial is at work in the slot, its patch has points in the tile, and what was
+    /// composed read the same there. No memory.
+    pub fn reads_as_work(&self, slot: SlotId, composed: &Composed<'_>, key: TileKey) -> bool
+        ensures some { result ≡ true → ReadsAsWork self.now slot.place slot.serial composed.now key }
+        ensures none { result ≡ false → MayPublishRow self.now slot.place slot.serial composed.now key → ⊥ }
+    {
+        match self.slots.work(slot.place) {
+            Some(Work::Walk(walker)) => {
+                walker.serial == slot.serial && reads_alike(&walker.inputs, composed, key)
+            }
+            Some(Work::Paint(_)) => false,
+            None => false,
+        }
+    }
+
     /// Whether the walk with that serial is at work in the slot, its patch has points in the tile, and all its
-    /// groups were composed there, of the same as the walk reads. No memory.
+    /// groups were composed there. It looks at no pixel. No memory.
     pub fn may_publish_row(&self, slot: SlotId, composed: &Composed<'_>, key: TileKey) -> bool
+        requires { ReadsAsWork self.now slot.place slot.serial composed.now key }
         ensures some { result ≡ true → MayPublishRow self.now slot.place slot.serial composed.now key }
         ensures none { result ≡ false → MayPublishRow self.now slot.place slot.serial composed.now key → ⊥ }
     {

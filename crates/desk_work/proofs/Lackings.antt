@@ -1,10 +1,12 @@
 -- Tiles made whole that are just those that a job lacks.
 use Rattle.std.proofs.Common.{◌≡◌, ℕ, suc, zero, ◌+◌, ◌≤◌, Bool, true, false, ◌||◌, List, [], ◌∷◌, length, take, drop, Some, refl, sym, ap, subst, ◌∙◌, arith}
 use Rattle.std.specs.Prelude.{slice_get}
-use Rattle.std.specs.List.{list_any, list_all}
+use Rattle.std.specs.List.{list_any, list_all, All, AllWithin}
 use Rattle.std.specs.FinSet as set
 use Rattle.std.specs.FinSet.{FinSet}
 use Rattle.std.proofs.lemmas.List.{drop_all}
+use Rattle.std.proofs.lemmas.List.Elements.{All-nil, All-cons, AllWithin-more}
+use Rattle.std.proofs.lemmas.Option.{get_or_from_slice_get, slice_get_within}
 use Rattle.geom_core.specs.Areas.{Area, holds, Point}
 use Rattle.geom_core.specs.Overlaps.{any_holds}
 use Rattle.geom_core.specs.Grid.{Key, key_cmp, key_cmp_total, same_key, all_keys_of}
@@ -50,6 +52,22 @@ module _ (job : Job) (kept : Sight) (x : Entire) (rects : kept.rects ≡ reads j
     pixels = λ p h. let held : holds x.needs p ≡ true = one_held x.needs p h in sym (kept_at p held) ∙ of.shows.pixels p held;
   }
 
+-- ---- each of a list
+
+module _ {X : Type 0} (P : X → Type 0) (xs : List X) (i : ℕ) (x : X) (at : slice_get xs i ≡ Some x) where
+  -- what holds of each holds of one
+  pub all_at : All P xs → P x
+  all_at all = subst P (get_or_from_slice_get xs i x x at) (all i x (slice_get_within xs i x at))
+
+  -- what holds of those so far, and of one more
+  pub all_more : AllWithin P xs 0 i → P x → AllWithin P xs 0 (i + 1)
+  all_more so_far here = AllWithin-more P xs 0 i so_far (λ d. subst P (sym (get_or_from_slice_get xs i x d at)) here)
+
+-- those that a job lacks were made of it
+pub lacking_of_job : (job : Job) (shot : Layer) (published : List Key) (tiles : List Entire) → AreLacking job shot published tiles → All (IsOfJob job shot) tiles
+lacking_of_job job shot published [] h = All-nil (IsOfJob job shot)
+lacking_of_job job shot published (x ∷ xs) h = All-cons (IsOfJob job shot) x xs h.0 (lacking_of_job job shot (x.key ∷ published) xs h.3)
+
 -- ---- one after another
 
 -- the keys that are published once some tiles are, the newest first
@@ -83,19 +101,19 @@ module _ (job : Job) (shot : Layer) (published : List Key) (tiles : List Entire)
     back = λ h. h;
   }
 
-  module _ (i : ℕ) (keys : FinSet key_cmp) (x : Entire) (at : slice_get tiles i ≡ Some x) (so : LackingSoFar job shot published tiles i keys) where
+  module _ (i : ℕ) (keys : FinSet key_cmp) (x : Entire) (at : slice_get tiles i ≡ Some x) (of : IsOfJob job shot x) (so : LackingSoFar job shot published tiles i keys) where
     front : with_keys published (take (i + 1) tiles) ≡ x.key ∷ with_keys published (take i tiles)
     front = ap (λ n. with_keys published (take n tiles)) (add_one i) ∙ next_keys published tiles i x at
 
     here : AreLacking job shot (with_keys published (take i tiles)) (drop i tiles) → AreLacking job shot (with_keys published (take i tiles)) (x ∷ drop (i + 1) tiles)
     here = subst (AreLacking job shot (with_keys published (take i tiles))) (drop_here tiles i x at)
 
-    pub one_more : (new : FinSet key_cmp) → new ≡ set.insert keys x.key → IsNext job shot published keys x → LackingSoFar job shot published tiles (i + 1) new
+    pub one_more : (new : FinSet key_cmp) → new ≡ set.insert keys x.key → IsNext job published keys x.key → LackingSoFar job shot published tiles (i + 1) new
     one_more new e next = record {
       seen = λ k. ap (list_any (same_key k)) front ∙ ap (λ b. same_key k x.key || b) (so.seen k) ∙ turned (same_key k x.key) (list_any (same_key k) published) (set.contains keys k)
           ∙ ap (λ b. list_any (same_key k) published || b) (sym (ap (λ s. set.contains s k) e ∙ set.contains-insert key_cmp_total keys x.key k));
       all = λ h. so.all (subst (AreLacking job shot (with_keys published (take i tiles))) (sym (drop_here tiles i x at))
-          (next.of, next.in_job, so.seen x.key ∙ next.fresh, subst (λ ks. AreLacking job shot ks (drop (i + 1) tiles)) front h));
+          (of, next.in_job, so.seen x.key ∙ next.fresh, subst (λ ks. AreLacking job shot ks (drop (i + 1) tiles)) front h));
       back = λ h. subst (λ ks. AreLacking job shot ks (drop (i + 1) tiles)) (sym front) (here (so.back h)).3;
     }
       where
@@ -106,8 +124,8 @@ module _ (job : Job) (shot : Layer) (published : List Key) (tiles : List Entire)
         turned false false c = refl
 
     -- where one isn't, not all are
-    pub not_next : (IsNext job shot published keys x → ⊥) → AreLacking job shot published tiles → ⊥
-    not_next never h = let l = here (so.back h) in never (record { of = l.0; in_job = l.1; fresh = sym (so.seen x.key) ∙ l.2 })
+    pub not_next : (IsNext job published keys x.key → ⊥) → AreLacking job shot published tiles → ⊥
+    not_next never h = let l = here (so.back h) in never (record { in_job = l.1; fresh = sym (so.seen x.key) ∙ l.2 })
 
   -- once all were seen
   module _ (i : ℕ) (keys : FinSet key_cmp) (low : length tiles ≤ i) (so : LackingSoFar job shot published tiles i keys) where

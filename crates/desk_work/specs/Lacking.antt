@@ -23,8 +23,7 @@ AreLacking job shot published (x ∷ xs) = IsOfJob job shot x × (list_any (same
 abbrev pub is_seen : List Key → FinSet key_cmp → Key → Bool
 is_seen published keys key = list_any (same_key key) published || set.contains keys key
 
--- the tile is of the job, which writes there, and is neither published nor in the set
-pub record IsNext (job : Job) (shot : Layer) (published : List Key) (keys : FinSet key_cmp) (x : Entire) : Type 0 where
-  pub of : IsOfJob job shot x
-  pub in_job : list_any (same_key x.key) (all_keys_of (writes job)) ≡ true
-  pub fresh : is_seen published keys x.key ≡ false
+-- the job writes in the key's tile, which is neither published nor in the set
+pub record IsNext (job : Job) (published : List Key) (keys : FinSet key_cmp) (key : Key) : Type 0 where
+  pub in_job : list_any (same_key key) (all_keys_of (writes job)) ≡ true
+  pub fresh : is_seen published keys key ≡ false

@@ -5,6 +5,7 @@ ghost use Rattle.std.specs.List.{list_all};
 ghost use Rattle.geom_core.specs.Grid.{IsWorldKey, keys_of};
 ghost use Rattle.walker_core.specs.Readings.{path_in};
 ghost use Rattle.walker_core.specs.Composing.{has_pair};
+ghost use Rattle.walker_core.specs.Sameness.{ReadTheSame};
 ghost use Rattle.desk_work.specs.LaidTiles.{Lays, LaysFront, laid_as, pairs_at, pairs_on};
 ghost use Rattle.desk_work.specs.OfWalk.{IsOfWalk, IsOfWalkAt, IsRowOfWalk};
 
@@ -29,13 +30,22 @@ pub fn is_of_walk(inputs: &Inputs, composed: &Composed<'_>) -> bool
     true
 }
 
-/// Whether a walk's patch has points in the tile, and all its groups were composed there, of the same as the
-/// walk reads there. No memory.
+/// Whether a walk's patch has points in the tile, and what was composed read the same there. No memory.
+pub fn reads_alike(inputs: &Inputs, composed: &Composed<'_>, key: TileKey) -> bool
+    ensures some { result ≡ true → ReadTheSame inputs.now composed.now.readings key }
+    ensures none { result ≡ false → IsRowOfWalk inputs.now composed.now key → ⊥ }
+{
+    is_tile_of(&inputs.patch().rect, key) && inputs.same_in(composed.inputs(), key)
+}
+
+/// Whether a walk's patch has points in the tile, and all its groups were composed there. What was composed
+/// read the same there, so no pixel is looked at. No memory.
 pub fn is_row_of_walk(inputs: &Inputs, composed: &Composed<'_>, key: TileKey) -> bool
+    requires { ReadTheSame inputs.now composed.now.readings key }
     ensures some { result ≡ true → IsRowOfWalk inputs.now composed.now key }
     ensures none { result ≡ false → IsRowOfWalk inputs.now composed.now key → ⊥ }
 {
-    is_tile_of(&inputs.patch().rect, key) && is_of_walk_at(inputs, composed, key)
+    is_tile_of(&inputs.patch().rect, key) && has_all(composed, inputs.path(), key)
 }
 
 /// Whether all groups of a walk were composed on the tile, of the same as the walk reads there.

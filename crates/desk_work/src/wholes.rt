@@ -1,6 +1,6 @@
 //! Tiles of a job that were made whole come to the desk.
 
-ghost use Rattle.std.specs.Prelude.{◌≡◌, ◌↔◌, IsTrue, true, false, is_some, Ok, OnOk, OnErr, [], ◌∷◌};
+ghost use Rattle.std.specs.Prelude.{◌≡◌, ◌↔◌, All, IsTrue, true, false, is_some, Ok, OnOk, OnErr, [], ◌∷◌};
 ghost use Rattle.std.specs.List.{list_all};
 ghost use Rattle.std.specs.FinSet as set;
 ghost use Rattle.geom_core.specs.Grid.{keys_of, all_keys_of};
@@ -18,15 +18,29 @@ use std::alloc::Global;
 use std::collections::BTreeSet;
 use whole_tiles::Whole;
 
-/// Whether the tiles are just those that a job has still to publish, each once, made of that job and
-/// from the pixels that it was started with.
+/// Whether each of the tiles was made of the job, and from the pixels that it was started with. No memory.
+pub fn are_of_job(painter: &Painter, tiles: &[Whole]) -> bool
+    requires kept { painter.now.shot.rects ≡ reads painter.now.job }
+    ensures some { result ≡ true → All (IsOfJob painter.now.job (layer_of painter.now.shot)) tiles.now }
+    ensures none { result ≡ false → All (IsOfJob painter.now.job (layer_of painter.now.shot)) tiles.now → ⊥ }
+{
+    for whole in tiles {
+        if !is_of_job(painter, whole) {
+            return false;
+        }
+    }
+    true
+}
+
+/// Whether tiles that were made of a job are just those that it has still to publish, each once. It
+/// looks at no pixel.
 ///
 /// # Errors
 /// `NoMemory`, for the set of their keys.
 pub fn are_lacking(alloc: Global, painter: &Painter, tiles: &[Whole]) -> Result<bool, NoMemory>
     requires checked { checks painter.now.job ≡ true }
     requires limits { within_limits painter.now.job ≡ true }
-    requires kept { painter.now.shot.rects ≡ reads painter.now.job }
+    requires of { All (IsOfJob painter.now.job (layer_of painter.now.shot)) tiles.now }
     ensures some { result ≡ Ok true → AreLacking painter.now.job (layer_of painter.now.shot) painter.now.published tiles.now }
     ensures none { result ≡ Ok false → AreLacking painter.now.job (layer_of painter.now.shot) painter.now.published tiles.now → ⊥ }
 {
@@ -40,16 +54,15 @@ pub fn are_lacking(alloc: Global, painter: &Painter, tiles: &[Whole]) -> Result<
     Ok(has_all(painter, &keys))
 }
 
-/// Whether the tile is one of the job that is neither published nor among the keys.
+/// Whether the job writes in the tile's place, which is neither published nor among the keys.
 fn is_next(painter: &Painter, keys: &BTreeSet<TileKey>, whole: &Whole) -> bool
     requires checked { checks painter.now.job ≡ true }
     requires limits { within_limits painter.now.job ≡ true }
-    requires kept { painter.now.shot.rects ≡ reads painter.now.job }
-    ensures some { result ≡ true → IsNext painter.now.job (layer_of painter.now.shot) painter.now.published (set.from_list keys.now.keys) whole.now }
-    ensures none { result ≡ false → IsNext painter.now.job (layer_of painter.now.shot) painter.now.published (set.from_list keys.now.keys) whole.now → ⊥ }
+    ensures some { result ≡ true → IsNext painter.now.job painter.now.published (set.from_list keys.now.keys) whole.now.key }
+    ensures none { result ≡ false → IsNext painter.now.job painter.now.published (set.from_list keys.now.keys) whole.now.key → ⊥ }
 {
     let key = whole.key();
-    is_of_job(painter, whole) && writes_in(&painter.job, key) && !is_there(painter, keys, key)
+    writes_in(&painter.job, key) && !is_there(painter, keys, key)
 }
 
 /// Whether the tile was made of the job, and the job was started with the pixels that the tile was made

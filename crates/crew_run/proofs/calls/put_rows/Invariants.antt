@@ -3,4 +3,4 @@ use Rattle.crew_run.proofs.calls.put_rows.Given as goal
 
 -- the tiles so far were published
 abbrev pub invariant-loop-i : goal.invariant-loop-i
-invariant-loop-i l = KeepsFed l.initial.desk l.desk
+invariant-loop-i g l = KeepsFed l.initial.desk l.desk

@@ -4,4 +4,4 @@ use Rattle.crew_run.proofs.feeding.feed_ahead.Given as goal
 
 -- a front was fed to the desk of that canvas
 abbrev pub invariant-loop : goal.invariant-loop
-invariant-loop l = (IsFront l.desk.fed l.script.commands) × (l.desk.canvas ≡ l.initial.desk.canvas)
+invariant-loop g l = (IsFront l.desk.fed l.script.commands) × (l.desk.canvas ≡ l.initial.desk.canvas)

@@ -4,4 +4,4 @@ use Rattle.crew_run.proofs.work.Rows.compose.Given as goal
 
 -- the keys so far lie in the world
 abbrev pub invariant-loop-i : goal.invariant-loop-i
-invariant-loop-i l = All IsWorldKey l.keys.items
+invariant-loop-i g l = All IsWorldKey l.keys.items

@@ -2,8 +2,8 @@ use Rattle.std.proofs.Common.{Some, sym, ap, ◌∙◌, subst}
 use Rattle.desk_parts.specs.Parts.{parts, state_of}
 use Rattle.desk_parts.proofs.Places.{painting_at}
 use Rattle.desk_parts.proofs.Taking.{job_at_walk, job_at_none}
-use Rattle.desk_machine.specs.Commits.{MayCommit}
-use Rattle.desk_machine.proofs.Committing.{may_commit_is, commit_drawn, commit_lacks}
+use Rattle.desk_machine.specs.Commits.{AreOfWork, MayCommit}
+use Rattle.desk_machine.proofs.Committing.{may_commit_is, of_own, commit_drawn, commit_lacks}
 use Rattle.desk_machine.proofs.machine.Machine.may_commit.Goals as goal
 
 pub are_lacking-requires-clause-checked : goal.are_lacking-requires-clause-checked
@@ -12,8 +12,9 @@ are_lacking-requires-clause-checked c = (painting_at c.self.inside.slots c.args.
 pub are_lacking-requires-clause-limits : goal.are_lacking-requires-clause-limits
 are_lacking-requires-clause-limits c = (painting_at c.self.inside.slots c.args.slot.place c.in-Some-Paint.painter c.self.invariant.slots (sym c.in-Some-Paint.ensures ∙ ap Some c.in-Some-Paint.field-0-is)).kept.3
 
-pub are_lacking-requires-clause-kept : goal.are_lacking-requires-clause-kept
-are_lacking-requires-clause-kept c = (painting_at c.self.inside.slots c.args.slot.place c.in-Some-Paint.painter c.self.invariant.slots (sym c.in-Some-Paint.ensures ∙ ap Some c.in-Some-Paint.field-0-is)).kept.1
+pub are_lacking-requires-clause-of : goal.are_lacking-requires-clause-of
+are_lacking-requires-clause-of c = of_own (parts c.self.inside.canvas c.self.inside.fed.items c.self.inside.queue c.self.inside.store c.self.inside.filmed.caches c.self.inside.updates c.self.inside.slots c.self.inside.filmed.frames c.self.inside.way c.self.inside.next) c.args.slot.place c.args.slot.serial c.in-Some-Paint.painter c.args.tiles.now (sym c.in-Some-Paint.ensures ∙ ap Some c.in-Some-Paint.field-0-is) c.self.invariant c.if-painter-slot.true
+    (subst (λ s. AreOfWork s c.args.slot.place c.args.slot.serial c.args.tiles.now) (sym c.self.view_is) c.requires)
 
 pub returns-then-painter-slot-clause-some : goal.returns-then-painter-slot-clause-some
 returns-then-painter-slot-clause-some c h = subst (λ s. MayCommit s c.args.slot.place c.args.slot.serial c.args.tiles.now) c.self.view_is

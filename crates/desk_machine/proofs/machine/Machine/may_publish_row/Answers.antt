@@ -1,9 +1,13 @@
 use Rattle.std.proofs.Common.{Some, sym, ap, ◌∙◌, subst}
 use Rattle.desk_parts.specs.Parts.{parts, state_of}
 use Rattle.desk_parts.proofs.Taking.{walk_at_job, walk_at_none}
-use Rattle.desk_machine.specs.Commits.{MayPublishRow}
-use Rattle.desk_machine.proofs.WholeWalks.{row_may, row_drawn, row_of}
+use Rattle.desk_machine.specs.Commits.{MayPublishRow, ReadsAsWork}
+use Rattle.desk_machine.proofs.WholeWalks.{row_may, reads_own, row_drawn, row_of}
 use Rattle.desk_machine.proofs.machine.Machine.may_publish_row.Goals as goal
+
+pub is_row_of_walk-requires : goal.is_row_of_walk-requires
+is_row_of_walk-requires c = reads_own (parts c.self.inside.canvas c.self.inside.fed.items c.self.inside.queue c.self.inside.store c.self.inside.filmed.caches c.self.inside.updates c.self.inside.slots c.self.inside.filmed.frames c.self.inside.way c.self.inside.next) c.args.slot.place c.args.slot.serial c.in-Some-Walk.walker c.args.composed.now c.args.key (sym c.in-Some-Walk.ensures ∙ ap Some c.in-Some-Walk.field-0-is) c.self.invariant c.if-walker-slot.true
+    (subst (λ s. ReadsAsWork s c.args.slot.place c.args.slot.serial c.args.composed.now c.args.key) (sym c.self.view_is) c.requires)
 
 pub returns-then-walker-slot-clause-some : goal.returns-then-walker-slot-clause-some
 returns-then-walker-slot-clause-some c h = subst (λ s. MayPublishRow s c.args.slot.place c.args.slot.serial c.args.composed.now c.args.key) c.self.view_is

@@ -1,6 +1,6 @@
 use Rattle.desk_parts.proofs.SettlingRuns.{canvas_stays, fed_stays}
 use Rattle.desk_core.proofs.Committing.{row_front_settles, row_settles}
-use Rattle.desk_core.proofs.desk.Desk.publish_row.Goals as goal
+use Rattle.desk_core.proofs.desk.Desk.publish_known_row.Goals as goal
 
 pub lay_walked_row-requires : goal.lay_walked_row-requires
 lay_walked_row-requires c = c.may_publish_row.ensures.some c.if-not-may_publish_row.false

@@ -1,7 +1,7 @@
 use Rattle.std.proofs.Common.{Ok, ap, refl, sym}
 use Rattle.desk_parts.proofs.SettlingRuns.{settles_none, canvas_stays, fed_stays}
 use Rattle.desk_core.proofs.Committing.{front_settles, commit_settles}
-use Rattle.desk_core.proofs.desk.Desk.commit.Goals as goal
+use Rattle.desk_core.proofs.desk.Desk.commit_known.Goals as goal
 
 pub exchange_all-requires : goal.exchange_all-requires
 exchange_all-requires c = c.in_ok-commits.ensures.some (ap Ok c.if-not-commits.false)

@@ -1,0 +1,52 @@
+-- Jobs that were taken, and tiles that were made of them, as contracts see them.
+use Rattle.std.specs.Prelude.{◌≡◌, ℕ, Option, Some, List, refl, slice_get}
+use Rattle.std.specs.List.{All}
+use Rattle.std.specs.Coded.{Coded, code_by, coded×, coded_list}
+use Rattle.job_core.specs.Paints.{layer_of}
+use Rattle.stamp_core.specs.Stamped.{Mark}
+use Rattle.whole_tiles.specs.Plans.{Plan}
+use Rattle.whole_tiles.specs.Wholes.{Entire, entire_code}
+use Rattle.desk_work.specs.Lacking.{IsOfJob}
+use Rattle.desk_machine.specs.declared.tickets.SlotId.{SlotId}
+use Rattle.desk_machine.specs.contracts.tickets.SlotId as slot_id
+use Rattle.desk_machine.specs.declared.tickets.PaintTicket.{PaintTicket}
+use Rattle.desk_core.specs.declared.tickets.Taken.{Taken}
+use Rattle.desk_core.specs.declared.tickets.Taken.TheVariants as taken
+
+-- the ticket of a job that is to be painted
+abbrev pub ticket_of : SlotId → ℕ → ℕ → Plan → PaintTicket
+ticket_of slot stroke job p = record { slot = slot; stroke = stroke; job = job; work = p.job; shot = p.shot }
+
+-- tiles for a slot
+pub record Batch : Type 0 where
+  pub slot : SlotId
+  pub tiles : List Entire
+
+-- these parts together
+abbrev pub batch : SlotId → List Entire → Batch
+batch slot tiles = record { slot = slot; tiles = tiles }
+
+-- what was stamped is a job of the slot, and each of the tiles was made of it and its shot
+pub record AreMadeOf (m : Mark Taken) (b : Batch) : Type 0 where
+  pub ticket : PaintTicket
+  pub stamped : m.value ≡ Some (taken.Paint ticket)
+  pub slot : ticket.slot ≡ b.slot
+  pub made : All (IsOfJob ticket.work (layer_of ticket.shot)) b.tiles
+
+-- there is a stamp, and what was stamped with it stands among these
+pub record IsKnown (ts : List Taken) (o : Option (Mark Taken)) : Type 0 where
+  pub mark : Mark Taken
+  pub there : o ≡ Some mark
+  pub stands : slice_get ts mark.number ≡ mark.value
+
+-- both are there, and were made for one value
+pub record AreOne (a b : Option (Mark Taken)) : Type 0 where
+  pub one : Mark Taken
+  pub other : Mark Taken
+  pub first : a ≡ Some one
+  pub second : b ≡ Some other
+  pub same : one.value ≡ other.value
+
+-- the code by which contracts tell batches apart
+abbrev pub batch_code : Coded Batch
+batch_code = code_by (SlotId × List Entire) (coded× (slot_id.the_row).coded (coded_list entire_code)) (λ b. (b.slot, b.tiles)) (λ t. batch t.0 t.1) (λ _. refl)

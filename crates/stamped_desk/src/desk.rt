@@ -1,0 +1,183 @@
+//! The desk, and the stamps.
+
+ghost use Rattle.std.specs.Prelude.{◌≡◌, ◌<◌, ◌-◌, ◌^◌, [], true, length, Ok, Some, IfOk, IfSome, OnErr, OnOk};
+ghost use Rattle.doc_model.specs.Lawful.{may_follow};
+ghost use Rattle.doc_model.specs.Strokes.{entries};
+ghost use Rattle.machine_model.specs.State.{IsSettled};
+ghost use Rattle.machine_model.specs.Event.{Feed, Start, WalkStart};
+ghost use Rattle.machine_model.specs.Step.{Step, Run};
+ghost use Rattle.desk_parts.specs.Choices.{IsIdle, MayWant, DoesAtOnce};
+ghost use Rattle.desk_parts.specs.Enabled.{IsEnd, MayEnd};
+ghost use Rattle.desk_parts.specs.Settles.{Settles};
+ghost use Rattle.desk_machine.specs.Commits.{MayCommit, MayPublishRow, RunsFront, row_events};
+ghost use Rattle.desk_machine.specs.Tickets.{IsPaintTicket, IsWalkTicket};
+ghost use Rattle.desk_machine.specs.declared.tickets.PaintTicket.{PaintTicket};
+ghost use Rattle.desk_machine.specs.declared.tickets.WalkTicket.{WalkTicket};
+ghost use Rattle.desk_core.specs.Commits.{commit_events};
+ghost use Rattle.desk_core.specs.declared.answers.Published.TheVariants as answers;
+ghost use Rattle.desk_core.specs.declared.answers.Ended.TheVariants as ended;
+ghost use Rattle.desk_core.specs.declared.tickets.Taken.TheVariants as taken;
+ghost use Rattle.stamped_desk.specs.Stamped.{IsKnown};
+
+use crate::tiles::StampedTiles;
+use crate::walk::StampedWalk;
+use desk_core::{Desk, Ended, Published, SlotId, Taken};
+use doc_model::Command;
+use geom_core::{NoMemory, TileKey};
+use memento_core::Steps;
+use stamp_core::{Naming, Stamp, Stamps, Unnamed};
+use std::marker::Model;
+use std::sync::ledger::Ledger;
+use walker_core::Composed;
+
+/// A desk, and the stamps of what was taken from it. Contracts see the desk's state.
+#[derive(Drop)]
+pub struct StampedDesk<J: Naming> {
+    desk: Desk,
+    stamps: Stamps<J, Taken>,
+}
+
+impl<J: Naming> Model for StampedDesk<J> {
+    ghost use Rattle.machine_model.specs.State.{State};
+    ghost use Rattle.machine_model.specs.Codes.{state_code};
+    ghost use Rattle.stamped_desk.specs.Drawn.{AreDrawn};
+
+    ghost Value = { State };
+
+    ghost coded = { state_code };
+
+    ghost view = { λ d. d.desk };
+
+    ghost invariant = { λ d. AreDrawn d.desk d.stamps };
+}
+
+impl<J: Naming> StampedDesk<J> {
+    /// A desk of which nothing that was taken is known.
+    pub fn new(desk: Desk, unnamed: Unnamed<Taken>) -> StampedDesk<J>
+        requires { unnamed ≡ J.book }
+        ensures { result ≡ desk }
+    {
+        StampedDesk {
+            desk,
+            stamps: unnamed.named::<J>(),
+        }
+    }
+
+    /// The desk.
+    pub fn desk(&self) -> &Desk
+        ensures { result.now ≡ self.now }
+    {
+        &self.desk
+    }
+
+    /// The desk on its own.
+    pub fn into_desk(self) -> Desk
+        ensures { result ≡ self }
+    {
+        let StampedDesk { desk, .. } = self;
+        desk
+    }
+
+    /// Feeds a command that may follow those that were fed.
+    ///
+    /// # Errors
+    /// `NoMemory`; all is as it was.
+    pub fn feed(&mut self, command: &Command) -> Result<(), NoMemory>
+        requires lawful { may_follow (entries self.old.fed) command.now ≡ true }
+        requires few { length self.old.fed < 2 ^ 32 - 1 }
+        ensures ok { OnOk result (Step self.old (Feed command.now) self.new) }
+        ensures err { OnErr result (self.new ≡ self.old) }
+    {
+        self.desk.feed(command)
+    }
+
+    /// Makes an event that may happen, as `Desk::take` does, and a stamp of what it gives.
+    ///
+    /// # Errors
+    /// `NoMemory`, where `Desk::take` answers so; all is as it was.
+    pub fn take<L: Ledger>(
+        &mut self,
+        steps: &mut Steps<L>,
+    ) -> Result<(Taken, Option<Stamp<J, Taken>>), NoMemory>
+        ensures paint { (t : PaintTicket) → IfOk result (λ r. r.0 ≡ taken.Paint t → Step self.old (Start t.slot.place) self.new × IsPaintTicket t self.new) }
+        ensures walk { (t : WalkTicket) → IfOk result (λ r. r.0 ≡ taken.Walk t → Step self.old (WalkStart t.slot.place t.inputs.patch) self.new × IsWalkTicket t self.new) }
+        ensures did { IfOk result (λ r. r.0 ≡ taken.Did → DoesAtOnce self.old self.new steps.old steps.new) }
+        ensures idle { IfOk result (λ r. r.0 ≡ taken.Idle → IsIdle self.old × (self.new ≡ self.old)) }
+        ensures settled { IfOk result (λ r. r.0 ≡ taken.Settled → IsSettled self.old × (self.new ≡ self.old)) }
+        ensures stamp { IfOk result (λ r. IfSome r.1 (λ s. s.value ≡ Some r.0)) }
+        ensures err { OnErr result (MayWant self.old × (self.new ≡ self.old)) }
+    {
+        let taken = self.desk.take(steps)?;
+        let stamp = self.stamps.stamp(&taken);
+        Ok((taken, stamp))
+    }
+
+    /// Publishes all tiles that the job in their slot lacks, and ends it, as `Desk::commit` does. Where they were made
+    /// of what was taken for that slot, no pixel is compared.
+    ///
+    /// # Errors
+    /// `NoMemory`; of the tiles some, from the first on, are published, or none.
+    pub fn commit(&mut self, tiles: &StampedTiles<J>) -> Result<Published, NoMemory>
+        ensures stored { result ≡ Ok answers.Stored → Run self.old (commit_events tiles.now.slot.place tiles.now.tiles) self.new }
+        ensures nothing { result ≡ Ok answers.Nothing → self.new ≡ self.old }
+        ensures refused { result ≡ Ok answers.Nothing → MayCommit self.old tiles.now.slot.place tiles.now.slot.serial tiles.now.tiles → ⊥ }
+        ensures front { OnErr result (RunsFront self.old (commit_events tiles.now.slot.place tiles.now.tiles) self.new) }
+        ensures runs { Settles self.old self.new }
+        ensures canvas { self.new.canvas ≡ self.old.canvas }
+        ensures fed { self.new.fed ≡ self.old.fed }
+    {
+        if knows(&self.stamps, &tiles.stamp) {
+            self.desk.commit_known(tiles.slot(), &tiles.tiles)
+        } else {
+            self.desk.commit(tiles.slot(), &tiles.tiles)
+        }
+    }
+
+    /// Publishes a tile of a walk, of all its groups of which it isn't published, as `Desk::publish_row` does. Where
+    /// the walk was taken from this desk, no pixel is compared.
+    ///
+    /// # Errors
+    /// `NoMemory`; of the groups some, from the first on, are published, or none.
+    pub fn publish_row(
+        &mut self,
+        walk: &StampedWalk<J>,
+        composed: &Composed<'_>,
+        key: TileKey,
+    ) -> Result<Published, NoMemory>
+        requires { composed.now.readings ≡ walk.now.inputs }
+        ensures stored { result ≡ Ok answers.Stored → Run self.old (row_events self.old walk.now.slot.place key) self.new }
+        ensures nothing { result ≡ Ok answers.Nothing → self.new ≡ self.old }
+        ensures refused { result ≡ Ok answers.Nothing → MayPublishRow self.old walk.now.slot.place walk.now.slot.serial composed.now key → ⊥ }
+        ensures front { OnErr result (RunsFront self.old (row_events self.old walk.now.slot.place key) self.new) }
+        ensures runs { Settles self.old self.new }
+        ensures canvas { self.new.canvas ≡ self.old.canvas }
+        ensures fed { self.new.fed ≡ self.old.fed }
+    {
+        let slot = walk.ticket().slot;
+        if knows(&self.stamps, &walk.stamp) {
+            self.desk.publish_known_row(slot, composed, key)
+        } else {
+            self.desk.publish_row(slot, composed, key)
+        }
+    }
+
+    /// Ends the work in a slot whose tiles are all published. `Nothing` exactly where the slot hasn't that
+    /// work, or some tile of it isn't published. No memory.
+    pub fn end(&mut self, slot: SlotId) -> Ended
+        ensures done { result ≡ ended.Done → IsEnd self.old slot.place self.new }
+        ensures nothing { result ≡ ended.Nothing → self.new ≡ self.old }
+        ensures refused { result ≡ ended.Nothing → MayEnd self.old slot.place slot.serial → ⊥ }
+    {
+        self.desk.end(slot)
+    }
+}
+
+/// Whether there is a stamp, and it is one of these.
+fn knows<J: Naming>(stamps: &Stamps<J, Taken>, stamp: &Option<Stamp<J, Taken>>) -> bool
+    ensures { result ≡ true → IsKnown stamps.now stamp.now }
+{
+    match stamp {
+        Some(stamp) => stamps.knows(stamp),
+        None => false,
+    }
+}
