@@ -1,3 +1,4 @@
 pub mod Nodes
 pub mod Codes
 pub mod Around
+pub mod Exchanges

@@ -2,10 +2,12 @@
 #![tactic(auto)]
 
 mod edits;
+mod exchange;
 mod groups;
 mod lookup;
 mod node;
 mod refusals;
 mod tree;
 
+pub use exchange::Exchange;
 pub use tree::Tree;

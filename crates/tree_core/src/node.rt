@@ -8,7 +8,7 @@ use doc_model::Look;
 use pixel_core::Op;
 
 /// A node: how many groups but the root stand round it, its id, its look, and whether it is a paint layer.
-#[derive(Clone, Copy, Debug)]
+#[derive(Clone, Copy, Debug, PartialEq, Eq)]
 pub struct Node {
     pub depth: u8,
     pub id: u16,

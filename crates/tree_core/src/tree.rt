@@ -1,21 +1,25 @@
 //! The tree: its readers and its changes.
 
-ghost use Rattle.std.specs.Prelude.{◌≡◌, ℕ, ◌≤◌, ◌+◌, true, false, ◌||◌, ◌==◌, not, None, Ok, Err, IfErr, OnOk, OnErr, IsNone, ◌↔◌, length};
+ghost use Rattle.std.specs.Prelude.{◌≡◌, ℕ, ◌≤◌, ◌+◌, true, false, ◌||◌, ◌==◌, not, None, Ok, Err, IfErr, OnOk, OnErr, IfOk, IsNone, ◌↔◌, length};
 ghost use Rattle.doc_model.specs.Changes.{changed, there, takes, child_count, no_new, no_place, set_in, new_look, answer};
 ghost use Rattle.doc_model.specs.Flat.{node};
 ghost use Rattle.doc_model.specs.Forest.{none, has, is_group, count, depth, height, only, without};
 ghost use Rattle.doc_model.specs.declared.tree.Change.TheVariants as change;
+ghost use Rattle.tree_core.specs.Exchanges.{Leads, led};
 ghost use Rattle.tree_core.specs.Nodes.{content_of};
 ghost use Rattle.doc_model.specs.Laws.{IsDocument};
 ghost use Rattle.doc_model.specs.Readers.{look_in, child_in, order, parent};
 
 use crate::edits::{move_along, push_all, set_look, take_out};
+use crate::exchange::{Exchange, between, exchange_nodes};
 use crate::groups::groups_of;
 use crate::lookup::{above, child_at, children_at, find, group_at, group_in, holds, span};
 use crate::node::{Node, new_node};
 use crate::refusals::{new_spot, route_of};
 use arrayvec::ArrayVec;
 use doc_model::{Change, Look, TreeFault};
+use geom_core::NoMemory;
+use std::alloc::Global;
 use std::marker::Model;
 
 /// The tree of a document: the root, which is a group with id 0, and the layers and groups in it.
@@ -153,6 +157,24 @@ impl Tree {
             Change::Place { id, parent, place } => self.place(id, parent, place),
             Change::Look { id, look } => self.set_look(id, look),
         }
+    }
+
+    /// What makes this tree the other one. Two passes over the nodes.
+    pub fn exchange_for(&self, alloc: Global, other: &Tree) -> Result<Exchange, NoMemory>
+        ensures ok { IfOk result (λ x. led x self.now ≡ other.now) }
+        ensures leads { IfOk result (λ x. Leads x self.now) }
+    {
+        between(alloc, self.nodes.as_slice(), other.nodes.as_slice())
+    }
+
+    /// Becomes the tree that `other` leads to, and `other` then leads back. No memory.
+    pub fn exchange(&mut self, other: &mut Exchange)
+        requires { Leads other.old self.old }
+        ensures new { self.new ≡ led other.old self.old }
+        ensures back { led other.new self.new ≡ self.old }
+        ensures leads { Leads other.new self.new }
+    {
+        exchange_nodes(&mut self.nodes, other);
     }
 
     /// Whether a node has that id; none has 0.
