@@ -394,16 +394,16 @@ grow_stands ks more history way grows s = record { past = more_fit ks more grows
     go None h = tt
     go (Some w) h = λ k i. grows.keys w.id k (h k i)
 
-pub grown : (old new : Document) (history after : Stack Entry) (way : Option Way) (room : Bool) → doc_in new ≡ doc_in old → Grows (standing old.slots) (standing new.slots) → after.past ≡ history.past → after.future ≡ history.future → history.spare ≤ after.spare
+pub grown : (old new : Document) (history after : Stack Entry) (way : Option Way) (room : Bool) → doc_in new ≡ doc_in old → Grows (standing old.tree old.slots) (standing new.tree new.slots) → after.past ≡ history.past → after.future ≡ history.future → history.spare ≤ after.spare
     → IsStored old history way room → IsStored new after way room
 grown old new history after way room same grows past future spare s =
-    let stands = grow_stands (standing old.slots) (standing new.slots) history way grows s.stand in
+    let stands = grow_stands (standing old.tree old.slots) (standing new.tree new.slots) history way grows s.stand in
     record {
       kept = record {
         archive = subst IsArchive (λ i. record { past = laid (base_of way (sym same i)) (sym past i); base = base_of way (sym same i); present = sym same i; future = laid (base_of way (sym same i)) (sym future i); way = way_of way; room = room }) s.kept.archive;
         spare = λ e. (let h = s.kept.spare e in omega (arith, h, spare));
       };
-      stand = record { past = subst (AllFit (standing new.slots)) (sym past) stands.past; future = subst (AllFit (standing new.slots)) (sym future) stands.future; under_way = stands.under_way };
+      stand = record { past = subst (AllFit (standing new.tree new.slots)) (sym past) stands.past; future = subst (AllFit (standing new.tree new.slots)) (sym future) stands.future; under_way = stands.under_way };
     }
 
 -- after a change of the tree, which the entry takes back

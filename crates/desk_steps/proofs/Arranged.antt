@@ -19,6 +19,7 @@ use Rattle.doc_model.specs.declared.tree.Change.{Change}
 use Rattle.doc_model.specs.declared.tree.Change.TheVariants as change
 use Rattle.doc_model.proofs.Parents.{Distinct}
 use Rattle.machine_model.specs.Effects.{layer_in}
+use Rattle.tree_core.specs.Exchanges.{led}
 use Rattle.paint_device.specs.Sheets.{Sheet, sheet}
 use Rattle.desk_steps.specs.Founds.{has_key}
 use Rattle.desk_steps.specs.Slots.{Slots, AllHave, device_in, devices_after, has_slot, layer_or, once_filled, standing}
@@ -26,7 +27,7 @@ use Rattle.desk_steps.specs.Documents.{Fits, arranged, arranged_standing, doc_in
 use Rattle.desk_steps.specs.declared.arrangement.Arrangement.{Arrangement}
 use Rattle.desk_steps.specs.declared.arrangement.Slot.{Slot}
 use Rattle.desk_steps.specs.declared.document.Document.{Document}
-use Rattle.desk_steps.proofs.Filled.{after, changed_each, content_before, each_same, through_cond, with_contents}
+use Rattle.desk_steps.proofs.Filled.{after, changed_each, content_before, each_same, each_shape, through_cond, with_contents}
 use Rattle.desk_steps.proofs.Devices.{false-true, layer_shown, layer_under, new_plain, shown}
 use Rattle.desk_steps.proofs.Rearranged.{layer_comes, layers_stay}
 
@@ -163,7 +164,7 @@ arranged_is : (t : Forest (Unit {0})) (g : ℕ → Option Sheet) → ((q : ℕ) 
 arranged_is t g has other slots = λ i. each (λ q u. (filled_through layer_or (λ o. o) g slots q ∙ (λ j. once_filled layer_or (λ p. sym (layer_shown t g has p) j) slots q)) i) other
 
 -- the tree and devices of a document are exchanged with those of an arrangement
-module _ (d : Document) (a : Arrangement) (tree : Forest (Unit {0})) (slots : List Slot) (n : Slots) (after : List Slot) (fits : Fits a (standing d.slots)) (tree_is : tree ≡ a.tree.value) (slots_are : slots ≡ a.slots.items)
+module _ (d : Document) (a : Arrangement) (tree : Forest (Unit {0})) (slots : List Slot) (n : Slots) (after : List Slot) (fits : Fits a (standing d.tree d.slots)) (tree_is : tree ≡ led a.tree d.tree) (slots_are : slots ≡ a.slots.items)
     (new : (q : ℕ) → device_in n q ≡ devices (device_in d.slots) slots q) (back : (q : ℕ) → devices (device_in n) after q ≡ device_in d.slots q) (same : (q : ℕ) → has_slot n q ≡ has_slot d.slots q) where
   new_is : (q : ℕ) → device_in n q ≡ devices (device_in d.slots) a.slots.items q
   new_is q = new q ∙ ap (λ s. devices (device_in d.slots) s q) slots_are
@@ -172,20 +173,23 @@ module _ (d : Document) (a : Arrangement) (tree : Forest (Unit {0})) (slots : Li
   other_has q = ap is_some (new_is q) ∙ filled_through is_some (λ o. o) (device_in d.slots) a.slots.items q ∙ sym (ap (λ t. is_some (content q t)) tree_is ∙ fits.layers q)
 
   pub other_shown : shown tree (device_in n) ≡ arranged a (doc_in d)
-  other_shown = (λ i. shown (tree_is i) (λ q. new_is q i)) ∙ arranged_is d.tree (device_in d.slots) d.fits a.tree.value a.slots.items
+  other_shown = (λ i. shown (tree_is i) (λ q. new_is q i)) ∙ arranged_is d.tree (device_in d.slots) d.fits (led a.tree d.tree) a.slots.items
+      ∙ ap (λ t. each (λ q u. once_filled layer_or (λ p. layer_in p (doc_in d)) a.slots.items q) (led a.tree t)) (sym (each_shape (layer_under (device_in d.slots)) d.tree))
 
   pub back_shown : (old : Forest (Unit {0})) → old ≡ d.tree → each (λ q u. once_filled layer_or (λ p. layer_in p (shown tree (device_in n))) after q) old ≡ doc_in d
   back_shown old is = sym (arranged_is tree (device_in n) other_has old after) ∙ (λ i. shown (is i) (λ q. back q i))
 
-  pub other_stands : arranged_standing a (standing d.slots) ≡ standing n
+  pub other_stands : arranged_standing a (standing d.tree d.slots) ≡ standing tree n
   other_stands = λ i. record {
+    tree = sym tree_is i;
     slots = λ q. sym (same q) i;
     layers = λ q. sym (ap is_some (new_is q) ∙ filled_through is_some (λ o. o) (device_in d.slots) a.slots.items q) i;
     keys = λ q. sym (ap has_key (new_is q) ∙ filled_through has_key (λ o. o) (device_in d.slots) a.slots.items q) i;
   }
 
-  pub back_stands : record { slots = has_slot n; layers = once_filled is_some (λ q. is_some (device_in n q)) after; keys = once_filled has_key (λ q. has_key (device_in n q)) after } ≡ standing d.slots
-  back_stands = λ i. record {
+  pub back_stands : (old : Forest (Unit {0})) → old ≡ d.tree → record { tree = old; slots = has_slot n; layers = once_filled is_some (λ q. is_some (device_in n q)) after; keys = once_filled has_key (λ q. has_key (device_in n q)) after } ≡ standing d.tree d.slots
+  back_stands old is = λ i. record {
+    tree = is i;
     slots = λ q. same q i;
     layers = λ q. (sym (filled_through is_some (λ o. o) (device_in n) after q) ∙ ap is_some (back q)) i;
     keys = λ q. (sym (filled_through has_key (λ o. o) (device_in n) after q) ∙ ap has_key (back q)) i;

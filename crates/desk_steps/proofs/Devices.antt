@@ -129,11 +129,11 @@ module _ (m n : Slots) (id : ℕ) (R : Sheet → Sheet → Type 0) (c : ChangesD
     | inr h ↦ subst (λ o. P (has_key (device_in m q) k) (has_key o k)) (sym h.1) (itself (has_key (device_in m q) k))
   ]
 
-  pub standing_same : ((k : Key) → map.contains_key c.device.tiles k ≡ map.contains_key c.before.tiles k) → standing m ≡ standing n
-  standing_same same = λ i. record { slots = λ q. sym (c.slots q) i; layers = λ q. sym (layers_stay q) i; keys = λ q k. keys_of_either (λ a b. a ≡ b) (λ b. refl) (λ k. sym (same k)) q k i }
+  pub standing_same : ((k : Key) → map.contains_key c.device.tiles k ≡ map.contains_key c.before.tiles k) → (t : Forest (Unit {0})) → standing t m ≡ standing t n
+  standing_same same t = λ i. record { tree = t; slots = λ q. sym (c.slots q) i; layers = λ q. sym (layers_stay q) i; keys = λ q k. keys_of_either (λ a b. a ≡ b) (λ b. refl) (λ k. sym (same k)) q k i }
 
-  pub standing_grows : ((k : Key) → map.contains_key c.before.tiles k ≡ true → map.contains_key c.device.tiles k ≡ true) → Grows (standing m) (standing n)
-  standing_grows more = record { slots = λ q h. c.slots q ∙ h; layers = layers_stay; keys = keys_of_either (λ a b. a ≡ true → b ≡ true) (λ b h. h) more }
+  pub standing_grows : ((k : Key) → map.contains_key c.before.tiles k ≡ true → map.contains_key c.device.tiles k ≡ true) → (t : Forest (Unit {0})) → Grows (standing t m) (standing t n)
+  standing_grows more t = record { tree = refl; slots = λ q h. c.slots q ∙ h; layers = layers_stay; keys = keys_of_either (λ a b. a ≡ true → b ≡ true) (λ b h. h) more }
 
   pub own_stands : (found : Keyed Pixels) → StandIn found (Some c.device) → StandIn found (device_in n id)
   own_stands found = subst (StandIn found) (sym (c.puts id ∙ taken (eqb id id) _ _ (own id)))
@@ -161,7 +161,7 @@ module _ (m n : Slots) (id : ℕ) (R : Sheet → Sheet → Type 0) (c : ChangesD
 pub regained : (old new : Document) (id : ℕ) (found after : Keyed Pixels) → new.tree ≡ old.tree → (c : ChangesDevice old.slots new.slots id (GivesBack found after)) → Regains id found after old new
 regained old new id found after tree c = record {
   same = ap (λ t. adjusted id (patched after) (shown t (device_in new.slots))) tree ∙ both_adjusted old.slots new.slots id (GivesBack found after) c old.tree (patched after) (patched found) c.holds.same;
-  grows = standing_grows old.slots new.slots id (GivesBack found after) c c.holds.keys;
+  grows = subst (λ t. Grows (standing old.tree old.slots) (standing t new.slots)) (sym tree) (standing_grows old.slots new.slots id (GivesBack found after) c c.holds.keys old.tree);
   stand = own_stands old.slots new.slots id (GivesBack found after) c after c.holds.stand;
 }
 

@@ -12,6 +12,7 @@ use Rattle.doc_model.specs.Picture.{Doc}
 use Rattle.doc_model.proofs.Contents.{content-with_content}
 use Rattle.doc_model.proofs.SameContent.{content_has}
 use Rattle.machine_model.specs.State.{Reach, Part}
+use Rattle.tree_core.specs.Exchanges.{Leads, led}
 use Rattle.machine_model.specs.Reached.{Reaches, PastReaches}
 use Rattle.desk_steps.specs.declared.reach.Reach.TheVariants as tells
 use Rattle.desk_steps.specs.declared.entry.Entry.{Entry}
@@ -77,6 +78,7 @@ filled_more (s ∷ rest) f g more = filled_more rest (λ q. cond (eqb s.id q) (h
 
 arranged_grows : (a : Arrangement) (ks more : Standing) → Grows ks more → Grows (arranged_standing a ks) (arranged_standing a more)
 arranged_grows a ks more grows = record {
+  tree = ap (led a.tree) grows.tree;
   slots = grows.slots;
   layers = λ q. λ i. once_filled is_some (λ p. grows.layers p i) a.slots.items q;
   keys = filled_more a.slots.items ks.keys more.keys grows.keys;
@@ -86,7 +88,7 @@ arranged_grows a ks more grows = record {
 pub more_fit : (ks more : Standing) → Grows ks more → (es : List Entry) → AllFit ks es → AllFit more es
 more_fit ks more grows [] h = tt
 more_fit ks more grows (entry.Tree a ∷ es) h = (
-  record { layers = λ q. h.0.layers q ∙ (λ i. once_filled is_some (λ p. sym (grows.layers p) i) a.slots.items q); slots = have_more ks.slots more.slots grows.slots a.slots.items h.0.slots },
+  record { leads = subst (Leads a.tree) grows.tree h.0.leads; layers = λ q. ap (λ t. is_some (content q (led a.tree t))) (sym grows.tree) ∙ h.0.layers q ∙ (λ i. once_filled is_some (λ p. sym (grows.layers p) i) a.slots.items q); slots = have_more ks.slots more.slots grows.slots a.slots.items h.0.slots },
   more_fit (arranged_standing a ks) (arranged_standing a more) (arranged_grows a ks more grows) es h.1,
 )
 more_fit ks more grows (entry.Layer id found ∷ es) h = ((λ k i. grows.keys id k (h.0 k i)), more_fit ks more grows es h.1)

@@ -1,23 +1,21 @@
 -- Tiles made whole, on a device.
-use Rattle.std.proofs.Common.{◌≡◌, ℕ, suc, zero, ◌+◌, ◌<◌, Bool, true, false, ◌&&◌, ◌||◌, cond, List, [], ◌∷◌, ◌++◌, length, take, get_or, Option, Some, None, refl, sym, ap, subst, ◌∙◌, arith}
-use Rattle.std.specs.List.{list_any}
+use Rattle.std.proofs.Common.{◌≡◌, ℕ, ◌+◌, ◌<◌, Bool, true, false, ◌&&◌, ◌||◌, cond, List, [], ◌∷◌, ◌++◌, length, take, get_or, Some, None, refl, sym, ap, ◌∙◌}
 use Rattle.std.specs.FinMap as map
 use Rattle.std.proofs.lemmas.List.{take_more}
 use Rattle.std.proofs.lemmas.List.Folds.{list_any-append}
 use Rattle.std.proofs.Math.Seq.{take-length}
 use Rattle.geom_core.specs.Areas.{Area, holds, Point}
-use Rattle.geom_core.specs.Overlaps.{any_holds, place_in, IsShared}
+use Rattle.geom_core.specs.Overlaps.{any_holds, IsShared}
 use Rattle.geom_core.specs.Grid.{Key, key_of, tile}
-use Rattle.geom_core.proofs.Tests.{and_right, taken}
-use Rattle.geom_core.proofs.Tiles.{key_same, own_tile}
-use Rattle.pixel_core.specs.Rgba.{Rgba, clear}
+use Rattle.geom_core.proofs.Tiles.{key_same}
+use Rattle.pixel_core.specs.Rgba.{Rgba}
 use Rattle.tile_core.specs.Pixels.{Pixels, pixel_at, pixel_or, HasPixels, SameOn}
 use Rattle.tile_core.specs.Blocks.{piece, piece_at, LaysBlock}
 use Rattle.tile_core.specs.Shots.{Sight, sight, sight_at}
 use Rattle.doc_model.specs.Layers.{Layer, at}
 use Rattle.doc_model.specs.Jobs.{writes, apply}
 use Rattle.doc_model.specs.Shots.{in_tile}
-use Rattle.job_core.specs.Paints.{Paint, paint, layer_of}
+use Rattle.job_core.specs.Paints.{Paint, paint}
 use Rattle.job_core.proofs.Values.{tile_held}
 use Rattle.whole_tiles.specs.Wholes.{Entire, Shows, IsEntire, IsOf}
 use Rattle.whole_tiles.proofs.Seen.{default-layer_of, covered_seen, own_seen}

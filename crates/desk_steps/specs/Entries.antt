@@ -100,4 +100,4 @@ pub record KeysStand (ks : Standing) (history : Stack Entry) (way : Option Way) 
 -- a store whose layers are devices
 pub record IsStored (doc : Document) (history : Stack Entry) (way : Option Way) (room : Bool) : Type 0 where
   pub kept : IsKept (doc_in doc) history way room
-  pub stand : KeysStand (standing doc.slots) history way
+  pub stand : KeysStand (standing doc.tree doc.slots) history way

@@ -63,18 +63,20 @@ pub record ChangesDevice (old new : Slots) (id : ℕ) (R : Sheet → Sheet → T
   pub slots : (q : ℕ) → has_slot new q ≡ has_slot old q
   pub holds : R before device
 
--- which slots and layers there are, and which keys stand in each layer
+-- the tree, which slots and layers there are, and which keys stand in each layer
 pub record Standing : Type 0 where
+  pub tree : Forest (Unit {0})
   pub slots : ℕ → Bool
   pub layers : ℕ → Bool
   pub keys : ℕ → Key → Bool
 
--- those of devices
-abbrev pub standing : Slots → Standing
-standing slots = record { slots = has_slot slots; layers = λ q. is_some (device_in slots q); keys = λ q. has_key (device_in slots q) }
+-- those of a tree and devices
+abbrev pub standing : Forest (Unit {0}) → Slots → Standing
+standing t slots = record { tree = t; slots = has_slot slots; layers = λ q. is_some (device_in slots q); keys = λ q. has_key (device_in slots q) }
 
--- the same layers, and the slots and keys or more
+-- the same tree and layers, and the slots and keys or more
 pub record Grows (old new : Standing) : Type 0 where
+  pub tree : old.tree ≡ new.tree
   pub slots : (q : ℕ) → old.slots q ≡ true → new.slots q ≡ true
   pub layers : (q : ℕ) → new.layers q ≡ old.layers q
   pub keys : (q : ℕ) (k : Key) → old.keys q k ≡ true → new.keys q k ≡ true

@@ -12,7 +12,7 @@ use paint_device::Device;
 use std::alloc::Global;
 use std::collections::BTreeMap;
 use std::mem;
-use tree_core::Tree;
+use tree_core::{Exchange, Tree};
 
 /// What the slot of an id gets: the device of a paint layer, or None.
 #[derive(Drop)]
@@ -21,10 +21,10 @@ pub struct Slot {
     pub device: Option<Device>,
 }
 
-/// Another tree of a document, and what the slots get of which the devices differ.
+/// What makes the tree of a document another one, and what the slots get of which the devices differ.
 #[derive(Drop)]
 pub struct Arrangement {
-    pub tree: Box<Tree>,
+    pub tree: Exchange,
     pub slots: Vec<Slot>,
 }
 
@@ -73,7 +73,7 @@ pub fn slots_of(
     match *change {
         Change::Layer { id, ground, .. } => {
             make_slot(devices, id)?;
-            let mut slots = Vec::new(alloc);
+            let mut slots = Vec::with_capacity(alloc, 1)?;
             slots.push(Slot {
                 id,
                 device: Some(Device::new(alloc, ground)),

@@ -32,7 +32,6 @@ use memento_core::{Revision, Steps};
 use paint_device::Device;
 use std::alloc::Global;
 use std::collections::BTreeMap;
-use std::mem;
 use std::sync::ledger::Ledger;
 use tile_core::Tile;
 use tree_core::Tree;
@@ -87,7 +86,7 @@ impl Document {
         ensures back { adjusted id (patched found.new) (doc_in self.new) ≡ doc_in self.old }
         ensures keys { keys_in found.new ≡ keys_in found.old }
         ensures stand { StandIn found.new (device_in self.new.slots id) }
-        ensures kept { standing self.old.slots ≡ standing self.new.slots }
+        ensures kept { standing self.old.tree self.old.slots ≡ standing self.new.tree self.new.slots }
         ensures counts { steps.new ≡ steps.old + set.len (keys_in found.old) }
     {
         exchange_under(&mut self.slots, id, found, steps);
@@ -160,34 +159,34 @@ impl Document {
     /// `Tree` with the first refusal, exactly where there is one.
     pub fn changed(&mut self, alloc: Global, change: &Change) -> Result<Arrangement, TreeRefusal>
         ensures ok { IfOk result (λ a. changed plain change.now (doc_in self.old) ≡ Ok (arranged a (doc_in self.old))) }
-        ensures fits { IfOk result (λ a. Fits a (standing self.new.slots)) }
+        ensures fits { IfOk result (λ a. Fits a (standing self.new.tree self.new.slots)) }
         ensures tree { (fault : TreeFault) → result ≡ Err (refusal.Tree fault) → changed plain change.now (doc_in self.old) ≡ Err fault }
         ensures same { doc_in self.new ≡ doc_in self.old }
-        ensures grows { Grows (standing self.old.slots) (standing self.new.slots) }
+        ensures grows { Grows (standing self.old.tree self.old.slots) (standing self.new.tree self.new.slots) }
     {
         let _count = self.tree.node_count();
         let mut tree = self.tree.copy();
         match tree.change(change) {
             Ok(()) => {
                 let slots = slots_of(alloc, &mut self.slots, &tree, change)?;
-                let tree = Box::new(alloc, tree)?;
+                let tree = self.tree.exchange_for(alloc, &tree)?;
                 Ok(Arrangement { tree, slots })
             }
             Err(fault) => Err(TreeRefusal::Tree(fault)),
         }
     }
 
-    /// Exchanges the tree and the devices with another arrangement, which then gives back this one.
+    /// Exchanges the nodes and the devices with another arrangement, which then gives back this one.
     /// No tile is touched, and no memory taken.
     pub fn arrange(&mut self, other: &mut Arrangement)
-        requires { Fits other.old (standing self.old.slots) }
+        requires { Fits other.old (standing self.old.tree self.old.slots) }
         ensures new { doc_in self.new ≡ arranged other.old (doc_in self.old) }
         ensures back { arranged other.new (doc_in self.new) ≡ doc_in self.old }
-        ensures stands { arranged_standing other.old (standing self.old.slots) ≡ standing self.new.slots }
-        ensures stood { arranged_standing other.new (standing self.new.slots) ≡ standing self.old.slots }
-        ensures fits { Fits other.new (standing self.new.slots) }
+        ensures stands { arranged_standing other.old (standing self.old.tree self.old.slots) ≡ standing self.new.tree self.new.slots }
+        ensures stood { arranged_standing other.new (standing self.new.tree self.new.slots) ≡ standing self.old.tree self.old.slots }
+        ensures fits { Fits other.new (standing self.new.tree self.new.slots) }
     {
-        mem::swap(&mut self.tree, &mut *other.tree);
+        self.tree.exchange(&mut other.tree);
         exchange_devices(&mut self.slots, &mut other.slots);
     }
 }

@@ -17,7 +17,7 @@ use tile_core::Tile;
 /// What gives back the document from before a change, or after it.
 #[derive(Drop)]
 pub enum Entry {
-    /// The other tree, with the devices that it brings or takes.
+    /// What makes the tree the other one, with the devices that it brings or takes.
     Tree(Arrangement),
     /// What stood in some tiles of a layer, which alone differ.
     Layer { id: u16, found: Revision<Tile> },
@@ -35,11 +35,11 @@ impl Entry {
     /// between them reaches. One step for each tile of a layer, and no memory.
     pub fn exchange<L: Ledger>(&mut self, doc: &mut Document, steps: &mut Steps<L>) -> Reach
         requires layer { FitsOn (doc_in doc.old) self.old }
-        requires there { FitsKeys (standing doc.old.slots) self.old }
+        requires there { FitsKeys (standing doc.old.tree doc.old.slots) self.old }
         ensures doc { doc_in doc.new ≡ doc_of (doc_in doc.old) self.old }
         ensures back { doc_of (doc_in doc.new) self.new ≡ doc_in doc.old }
         ensures same { reach_in self.new ≡ reach_in self.old }
-        ensures keys { Trades (standing doc.old.slots) (standing doc.new.slots) self.old self.new }
+        ensures keys { Trades (standing doc.old.tree doc.old.slots) (standing doc.new.tree doc.new.slots) self.old self.new }
         ensures reach { TellsReach (reach_in self.old) (doc_in doc.new) result }
         ensures known { IsDocument (doc_in doc.new) }
         ensures counts { steps.new ≡ steps.old + tiles_in (reach_in self.old) }

@@ -40,8 +40,8 @@ use whole_tiles::Whole;
 
 /// A document of layers and groups, what can be undone and redone, and the stroke under way.
 ///
-/// A stroke notes what stood in each tile that it puts, and a change of the tree the other tree with the
-/// devices of the layers that it brings or takes. To undo or redo is to exchange them, so no tile is
+/// A stroke notes what stood in each tile that it puts, and a change of the tree the nodes that differ
+/// and the devices of the layers that it brings or takes. To undo or redo is to exchange them, so no tile is
 /// ever copied back.
 #[derive(Drop)]
 pub struct Store {

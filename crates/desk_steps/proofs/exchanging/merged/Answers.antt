@@ -1,5 +1,4 @@
-use Rattle.std.proofs.Common.{◌≡◌, length, arith, sym, ap, ◌∙◌}
-use Rattle.desk_steps.proofs.WholeTiles.{next_part, all_parts}
+use Rattle.desk_steps.proofs.WholeTiles.{next_part}
 use Rattle.desk_steps.proofs.exchanging.merged.Goals as goal
 
 pub loop-rect-preserved : goal.loop-rect-preserved

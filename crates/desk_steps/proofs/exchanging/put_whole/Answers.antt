@@ -1,9 +1,8 @@
-use Rattle.std.proofs.Common.{◌≡◌, Some, sym, ap, subst, ◌∙◌}
+use Rattle.std.proofs.Common.{Some, sym, ap, subst, ◌∙◌}
 use Rattle.std.specs.FinSet as set
 use Rattle.geom_core.specs.Grid.{IsWorldKey}
 use Rattle.memento_core.specs.Revisions.{keys_in}
 use Rattle.paint_device.specs.Sheets.{with_under}
-use Rattle.doc_model.specs.Shots.{published}
 use Rattle.paint_device.specs.Seen.{layer_of}
 use Rattle.desk_steps.proofs.Devices.{more_ok}
 use Rattle.desk_steps.proofs.Lain.{laid_layer}

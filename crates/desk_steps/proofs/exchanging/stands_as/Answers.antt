@@ -1,4 +1,4 @@
-use Rattle.desk_steps.proofs.WholeTiles.{tiles_stand, grounds_stand}
+use Rattle.desk_steps.proofs.WholeTiles.{tiles_stand}
 use Rattle.desk_steps.proofs.exchanging.stands_as.Goals as goal
 
 pub returns-in-Some-Some : goal.returns-in-Some-Some

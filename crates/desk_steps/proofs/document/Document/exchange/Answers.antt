@@ -32,4 +32,4 @@ pub returns-clause-kept : goal.returns-clause-kept
 returns-clause-kept g c =
     let e = c.exchange_under.ensures.exchanges in
     standing_same c.args.self.now.slots c.exchange_under.new.devices c.args.id (ExchangesTiles c.args.found.now c.exchange_under.new.found) e
-    (exchange_keys c.args.found.now c.exchange_under.new.found e.before.tiles e.device.tiles (lent_stands _ e.before c.args.found.now (sym e.was) c.requires.there) e.holds.tiles)
+    (exchange_keys c.args.found.now c.exchange_under.new.found e.before.tiles e.device.tiles (lent_stands _ e.before c.args.found.now (sym e.was) c.requires.there) e.holds.tiles) c.args.self.now.tree

@@ -17,7 +17,7 @@ pub exchange-requires-clause-layer : goal.exchange-requires-clause-layer
 exchange-requires-clause-layer g c = sym (some_in c.in-Layer.id c.args.doc.now) ∙ subst (FitsOn (doc_in c.args.doc.now)) c.in-Layer.is c.requires.layer
 
 pub exchange-requires-clause-there : goal.exchange-requires-clause-there
-exchange-requires-clause-there g c = subst (FitsKeys (standing c.args.doc.now.slots)) c.in-Layer.is c.requires.there
+exchange-requires-clause-there g c = subst (FitsKeys (standing c.args.doc.now.tree c.args.doc.now.slots)) c.in-Layer.is c.requires.there
 
 pub unreachable-requires : goal.unreachable-requires
 unreachable-requires g c =
@@ -32,5 +32,5 @@ returns-in-Some-clause-reach g c = subst (λ e. TellsReach (reach_in e) (doc_in 
     (subst (λ s. HasTouched s c.touched.result) c.exchange.ensures.keys c.touched.ensures))
 
 pub returns-in-Some-clause-keys : goal.returns-in-Some-clause-keys
-returns-in-Some-clause-keys g c = subst (λ e. Trades (standing c.args.doc.now.slots) (standing c.exchange.new.self.slots) e (entry.Layer c.in-Layer.id c.exchange.new.found)) (sym c.in-Layer.is)
+returns-in-Some-clause-keys g c = subst (λ e. Trades (standing c.args.doc.now.tree c.args.doc.now.slots) (standing c.exchange.new.self.tree c.exchange.new.self.slots) e (entry.Layer c.in-Layer.id c.exchange.new.found)) (sym c.in-Layer.is)
     (record { now = c.exchange.ensures.kept; back = sym c.exchange.ensures.kept; fits = c.exchange.ensures.stand })

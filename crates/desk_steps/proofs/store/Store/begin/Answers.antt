@@ -12,7 +12,7 @@ use Rattle.desk_steps.proofs.store.Store.begin.Goals as goal
 pub invariant_of-self : goal.invariant_of-self
 invariant_of-self c = record {
   kept = begin_kept (doc_in c.self.inside.doc) c.self.inside.history c.self.inside.room c.self.inside.way c.args.layer c.new.result (layer_of c.in-Some.field-0.now) (ap (λ (a : Archive). a.way) c.self.view_is ∙ c.requires) c.in-Some.ensures.some c.new.ensures c.self.invariant.kept;
-  stand = begin_stands (standing c.self.inside.doc.slots) c.self.inside.history c.self.inside.way c.args.layer c.new.result c.new.ensures c.self.invariant.stand;
+  stand = begin_stands (standing c.self.inside.doc.tree c.self.inside.doc.slots) c.self.inside.history c.self.inside.way c.args.layer c.new.result c.new.ensures c.self.invariant.stand;
 }
 
 pub returns-in-Some-clause-ready : goal.returns-in-Some-clause-ready

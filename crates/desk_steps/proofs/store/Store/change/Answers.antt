@@ -21,6 +21,6 @@ invariant_of-self-2 c =
     record {
       kept = change_kept (doc_in c.self.inside.doc) (doc_in c.arrange.new.self) back c.self.inside.history c.commit.new.self c.self.inside.way c.self.inside.room c.args.change.now free
           (c.in_ok-other.ensures.ok ∙ ap Ok (sym (c.arrange.ensures.new ∙ ap (arranged c.in_ok-other.other) c.changed.ensures.same))) (c.arrange.ensures.back ∙ c.changed.ensures.same) refl past c.commit.ensures.future c.self.invariant.kept;
-      stand = change_stands (standing c.changed.new.self.slots) (standing c.arrange.new.self.slots) back c.self.inside.history c.commit.new.self c.self.inside.way free past c.commit.ensures.future c.arrange.ensures.fits c.arrange.ensures.stood
-          (grow_stands (standing c.self.inside.doc.slots) (standing c.changed.new.self.slots) c.self.inside.history c.self.inside.way c.changed.ensures.grows c.self.invariant.stand);
+      stand = change_stands (standing c.changed.new.self.tree c.changed.new.self.slots) (standing c.arrange.new.self.tree c.arrange.new.self.slots) back c.self.inside.history c.commit.new.self c.self.inside.way free past c.commit.ensures.future c.arrange.ensures.fits c.arrange.ensures.stood
+          (grow_stands (standing c.self.inside.doc.tree c.self.inside.doc.slots) (standing c.changed.new.self.tree c.changed.new.self.slots) c.self.inside.history c.self.inside.way c.changed.ensures.grows c.self.invariant.stand);
     }

@@ -12,7 +12,7 @@ pub paint-requires-clause-layer : goal.paint-requires-clause-layer
 paint-requires-clause-layer c = sym (some_in c.in-Some.way.id c.self.inside.doc) ∙ way_there (doc_in c.self.inside.doc) c.self.inside.history c.self.inside.room c.self.inside.way c.in-Some.way c.in-Some.is c.self.invariant.kept
 
 pub paint-requires-clause-there : goal.paint-requires-clause-there
-paint-requires-clause-there c = way_stands (standing c.self.inside.doc.slots) c.self.inside.history c.self.inside.way c.in-Some.way c.in-Some.is c.self.invariant.stand
+paint-requires-clause-there c = way_stands (standing c.self.inside.doc.tree c.self.inside.doc.slots) c.self.inside.history c.self.inside.way c.in-Some.way c.in-Some.is c.self.invariant.stand
 
 pub invariant_of-self : goal.invariant_of-self
 invariant_of-self c =
@@ -20,7 +20,7 @@ invariant_of-self c =
     record {
       kept = put_kept (doc_in c.self.inside.doc) (doc_in c.paint.new.self) c.self.inside.history c.self.inside.room c.in-Some.way c.paint.new.found w.key (all_painted_in w.jobs w.key) c.paint.ensures.back.same
           (painted_changes w.jobs w.key) c.self.inside.way c.paint.result c.in-Some.is c.paint.ensures.ok c.paint.ensures.keys c.paint.ensures.err c.paint.ensures.no_note c.self.invariant.kept;
-      stand = put_stands (standing c.self.inside.doc.slots) (standing c.paint.new.self.slots) c.self.inside.history c.self.inside.way c.in-Some.way.id c.paint.new.found c.paint.ensures.back.grows c.paint.ensures.back.stand c.self.invariant.stand;
+      stand = put_stands (standing c.self.inside.doc.tree c.self.inside.doc.slots) (standing c.paint.new.self.tree c.paint.new.self.slots) c.self.inside.history c.self.inside.way c.in-Some.way.id c.paint.new.found c.paint.ensures.back.grows c.paint.ensures.back.stand c.self.invariant.stand;
     }
 
 pub returns-clause-ok : goal.returns-clause-ok

@@ -7,7 +7,7 @@ use Rattle.desk_steps.specs.Archives.{with_put}
 use Rattle.desk_steps.specs.Documents.{doc_in}
 use Rattle.desk_steps.specs.Slots.{standing}
 use Rattle.memento_core.specs.Revisions.{keys_in}
-use Rattle.desk_steps.proofs.Devices.{some_in, both_ok, more_ok}
+use Rattle.desk_steps.proofs.Devices.{some_in, both_ok}
 use Rattle.desk_steps.proofs.WholeTiles.{own_paint, is_of_own}
 use Rattle.desk_steps.proofs.Archived.{way_there, way_stands, published_changes, put_kept, put_is, put_stands}
 use Rattle.desk_steps.proofs.store.Store.put_whole.Goals as goal
@@ -16,7 +16,7 @@ pub put_whole-requires-clause-layer : goal.put_whole-requires-clause-layer
 put_whole-requires-clause-layer c = sym (some_in c.in-Some.way.id c.self.inside.doc) ∙ way_there (doc_in c.self.inside.doc) c.self.inside.history c.self.inside.room c.self.inside.way c.in-Some.way c.in-Some.is c.self.invariant.kept
 
 pub put_whole-requires-clause-there : goal.put_whole-requires-clause-there
-put_whole-requires-clause-there c = way_stands (standing c.self.inside.doc.slots) c.self.inside.history c.self.inside.way c.in-Some.way c.in-Some.is c.self.invariant.stand
+put_whole-requires-clause-there c = way_stands (standing c.self.inside.doc.tree c.self.inside.doc.slots) c.self.inside.history c.self.inside.way c.in-Some.way c.in-Some.is c.self.invariant.stand
 
 pub invariant_of-self : goal.invariant_of-self
 invariant_of-self c =
@@ -26,7 +26,7 @@ invariant_of-self c =
       kept = put_kept (doc_in c.self.inside.doc) (doc_in c.put_whole.new.self) c.self.inside.history c.self.inside.room c.in-Some.way c.put_whole.new.found x.key (published x.job shot x.key) c.put_whole.ensures.back.same
           (published_changes x.job shot x.key) c.self.inside.way c.put_whole.result c.in-Some.is (c.put_whole.ensures.ok shot (is_of_own x).shows)
           c.put_whole.ensures.keys c.put_whole.ensures.err c.put_whole.ensures.no_note c.self.invariant.kept;
-      stand = put_stands (standing c.self.inside.doc.slots) (standing c.put_whole.new.self.slots) c.self.inside.history c.self.inside.way c.in-Some.way.id c.put_whole.new.found c.put_whole.ensures.back.grows c.put_whole.ensures.back.stand c.self.invariant.stand;
+      stand = put_stands (standing c.self.inside.doc.tree c.self.inside.doc.slots) (standing c.put_whole.new.self.tree c.put_whole.new.self.slots) c.self.inside.history c.self.inside.way c.in-Some.way.id c.put_whole.new.found c.put_whole.ensures.back.grows c.put_whole.ensures.back.stand c.self.invariant.stand;
     }
 
 pub returns-clause-ok : goal.returns-clause-ok

@@ -9,12 +9,12 @@ pub exchange-requires-clause-layer : goal.exchange-requires-clause-layer
 exchange-requires-clause-layer g c = sym (some_in c.in-Some.way.id c.self.inside.doc) ∙ way_there (doc_in c.self.inside.doc) c.self.inside.history c.self.inside.room c.self.inside.way c.in-Some.way (sym c.in-Some.ensures.value) c.self.invariant.kept
 
 pub exchange-requires-clause-there : goal.exchange-requires-clause-there
-exchange-requires-clause-there g c = way_stands (standing c.self.inside.doc.slots) c.self.inside.history c.self.inside.way c.in-Some.way (sym c.in-Some.ensures.value) c.self.invariant.stand
+exchange-requires-clause-there g c = way_stands (standing c.self.inside.doc.tree c.self.inside.doc.slots) c.self.inside.history c.self.inside.way c.in-Some.way (sym c.in-Some.ensures.value) c.self.invariant.stand
 
 pub invariant_of-self : goal.invariant_of-self
 invariant_of-self g c = record {
   kept = revert_kept (doc_in c.self.inside.doc) c.self.inside.history c.self.inside.room c.self.inside.way c.take.new.self c.in-Some.way (doc_in c.exchange.new.self) (sym c.in-Some.ensures.value) c.in-Some.ensures.after c.exchange.ensures.new c.self.invariant.kept;
-  stand = revert_stands (standing c.self.inside.doc.slots) (standing c.exchange.new.self.slots) c.self.inside.history c.self.inside.way c.take.new.self c.in-Some.ensures.after c.exchange.ensures.kept c.self.invariant.stand;
+  stand = revert_stands (standing c.self.inside.doc.tree c.self.inside.doc.slots) (standing c.exchange.new.self.tree c.exchange.new.self.slots) c.self.inside.history c.self.inside.way c.take.new.self c.in-Some.ensures.after c.exchange.ensures.kept c.self.invariant.stand;
 }
 
 pub returns-clause-new : goal.returns-clause-new

@@ -19,7 +19,7 @@ pub exchange-requires-clause-layer : goal.exchange-requires-clause-layer
 exchange-requires-clause-layer g c = undo_fits (doc_in c.self.inside.doc) c.self.inside.history c.self.inside.way c.self.inside.room c.in_ok-entry.entry.now (ap (λ (a : Archive). a.way) c.self.view_is ∙ c.requires) c.in_ok-entry.ensures.entry c.self.invariant.kept
 
 pub exchange-requires-clause-there : goal.exchange-requires-clause-there
-exchange-requires-clause-there g c = first_stands (standing c.self.inside.doc.slots) c.self.inside.history.past c.in_ok-entry.entry.now c.in_ok-entry.ensures.entry c.self.invariant.stand.past
+exchange-requires-clause-there g c = first_stands (standing c.self.inside.doc.tree c.self.inside.doc.slots) c.self.inside.history.past c.in_ok-entry.entry.now c.in_ok-entry.ensures.entry c.self.invariant.stand.past
 
 pub invariant_of-self-2 : goal.invariant_of-self-2
 invariant_of-self-2 g c =
@@ -27,7 +27,7 @@ invariant_of-self-2 g c =
     record {
       kept = undo_kept (doc_in c.self.inside.doc) (doc_in c.exchange.new.doc) c.self.inside.history (c.undo.follows.lender c.exchange.new.self) c.self.inside.way c.self.inside.room c.in_ok-entry.entry.now c.exchange.new.self
           (ap (λ (a : Archive). a.way) c.self.view_is ∙ c.requires) c.in_ok-entry.ensures.entry lent c.exchange.ensures.doc c.exchange.ensures.back c.exchange.ensures.same c.exchange.ensures.known c.self.invariant.kept;
-      stand = undo_stands (standing c.self.inside.doc.slots) (standing c.exchange.new.doc.slots) c.self.inside.history (c.undo.follows.lender c.exchange.new.self) c.self.inside.way c.in_ok-entry.entry.now c.exchange.new.self (ap (λ (a : Archive). a.way) c.self.view_is ∙ c.requires) c.exchange.ensures.keys c.self.invariant.stand c.in_ok-entry.ensures.entry lent;
+      stand = undo_stands (standing c.self.inside.doc.tree c.self.inside.doc.slots) (standing c.exchange.new.doc.tree c.exchange.new.doc.slots) c.self.inside.history (c.undo.follows.lender c.exchange.new.self) c.self.inside.way c.in_ok-entry.entry.now c.exchange.new.self (ap (λ (a : Archive). a.way) c.self.view_is ∙ c.requires) c.exchange.ensures.keys c.self.invariant.stand c.in_ok-entry.ensures.entry lent;
     }
 
 pub returns-clause-new : goal.returns-clause-new
