@@ -1,6 +1,6 @@
 use Rattle.std.proofs.Common.{arith}
 use Rattle.tree_core.proofs.Replaced.{one_back}
-use Rattle.tree_core.proofs.exchange.common_back.Goals as goal
+use Rattle.tree_core.proofs.common.common_back.Goals as goal
 
 pub loop-back-preserved : goal.loop-back-preserved
 loop-back-preserved c = record {

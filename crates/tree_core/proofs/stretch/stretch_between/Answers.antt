@@ -3,7 +3,7 @@ use Rattle.std.specs.Prelude.{slice_range}
 use Rattle.tree_core.specs.Nodes.{row_of, rows_of}
 use Rattle.tree_core.specs.Exchanges.{replaced}
 use Rattle.tree_core.proofs.Replaced.{back_from, fits_back, map_replaced, replaced_there}
-use Rattle.tree_core.proofs.exchange.between.Goals as goal
+use Rattle.tree_core.proofs.stretch.stretch_between.Goals as goal
 
 pub returns-clause-ok : goal.returns-clause-ok
 returns-clause-ok c =
