@@ -97,7 +97,7 @@ fn make_slot(devices: &mut BTreeMap<u16, Option<Device>>, id: u16) -> Result<(),
     Ok(())
 }
 
-/// None for each device of which the id is no paint layer of the tree.
+/// None for each device of which the id is no paint layer of the tree, in a list with room for just those.
 fn emptied(
     alloc: Global,
     devices: &BTreeMap<u16, Option<Device>>,
@@ -115,6 +115,7 @@ fn emptied(
             })?;
         }
     }
+    slots.shrink_to_fit();
     Ok(slots)
 }
 

@@ -1,7 +1,8 @@
-use Rattle.std.proofs.Common.{◌≡◌, inl, inr, rules, subst, sym, ◌∙◌}
+use Rattle.std.proofs.Common.{◌≡◌, inl, inr, rules, ap, subst, sym, ◌∙◌}
 use Rattle.std.specs.Map.Iter.{deref_pair}
 use Rattle.std.proofs.lemmas.Map.Iter.{btree_map_turn, rest_all}
 use Rattle.std.proofs.lemmas.Cmp.{nat_cmp_total}
+use Rattle.desk_steps.specs.Slots.{AllHave, device_in, has_slot, once_filled}
 use Rattle.desk_steps.proofs.Arranged.{Emptied, none_emptied, one_left, one_emptied, all_emptied}
 use Rattle.desk_steps.proofs.Devices.{none_is}
 use Rattle.desk_steps.proofs.arrangement.emptied.Goals.{else-is_some-via-then-is_some+else-not-is_paint, else-is_some-via-else-is_some}
@@ -29,7 +30,9 @@ loop-id-preserved c =
     ])
 
 pub returns-clause-ok : goal.returns-clause-ok
-returns-clause-ok c = all_emptied c.args.tree.now c.args.devices.now c.loop-id.slots.items c.loop-id.id-iterator (rest_all deref_pair c.loop-id.id-iterator c.next.new.self c.next.result c.in-None.is c.next.ensures.steps) c.loop-id.invariant
+returns-clause-ok c q =
+    ap (λ slots. once_filled (λ o. o) (device_in c.args.devices.now) slots q) c.shrink_to_fit.ensures.items
+    ∙ all_emptied c.args.tree.now c.args.devices.now c.loop-id.slots.items c.loop-id.id-iterator (rest_all deref_pair c.loop-id.id-iterator c.next.new.self c.next.result c.in-None.is c.next.ensures.steps) c.loop-id.invariant q
 
 pub returns-clause-there : goal.returns-clause-there
-returns-clause-there c = c.loop-id.invariant.have
+returns-clause-there c = subst (AllHave (has_slot c.args.devices.now)) (sym c.shrink_to_fit.ensures.items) c.loop-id.invariant.have
