@@ -2,10 +2,12 @@
 
 ghost use Rattle.std.specs.Prelude.{◌≡◌, ◌<◌, ◌++◌, [], ◌∷◌, true, Some, length, slice_get, IfOk, OnOk};
 ghost use Rattle.std.specs.List.{list_any, filter};
-ghost use Rattle.geom_core.specs.Areas.{meets};
+ghost use Rattle.geom_core.specs.Areas.{meets, Point};
 ghost use Rattle.geom_core.specs.Grid.{IsWorldKey, keys_of, tile};
 ghost use Rattle.doc_model.specs.Jobs.{checks, reads};
 ghost use Rattle.doc_model.specs.Lawful.{within_limits};
+ghost use Rattle.doc_model.specs.Shots.{in_tile};
+ghost use Rattle.tile_core.specs.Shots.{sight_at};
 ghost use Rattle.job_core.specs.Paints.{paint};
 ghost use Rattle.whole_tiles.specs.Plans.{IsPlan, plan, tiles_of as tiles_of_job, is_apart};
 ghost use Rattle.whole_tiles.specs.Wholes.{IsOf};
@@ -78,6 +80,7 @@ impl Painting {
         requires { i < length (tiles_of_job self.now.job) }
         ensures of { IfOk result (λ x. IsOf (paint self.now.job self.now.shot x.key []) x) }
         ensures key { IfOk result (λ x. slice_get (tiles_of_job self.now.job) i ≡ Some x.key) }
+        ensures own { IfOk result (λ x. (p : Point) → in_tile x.key p ≡ true → sight_at x.base p ≡ sight_at self.now.shot p) }
     {
         self.paint_like(alloc, i, None)
     }
@@ -93,6 +96,7 @@ impl Painting {
         requires { i < length (tiles_of_job self.now.job) }
         ensures of { IfOk result (λ x. IsOf (paint self.now.job self.now.shot x.key []) x) }
         ensures key { IfOk result (λ x. slice_get (tiles_of_job self.now.job) i ≡ Some x.key) }
+        ensures own { IfOk result (λ x. (p : Point) → in_tile x.key p ≡ true → sight_at x.base p ≡ sight_at self.now.shot p) }
     {
         whole_tile_like(alloc, &self.job, &self.shot, self.key(i), like)
     }

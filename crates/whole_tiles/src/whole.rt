@@ -2,10 +2,12 @@
 
 ghost use Rattle.std.specs.Prelude.{◌≡◌, [], true, IfOk};
 ghost use Rattle.std.specs.List.{list_any, list_all};
-ghost use Rattle.geom_core.specs.Areas.{lies_in};
+ghost use Rattle.geom_core.specs.Areas.{lies_in, Point};
 ghost use Rattle.geom_core.specs.Grid.{same_key, all_keys_of};
+ghost use Rattle.tile_core.specs.Shots.{sight_at};
 ghost use Rattle.doc_model.specs.Jobs.{checks, reads, writes};
 ghost use Rattle.doc_model.specs.Lawful.{within_limits};
+ghost use Rattle.doc_model.specs.Shots.{in_tile};
 ghost use Rattle.job_core.specs.Paints.{paint};
 ghost use Rattle.whole_tiles.specs.Wholes.{IsEntire, IsOf};
 
@@ -90,6 +92,7 @@ pub fn whole_tile(alloc: Global, job: &Job, shot: &Shot, key: TileKey) -> Result
     requires met { list_any (same_key key) (all_keys_of (writes job.now)) ≡ true }
     ensures of { IfOk result (IsOf (paint job.now shot.now key [])) }
     ensures key { IfOk result (λ x. x.key ≡ key) }
+    ensures own { IfOk result (λ x. (p : Point) → in_tile x.key p ≡ true → sight_at x.base p ≡ sight_at shot.now p) }
 {
     whole_tile_like(alloc, job, shot, key, None)
 }
@@ -109,6 +112,7 @@ pub fn whole_tile_like(
     requires met { list_any (same_key key) (all_keys_of (writes job.now)) ≡ true }
     ensures of { IfOk result (IsOf (paint job.now shot.now key [])) }
     ensures key { IfOk result (λ x. x.key ≡ key) }
+    ensures own { IfOk result (λ x. (p : Point) → in_tile x.key p ≡ true → sight_at x.base p ≡ sight_at shot.now p) }
 {
     let needs = needs_of(job, key);
     let base = base_of(alloc, shot, key, &needs)?;
