@@ -1,5 +1,5 @@
 -- Tiles made whole, on a device.
-use Rattle.std.proofs.Common.{◌≡◌, ℕ, ◌+◌, ◌<◌, Bool, true, false, ◌&&◌, ◌||◌, cond, List, [], ◌∷◌, ◌++◌, length, take, get_or, Some, None, refl, sym, ap, ◌∙◌}
+use Rattle.std.proofs.Common.{◌≡◌, ℕ, ◌+◌, ◌<◌, Bool, true, false, ◌&&◌, ◌||◌, cond, List, [], ◌∷◌, ◌++◌, length, take, get_or, Option, Some, None, is_some, refl, sym, ap, subst, ◌∙◌}
 use Rattle.std.specs.FinMap as map
 use Rattle.std.proofs.lemmas.List.{take_more}
 use Rattle.std.proofs.lemmas.List.Folds.{list_any-append}
@@ -22,10 +22,23 @@ use Rattle.whole_tiles.proofs.Seen.{default-layer_of, covered_seen, own_seen}
 use Rattle.paint_device.specs.Sheets.{Sheet, sheet_at}
 use Rattle.memento_core.specs.Planes.{tile_under}
 use Rattle.desk_steps.proofs.Lain.{tile_at}
-use Rattle.desk_steps.specs.Tiles.{IsLaid, IsWholeOn}
+use Rattle.desk_steps.proofs.Devices.{some_is, content_shown}
+use Rattle.desk_steps.proofs.Archived.{way_layer}
+use Rattle.desk_steps.specs.declared.document.Document.{Document}
+use Rattle.desk_steps.specs.declared.entry.Entry.{Entry}
+use Rattle.desk_steps.specs.declared.entry.Way.{Way}
+use Rattle.desk_steps.specs.Archives.{Archive, layer_under_way}
+use Rattle.desk_steps.specs.Documents.{doc_in}
+use Rattle.desk_steps.specs.Entries.{archive_of}
+use Rattle.desk_steps.specs.Slots.{device_in}
+use Rattle.history_core.specs.Stacks.{Stack}
+use Rattle.paint_device.specs.Seen as seen
+use Rattle.paint_device.proofs.Shown.{at-layer_of}
+use Rattle.std.specs.Option.{option_map}
+use Rattle.desk_steps.specs.Tiles.{HasBase, HasBaseIn, IsLaid, IsWholeOn}
 
 -- where the device has the pixels that it was made from, the new tile itself is to stand there
-pub base_stands : (x : Entire) (s : Sheet) → IsEntire x → ((p : Point) → in_tile x.key p ≡ true → sheet_at s p ≡ sight_at x.base p) → IsWholeOn x s x.tile
+pub base_stands : (x : Entire) (s : Sheet) → IsEntire x → HasBase x s → IsWholeOn x s x.tile
 base_stands x s known same p inside = go (any_holds (writes x.job) p) refl
   where
     go : (b : Bool) → any_holds (writes x.job) p ≡ b → pixel_at x.tile p ≡ cond b (pixel_at x.tile p) (sheet_at s p)
@@ -121,3 +134,11 @@ grounds_stand s base key e here there p inside =
     ap (λ k. pixel_or (tile_under s.tiles k) s.default_pixel p) (key_same (key_of p) key inside)
     ∙ (λ i. pixel_or ((sym here ∙ there) i) (e i) p)
     ∙ ap (λ k. pixel_or (map.get base.tiles k) base.default_pixel p) (sym (key_same (key_of p) key inside))
+
+-- the device of the stroke's layer has the base's pixels where the layer has them
+pub layer_has_base : (x : Entire) (doc : Document) (history : Stack Entry) (way : Option Way) (room : Bool) (w : Way) (old : Archive) → way ≡ Some w → archive_of (doc_in doc) history way room ≡ old → is_some (device_in doc.slots w.id) ≡ true
+    → ((p : Point) → in_tile x.key p ≡ true → sight_at x.base p ≡ at (layer_under_way old.way old.present) p) → HasBaseIn x (device_in doc.slots w.id)
+layer_has_base x doc history way room w old is view there same =
+    let d = some_is (device_in doc.slots w.id) there in
+    let l = way_layer (doc_in doc) history way room w (seen.layer_of d.0) old is view (content_shown doc.tree (device_in doc.slots) doc.fits w.id ∙ ap (option_map seen.layer_of) d.1) in
+    subst (HasBaseIn x) (sym d.1) (λ p inside. sym (same p inside ∙ ap (λ a. at a p) l ∙ at-layer_of d.0 p))

@@ -1,5 +1,5 @@
 -- The tile that a device gets where something was painted.
-use Rattle.std.specs.Prelude.{◌≡◌, true, cond, pos, ◌-ℤ◌, Option, List}
+use Rattle.std.specs.Prelude.{◌≡◌, true, cond, pos, ◌-ℤ◌, Option, None, Some, List}
 use Rattle.std.specs.Option.{option_or}
 use Rattle.std.specs.List.{list_any}
 use Rattle.geom_core.specs.Areas.{Area, Point}
@@ -30,6 +30,15 @@ IsLaidFrom made s t = (w : Paint) → Makes w made → IsLaid w.job (paints.laye
 -- the tile has what point operations that are painted there make of the sheet's own layer
 abbrev pub IsPaintedOn : Spot → Sheet → Pixels → Type 0
 IsPaintedOn w s t = (p : Point) → in_tile w.key p ≡ true → pixel_at t p ≡ at (all_painted_in w.jobs w.key (layer_of s)) p
+
+-- the sheet has the pixels that the new tile was made from
+abbrev pub HasBase : Entire → Sheet → Type 0
+HasBase x s = (p : Point) → in_tile x.key p ≡ true → sheet_at s p ≡ sight_at x.base p
+
+-- the same of a device that may be there
+abbrev pub HasBaseIn : Entire → Option Sheet → Type 0
+HasBaseIn x None = ⊥
+HasBaseIn x (Some s) = HasBase x s
 
 -- the tile has the new tile's pixels where the job writes, and the sheet's elsewhere
 abbrev pub IsWholeOn : Entire → Sheet → Pixels → Type 0

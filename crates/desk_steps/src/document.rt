@@ -19,6 +19,7 @@ ghost use Rattle.desk_steps.specs.Archives.{shape};
 ghost use Rattle.memento_core.specs.Revisions.{keys_in};
 ghost use Rattle.desk_steps.specs.Founds.{ExchangesTiles, GivesBack, StandIn, patched};
 ghost use Rattle.desk_steps.specs.Slots.{ChangesDevice, HasDevices, device_in, standing};
+ghost use Rattle.desk_steps.specs.Tiles.{HasBaseIn};
 
 use crate::arrangement::{Arrangement, exchange_devices, slots_of};
 use crate::exchanging::put_whole;
@@ -113,23 +114,26 @@ impl Document {
     }
 
     /// What a job leaves in a tile, made whole, comes onto a paint layer, and what stood there before the
-    /// stroke is noted.
+    /// stroke is noted. Where it is known that the layer has the pixels that the tile was made from, none
+    /// is looked at.
     pub fn put_whole(
         &mut self,
         alloc: Global,
         id: u16,
         found: &mut Revision<Tile>,
         whole: &Whole,
+        known: bool,
     ) -> Result<(), NoMemory>
         requires layer { is_some (device_in self.old.slots id) ≡ true }
         requires there { StandIn found.old (device_in self.old.slots id) }
+        requires known { known ≡ true → HasBaseIn whole.now (device_in self.old.slots id) }
         ensures ok { (shot : Layer) → Shows whole.now.needs whole.now.base shot → OnOk result (doc_in self.new ≡ adjusted id (published whole.now.job shot whole.now.key) (doc_in self.old)) }
         ensures keys { OnOk result (keys_in found.new ≡ set.insert (keys_in found.old) whole.now.key) }
         ensures back { Regains id found.old found.new self.old self.new }
         ensures err { OnErr result (doc_in self.new ≡ doc_in self.old) }
         ensures no_note { OnErr result (found.new ≡ found.old) }
     {
-        put_whole_under(alloc, &mut self.slots, id, found, whole)
+        put_whole_under(alloc, &mut self.slots, id, found, whole, known)
     }
 
     /// Paints point operations in one tile of a paint layer, and notes what stood in the tile before
@@ -244,9 +248,11 @@ fn put_whole_under(
     id: u16,
     found: &mut Revision<Tile>,
     whole: &Whole,
+    known: bool,
 ) -> Result<(), NoMemory>
     requires layer { is_some (device_in devices.old id) ≡ true }
     requires there { StandIn found.old (device_in devices.old id) }
+    requires known { known ≡ true → HasBaseIn whole.now (device_in devices.old id) }
     ensures ok { (shot : Layer) → Shows whole.now.needs whole.now.base shot → OnOk result (ChangesDevice devices.old devices.new id (λ old new. layer_of new ≡ published whole.now.job shot whole.now.key (layer_of old))) }
     ensures keys { OnOk result (keys_in found.new ≡ set.insert (keys_in found.old) whole.now.key) }
     ensures back { ChangesDevice devices.old devices.new id (GivesBack found.old found.new) }
@@ -255,7 +261,7 @@ fn put_whole_under(
 {
     match devices.get_mut(&id) {
         Some(slot) => match slot {
-            Some(device) => put_whole(alloc, device, found, whole),
+            Some(device) => put_whole(alloc, device, found, whole, known),
             None => unreachable!(),
         },
         None => unreachable!(),

@@ -13,7 +13,7 @@ ghost use Rattle.paint_device.specs.Seen.{layer_of};
 ghost use Rattle.paint_device.specs.Sheets.{sheet_at};
 ghost use Rattle.memento_core.specs.Revisions.{keys_in};
 ghost use Rattle.desk_steps.specs.Founds.{GivesBack, StandIn};
-ghost use Rattle.desk_steps.specs.Tiles.{IsWholeOn};
+ghost use Rattle.desk_steps.specs.Tiles.{HasBase, IsWholeOn};
 
 use crate::laying::{set_under, tile_under};
 use geom_core::{NoMemory, Rect, TileKey};
@@ -24,30 +24,35 @@ use tile_core::{Block, Shot, Tile};
 use whole_tiles::Whole;
 
 /// What a job leaves in a tile, made whole, comes onto the device, and what stood there before the
-/// stroke is noted. Where there is no memory no pixel has changed, and nothing was noted.
+/// stroke is noted. Where there is no memory no pixel has changed, and nothing was noted. Where it is
+/// known that the device has the pixels that the tile was made from, none is looked at.
 pub fn put_whole(
     alloc: Global,
     device: &mut Device,
     found: &mut Revision<Tile>,
     whole: &Whole,
+    known: bool,
 ) -> Result<(), NoMemory>
-    requires { StandIn found.old (Some device.old) }
+    requires there { StandIn found.old (Some device.old) }
+    requires known { known ≡ true → HasBase whole.now device.old }
     ensures ok { (shot : Layer) → Shows whole.now.needs whole.now.base shot → OnOk result (layer_of device.new ≡ published whole.now.job shot whole.now.key (layer_of device.old)) }
     ensures keys { OnOk result (keys_in found.new ≡ set.insert (keys_in found.old) whole.now.key) }
     ensures back { GivesBack found.old found.new device.old device.new }
     ensures err { OnErr result (layer_of device.new ≡ layer_of device.old) }
     ensures no_note { OnErr result (found.new ≡ found.old) }
 {
-    let tile = tile_with(alloc, device, whole)?;
+    let tile = tile_with(alloc, device, whole, known)?;
     set_under(device, found, whole.key(), tile)
 }
 
 /// The tile that is to stand under the key: the new one itself, shared, where the device has still the
 /// pixels that it was made from, and else the device's own with what the job writes.
-fn tile_with(alloc: Global, device: &Device, whole: &Whole) -> Result<Tile, NoMemory>
+fn tile_with(alloc: Global, device: &Device, whole: &Whole, known: bool) -> Result<Tile, NoMemory>
+    requires { known ≡ true → HasBase whole.now device.now }
     ensures { IfOk result (IsWholeOn whole.now device.now) }
 {
-    if stands_as(device, whole.base(), whole.key()) {
+    let key = whole.key();
+    if known || stands_as(device, whole.base(), key) {
         whole.tile().share()
     } else {
         merged(alloc, device, whole)

@@ -5,8 +5,9 @@ ghost use Rattle.std.specs.FinSet as set;
 ghost use Rattle.geom_core.specs.Grid.{key_of, same_key};
 ghost use Rattle.geom_core.specs.Areas.{Point};
 ghost use Rattle.tile_core.specs.Pixels.{pixel_at};
+ghost use Rattle.tile_core.specs.Shots.{sight_at};
 ghost use Rattle.doc_model.specs.Layers.{Layer, at, plain};
-ghost use Rattle.doc_model.specs.Shots.{shot_of};
+ghost use Rattle.doc_model.specs.Shots.{in_tile, shot_of};
 ghost use Rattle.doc_model.specs.Forest.{content};
 ghost use Rattle.doc_model.specs.Changes.{changed, there};
 ghost use Rattle.doc_model.specs.declared.tree.TreeFault.{TreeFault};
@@ -161,9 +162,34 @@ impl Store {
         ensures err { OnErr result (self.new ≡ self.old) }
         ensures known { IsEntire whole.now }
     {
+        self.put_tile(alloc, whole, false)
+    }
+
+    /// The same where it is known that the layer has still those pixels: the new tile takes the old
+    /// one's place, and no pixel is compared.
+    pub fn put_known(&mut self, alloc: Global, whole: &Whole) -> Result<(), NoMemory>
+        requires under_way { is_some self.old.way ≡ true }
+        requires known { (p : Point) → in_tile whole.now.key p ≡ true → sight_at whole.now.base p ≡ at (layer_under_way self.old.way self.old.present) p }
+        ensures ok { (w : Paint) → IsOf w whole.now → OnOk result (self.new ≡ with_put self.old.way w self.old) }
+        ensures err { OnErr result (self.new ≡ self.old) }
+        ensures known { IsEntire whole.now }
+    {
+        self.put_tile(alloc, whole, true)
+    }
+
+    /// The same of both, where it is told whether it is known.
+    fn put_tile(&mut self, alloc: Global, whole: &Whole, known: bool) -> Result<(), NoMemory>
+        requires under_way { is_some self.old.way ≡ true }
+        requires known { known ≡ true → (p : Point) → in_tile whole.now.key p ≡ true → sight_at whole.now.base p ≡ at (layer_under_way self.old.way self.old.present) p }
+        ensures ok { (w : Paint) → IsOf w whole.now → OnOk result (self.new ≡ with_put self.old.way w self.old) }
+        ensures err { OnErr result (self.new ≡ self.old) }
+        ensures known { IsEntire whole.now }
+    {
         let _key = whole.key();
         match &mut self.way {
-            Some(way) => self.doc.put_whole(alloc, way.id, &mut way.found, whole),
+            Some(way) => self
+                .doc
+                .put_whole(alloc, way.id, &mut way.found, whole, known),
             None => unreachable!(),
         }
     }

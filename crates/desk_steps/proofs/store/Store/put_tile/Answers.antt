@@ -8,15 +8,19 @@ use Rattle.desk_steps.specs.Documents.{doc_in}
 use Rattle.desk_steps.specs.Slots.{standing}
 use Rattle.memento_core.specs.Revisions.{keys_in}
 use Rattle.desk_steps.proofs.Devices.{some_in, both_ok}
-use Rattle.desk_steps.proofs.WholeTiles.{own_paint, is_of_own}
+use Rattle.desk_steps.proofs.WholeTiles.{own_paint, is_of_own, layer_has_base}
 use Rattle.desk_steps.proofs.Archived.{way_there, way_stands, published_changes, put_kept, put_is, put_stands}
-use Rattle.desk_steps.proofs.store.Store.put_whole.Goals as goal
+use Rattle.desk_steps.proofs.store.Store.put_tile.Goals as goal
 
 pub put_whole-requires-clause-layer : goal.put_whole-requires-clause-layer
 put_whole-requires-clause-layer c = sym (some_in c.in-Some.way.id c.self.inside.doc) ∙ way_there (doc_in c.self.inside.doc) c.self.inside.history c.self.inside.room c.self.inside.way c.in-Some.way c.in-Some.is c.self.invariant.kept
 
 pub put_whole-requires-clause-there : goal.put_whole-requires-clause-there
 put_whole-requires-clause-there c = way_stands (standing c.self.inside.doc.tree c.self.inside.doc.slots) c.self.inside.history c.self.inside.way c.in-Some.way c.in-Some.is c.self.invariant.stand
+
+pub put_whole-requires-clause-known : goal.put_whole-requires-clause-known
+put_whole-requires-clause-known c known = layer_has_base c.args.whole.now c.self.inside.doc c.self.inside.history c.self.inside.way c.self.inside.room c.in-Some.way c.args.self.now c.in-Some.is c.self.view_is
+    (sym (some_in c.in-Some.way.id c.self.inside.doc) ∙ way_there (doc_in c.self.inside.doc) c.self.inside.history c.self.inside.room c.self.inside.way c.in-Some.way c.in-Some.is c.self.invariant.kept) (c.requires.known known)
 
 pub invariant_of-self : goal.invariant_of-self
 invariant_of-self c =
