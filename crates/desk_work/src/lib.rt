@@ -24,4 +24,4 @@ pub use renewing::{move_by, renew};
 pub use slot_tests::{is_blocked, some_painter, some_walker};
 pub use walking::{is_composed, is_tile_of, lay_composed, takes_composed};
 pub use whole_walks::{is_of_walk, is_row_of_walk, lay_row, lay_walk, reads_alike};
-pub use wholes::{are_lacking, are_of_job, exchange_own};
+pub use wholes::{are_lacking, are_of_job, exchange_known, exchange_own};

@@ -3,11 +3,15 @@
 ghost use Rattle.std.specs.Prelude.{◌≡◌, ◌↔◌, All, IsTrue, true, false, is_some, Ok, OnOk, OnErr, [], ◌∷◌};
 ghost use Rattle.std.specs.List.{list_all};
 ghost use Rattle.std.specs.FinSet as set;
+ghost use Rattle.geom_core.specs.Areas.{Point};
 ghost use Rattle.geom_core.specs.Grid.{keys_of, all_keys_of};
+ghost use Rattle.tile_core.specs.Shots.{sight_at};
+ghost use Rattle.doc_model.specs.Layers.{at};
+ghost use Rattle.doc_model.specs.Shots.{in_tile};
 ghost use Rattle.doc_model.specs.Lawful.{within_limits};
 ghost use Rattle.doc_model.specs.Jobs.{checks, reads, writes};
 ghost use Rattle.job_core.specs.Paints.{layer_of, paint};
-ghost use Rattle.desk_steps.specs.Archives.{with_put};
+ghost use Rattle.desk_steps.specs.Archives.{layer_under_way, with_put};
 ghost use Rattle.desk_work.specs.Lacking.{IsOfJob, AreLacking, IsNext, is_seen};
 
 use crate::painting::writes_in;
@@ -128,6 +132,32 @@ pub fn exchange_own(
 {
     painter.published.note(whole.key())?;
     match store.put_whole(alloc, whole) {
+        Ok(()) => Ok(()),
+        Err(e) => {
+            painter.published.take_back();
+            Err(e)
+        }
+    }
+}
+
+/// The same where it is known that the layer has still the pixels that the tile was made from. None
+/// is compared.
+pub fn exchange_known(
+    alloc: Global,
+    store: &mut Store,
+    painter: &mut Painter,
+    whole: &Whole,
+) -> Result<(), NoMemory>
+    requires begun { is_some store.old.way ≡ true }
+    requires of { IsOfJob painter.old.job (layer_of painter.old.shot) whole.now }
+    requires known { (p : Point) → in_tile whole.now.key p ≡ true → sight_at whole.now.base p ≡ at (layer_under_way store.old.way store.old.present) p }
+    ensures store { OnOk result (store.new ≡ with_put store.old.way (paint painter.old.job painter.old.shot whole.now.key []) store.old) }
+    ensures noted { OnOk result (painter.new ≡ record painter.old { published = whole.now.key ∷ painter.old.published }) }
+    ensures same_store { OnErr result (store.new ≡ store.old) }
+    ensures same_painter { OnErr result (painter.new ≡ painter.old) }
+{
+    painter.published.note(whole.key())?;
+    match store.put_known(alloc, whole) {
         Ok(()) => Ok(()),
         Err(e) => {
             painter.published.take_back();
