@@ -1,11 +1,13 @@
 //! Jobs that were painted outside, and walks that were composed there, come to the desk whole.
 
-ghost use Rattle.std.specs.Prelude.{◌≡◌, Ok, OnOk, OnErr, []};
+ghost use Rattle.std.specs.Prelude.{◌≡◌, ℕ, Some, Ok, OnOk, OnErr, []};
 ghost use Rattle.machine_model.specs.State.{State};
-ghost use Rattle.machine_model.specs.Event.{End};
+ghost use Rattle.machine_model.specs.Event.{Publish, End};
+ghost use Rattle.machine_model.specs.Sound.{IsOrderly};
 ghost use Rattle.machine_model.specs.Step.{Step, Run};
 ghost use Rattle.desk_parts.specs.Settles.{Settles};
-ghost use Rattle.desk_machine.specs.Commits.{AreOfWork, MayCommit, MayCommitWalk, RunsFront, commit_walk_events};
+ghost use Rattle.desk_machine.specs.Commits.{AreOfWork, MayCommit, MayCommitWalk, RunsFront, TakesWhole, commit_walk_events};
+ghost use Rattle.desk_machine.specs.Sparing.{ArePrior, IsPriorAt};
 ghost use Rattle.desk_core.specs.Commits.{commit_events};
 ghost use Rattle.desk_core.specs.declared.answers.Published.TheVariants as answers;
 
@@ -37,16 +39,51 @@ impl Desk {
         if !self.machine.are_of_work(slot, tiles) {
             return Ok(Published::Nothing);
         }
-        self.commit_known(slot, tiles)
+        self.commit_by(slot, None, tiles)
     }
 
-    /// The same of tiles of which it is known that they were made of the slot's work, if it is there: so no
-    /// pixel is compared. `Nothing` exactly where `commit` says so.
+    /// The same of tiles of which it is known that they were made of the slot's work, if it is there, and from
+    /// what the jobs before it leave of the layer, but where those from the index `since` on write. Where no
+    /// other job can have changed the layer since, no pixel is compared. `Nothing` exactly where `commit` says
+    /// so.
     ///
     /// # Errors
     /// `NoMemory`; of the tiles some, from the first on, are published, or none.
-    pub fn commit_known(&mut self, slot: SlotId, tiles: &[Whole]) -> Result<Published, NoMemory>
-        requires { AreOfWork self.old slot.place slot.serial tiles.now }
+    pub fn commit_made(
+        &mut self,
+        slot: SlotId,
+        since: u32,
+        tiles: &[Whole],
+    ) -> Result<Published, NoMemory>
+        requires of { AreOfWork self.old slot.place slot.serial tiles.now }
+        requires prior { ArePrior self.old slot.place slot.serial since tiles.now }
+        ensures stored { result ≡ Ok answers.Stored → Run self.old (commit_events slot.place tiles.now) self.new }
+        ensures nothing { result ≡ Ok answers.Nothing → self.new ≡ self.old }
+        ensures refused { result ≡ Ok answers.Nothing → MayCommit self.old slot.place slot.serial tiles.now → ⊥ }
+        ensures front { OnErr result (RunsFront self.old (commit_events slot.place tiles.now) self.new) }
+        ensures runs { Settles self.old self.new }
+        ensures canvas { self.new.canvas ≡ self.old.canvas }
+        ensures fed { self.new.fed ≡ self.old.fed }
+    {
+        self.commit_by(slot, Some(since), tiles)
+    }
+
+    /// Tells what holds of every desk. It does nothing.
+    pub fn tell_orderly(&self)
+        ensures { IsOrderly self.now }
+    {
+        self.machine.tell_orderly();
+    }
+
+    /// Publishes the tiles of a job, and ends it. Of what they were made it may be known from which index on.
+    fn commit_by(
+        &mut self,
+        slot: SlotId,
+        since: Option<u32>,
+        tiles: &[Whole],
+    ) -> Result<Published, NoMemory>
+        requires of { AreOfWork self.old slot.place slot.serial tiles.now }
+        requires prior { (n : ℕ) → since ≡ Some n → ArePrior self.old slot.place slot.serial n tiles.now }
         ensures stored { result ≡ Ok answers.Stored → Run self.old (commit_events slot.place tiles.now) self.new }
         ensures nothing { result ≡ Ok answers.Nothing → self.new ≡ self.old }
         ensures refused { result ≡ Ok answers.Nothing → MayCommit self.old slot.place slot.serial tiles.now → ⊥ }
@@ -59,7 +96,7 @@ impl Desk {
         if !commits {
             return Ok(Published::Nothing);
         }
-        exchange_all(&mut self.machine, slot, tiles)?;
+        exchange_all(&mut self.machine, slot, since, tiles)?;
         self.machine.tell_ends(slot);
         self.machine.end_job(slot.place);
         Ok(Published::Stored)
@@ -94,14 +131,38 @@ impl Desk {
 }
 
 /// Publishes the tiles of the job in a slot, one after another.
-fn exchange_all(machine: &mut TrackedMachine, slot: SlotId, tiles: &[Whole]) -> Result<(), NoMemory>
-    requires { MayCommit machine.old slot.place slot.serial tiles.now }
+fn exchange_all(
+    machine: &mut TrackedMachine,
+    slot: SlotId,
+    since: Option<u32>,
+    tiles: &[Whole],
+) -> Result<(), NoMemory>
+    requires commits { MayCommit machine.old slot.place slot.serial tiles.now }
+    requires prior { (n : ℕ) → since ≡ Some n → ArePrior machine.old slot.place slot.serial n tiles.now }
     ensures front { RunsFront machine.old (commit_events slot.place tiles.now) machine.new }
     ensures all { (new : State) → OnOk result (Step machine.new (End slot.place) new → Run machine.old (commit_events slot.place tiles.now) new) }
     ensures ends { OnOk result (MayCommit machine.new slot.place slot.serial []) }
 {
     for whole in tiles {
-        machine.exchange_at(slot.place, whole)?;
+        exchange_one(machine, slot.place, since, whole)?;
     }
     Ok(())
+}
+
+/// Publishes a tile of the job in a slot.
+fn exchange_one(
+    machine: &mut TrackedMachine,
+    place: u8,
+    since: Option<u32>,
+    whole: &Whole,
+) -> Result<(), NoMemory>
+    requires takes { TakesWhole machine.old place whole.now }
+    requires prior { (n : ℕ) → since ≡ Some n → IsPriorAt machine.old place n whole.now }
+    ensures ok { OnOk result (Step machine.old (Publish place whole.now.key) machine.new) }
+    ensures err { OnErr result (machine.new ≡ machine.old) }
+{
+    match since {
+        Some(since) => machine.exchange_known_at(place, since, whole),
+        None => machine.exchange_at(place, whole),
+    }
 }

@@ -95,6 +95,13 @@ impl TrackedMachine {
         self.machine.tell_ends(slot);
     }
 
+    /// Tells what holds of every machine. It does nothing.
+    pub fn tell_orderly(&self)
+        ensures { IsOrderly self.now }
+    {
+        self.machine.tell_orderly();
+    }
+
     /// Whether the walk with that serial is at work in the slot, and all its groups were composed on all tiles
     /// of its patch, of the same as the walk reads. No memory.
     pub fn may_commit_walk(&self, slot: SlotId, composed: &Composed<'_>) -> bool

@@ -2,6 +2,7 @@
 
 ghost use Rattle.desk_machine.specs.Commits.{MayCommitWalk, MayPublishRow, RunsFront, TakesWhole, commit_walk_events, lacking_in, pair_events, row_events};
 ghost use Rattle.desk_machine.specs.OwnWork.{WalkLacks, WalksOn};
+ghost use Rattle.desk_machine.specs.Sparing.{IsPriorAt};
 ghost use Rattle.desk_machine.specs.Tickets.{IsPaintTicket, IsWalkTicket};
 ghost use Rattle.desk_parts.specs.Choices.{CanWalk, takes_memory};
 ghost use Rattle.desk_parts.specs.Counting.{steps_of};
@@ -93,6 +94,23 @@ impl TrackedMachine {
         ensures err { OnErr result (self.new ≡ self.old) }
     {
         self.machine.exchange_at(place, whole)
+    }
+
+    /// The same of a tile that was made from what the jobs before its own leave of the layer, but where those
+    /// from the index `since` on write. Where no other job can have changed the layer there, no pixel is
+    /// compared.
+    pub fn exchange_known_at(
+        &mut self,
+        place: u8,
+        since: u32,
+        whole: &Whole,
+    ) -> Result<(), NoMemory>
+        requires takes { TakesWhole self.old place whole.now }
+        requires prior { IsPriorAt self.old place since whole.now }
+        ensures ok { OnOk result (Step self.old (Publish place whole.now.key) self.new) }
+        ensures err { OnErr result (self.new ≡ self.old) }
+    {
+        self.machine.exchange_known_at(place, since, whole)
     }
 
     /// Ends the job in a slot whose tiles are all published. No memory.

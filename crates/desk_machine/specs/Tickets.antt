@@ -1,14 +1,19 @@
 -- What a ticket tells of the work that was just put into a slot.
-use Rattle.std.specs.Prelude.{◌≡◌, ℕ, suc, true, Some, [], slice_get}
+use Rattle.std.specs.Prelude.{◌≡◌, ◌≤◌, ℕ, suc, true, Some, [], slice_get}
+use Rattle.tile_core.specs.Shots.{sight_at}
+use Rattle.doc_model.specs.Forest.{content}
 use Rattle.doc_model.specs.Jobs.{reads, checks}
+use Rattle.doc_model.specs.Layers.{Layer}
 use Rattle.doc_model.specs.Lawful.{within_limits}
 use Rattle.doc_model.specs.Strokes.{Stroke}
 use Rattle.job_core.specs.Paints.{layer_of}
 use Rattle.machine_model.specs.State.{State, Paints, Walks, head_stroke}
+use Rattle.machine_model.specs.Guards.{kept_jobs}
 use Rattle.desk_machine.specs.declared.tickets.PaintTicket.{PaintTicket}
 use Rattle.desk_machine.specs.declared.tickets.WalkTicket.{WalkTicket}
+use Rattle.desk_machine.specs.Sparing.{ShowsBefore}
 
--- the job is at work in the ticket's slot, with the ticket's serial and shot, and is the one with that number of the stroke at the head; it may be painted on each tile that it writes
+-- the job is at work in the ticket's slot, with the ticket's serial and shot, and is the one with that number of the stroke at the head; it may be painted on each tile that it writes, and the shot shows what the jobs before it leave of the layer, but where those since the ticket's index write
 pub record IsPaintTicket (t : PaintTicket) (s : State) : Type 0 where
   pub stroke : Stroke
   pub at_head : head_stroke s ≡ Some stroke
@@ -19,6 +24,10 @@ pub record IsPaintTicket (t : PaintTicket) (s : State) : Type 0 where
   pub checked : checks t.work ≡ true
   pub limits : within_limits t.work ≡ true
   pub reads : t.shot.rects ≡ reads t.work
+  pub base : Layer
+  pub was : content stroke.layer s.base ≡ Some base
+  pub early : t.since ≤ index
+  pub before : ShowsBefore (kept_jobs stroke) base t.since index t.work (sight_at t.shot)
 
 -- the walk is at work in the ticket's slot, with the ticket's serial, and reads what the ticket has
 pub record IsWalkTicket (t : WalkTicket) (s : State) : Type 0 where

@@ -1,6 +1,7 @@
 //! What may be done next.
 
-ghost use Rattle.std.specs.Prelude.{◌≡◌, ◌<◌, ◌||◌, ◌&&◌, ℕ, true, false, Some, None, IfSome, IfNone, slice_get};
+ghost use Rattle.std.specs.Prelude.{All, ◌≡◌, ◌<◌, ◌||◌, ◌&&◌, ℕ, true, false, Some, None, IfSome, IfNone, slice_get};
+ghost use Rattle.doc_model.specs.Jobs.{checks};
 ghost use Rattle.doc_model.specs.Strokes.{Stroke};
 ghost use Rattle.machine_model.specs.State.{head_stroke, IsSettled, Free};
 ghost use Rattle.machine_model.specs.Slots.{no_painter, no_walker};
@@ -233,8 +234,9 @@ impl Machine {
     }
 
     /// The kept jobs of the stroke at the head, or none.
-    fn head_jobs(&self) -> &[(Kind, Job)]
-        ensures { (t : Stroke) → head_stroke self.now ≡ Some t → result.now ≡ kept_jobs t }
+    pub(crate) fn head_jobs(&self) -> &[(Kind, Job)]
+        ensures value { (t : Stroke) → head_stroke self.now ≡ Some t → result.now ≡ kept_jobs t }
+        ensures checked { All (λ job. checks job.1 ≡ true) result.now }
     {
         match self.queue.head() {
             Some(Entry::Waiting(stroke)) => stroke.jobs(),

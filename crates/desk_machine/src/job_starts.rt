@@ -40,6 +40,7 @@ impl Machine {
         let reads = next.job.reads();
         let kept = self.store.grab(self.alloc, reads.as_slice())?;
         let shot = self.store.grab(self.alloc, reads.as_slice())?;
+        let since = self.least_at_work(next.index);
         let serial = self.next;
         let painter = Painter {
             serial,
@@ -56,6 +57,7 @@ impl Machine {
             stroke: next.no,
             job: next.index + 1,
             work: next.job,
+            since,
             shot,
         })
     }

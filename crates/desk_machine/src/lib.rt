@@ -12,6 +12,7 @@ mod machine;
 mod own_work;
 mod readers;
 mod rows;
+mod sparing;
 mod stroke_events;
 mod tickets;
 mod walks;

@@ -20,6 +20,9 @@ pub struct PaintTicket {
     /// Its number in the stroke, from 1.
     pub job: u32,
     pub work: Job,
+    /// The least index, from 0, of the jobs that were at work when it started, its own where none was:
+    /// the others before it were done.
+    pub since: u32,
     pub shot: Shot,
 }
 

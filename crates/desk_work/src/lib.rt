@@ -17,7 +17,7 @@ mod wholes;
 pub use filmed::FilmedCaches;
 pub use job_ends::{is_painted, widen, widen_all};
 pub use own_work::{compose_own, paint_own};
-pub use painting::{lay, takes_painted};
+pub use painting::{lay, meets_writes, takes_painted};
 pub use points::{some_waits, some_works};
 pub use remaining::{next_pair, next_tile};
 pub use renewing::{move_by, renew};

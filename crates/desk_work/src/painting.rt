@@ -59,6 +59,15 @@ pub fn writes_in(job: &Job, key: TileKey) -> bool
     requires world { IsWorldKey key }
     ensures { result ≡ list_any (same_key key) (all_keys_of (writes job.now)) }
 {
+    meets_writes(job, key)
+}
+
+/// Whether a rectangle that the job may change meets the tile.
+pub fn meets_writes(job: &Job, key: TileKey) -> bool
+    requires checked { checks job.now ≡ true }
+    requires world { IsWorldKey key }
+    ensures { result ≡ list_any (λ r. meets r (tile key)) (writes job.now) }
+{
     let writes = job.writes();
     some_meets(writes.as_slice(), key)
 }

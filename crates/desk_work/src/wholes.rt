@@ -140,8 +140,11 @@ pub fn exchange_own(
     }
 }
 
-/// The same where it is known that the layer has still the pixels that the tile was made from. None
-/// is compared.
+/// The same of a tile of which it is known that the layer of the stroke under way has the pixels that the
+/// tile was made from: so no pixel is compared.
+///
+/// # Errors
+/// `NoMemory`; all is as it was.
 pub fn exchange_known(
     alloc: Global,
     store: &mut Store,

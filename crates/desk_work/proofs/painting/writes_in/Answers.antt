@@ -1,9 +1,6 @@
-use Rattle.std.proofs.Common.{◌∙◌, ap}
-use Rattle.std.specs.List.{list_any}
-use Rattle.geom_core.specs.Areas.{Area, meets}
-use Rattle.geom_core.specs.Grid.{tile}
+use Rattle.std.proofs.Common.{◌∙◌}
 use Rattle.desk_parts.proofs.Meeting.{written_some, any_met}
 use Rattle.desk_work.proofs.painting.writes_in.Goals as goal
 
 pub returns : goal.returns
-returns c = c.some_meets.ensures ∙ ap (λ rects. list_any (λ (r : Area). meets r (tile c.args.key)) rects) (c.as_slice.ensures.value ∙ c.writes-writes.ensures) ∙ any_met _ c.args.key (written_some c.args.job.now c.requires.limits)
+returns c = c.meets_writes.ensures ∙ any_met _ c.args.key (written_some c.args.job.now c.requires.limits)

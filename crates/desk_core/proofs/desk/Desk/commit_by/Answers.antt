@@ -1,10 +1,10 @@
 use Rattle.std.proofs.Common.{Ok, ap, refl, sym}
 use Rattle.desk_parts.proofs.SettlingRuns.{settles_none, canvas_stays, fed_stays}
 use Rattle.desk_core.proofs.Committing.{front_settles, commit_settles}
-use Rattle.desk_core.proofs.desk.Desk.commit_known.Goals as goal
+use Rattle.desk_core.proofs.desk.Desk.commit_by.Goals as goal
 
-pub exchange_all-requires : goal.exchange_all-requires
-exchange_all-requires c = c.in_ok-commits.ensures.some (ap Ok c.if-not-commits.false)
+pub exchange_all-requires-clause-commits : goal.exchange_all-requires-clause-commits
+exchange_all-requires-clause-commits c = c.in_ok-commits.ensures.some (ap Ok c.if-not-commits.false)
 
 pub returns-in_err-exchange_all-clause-runs : goal.returns-in_err-exchange_all-clause-runs
 returns-in_err-exchange_all-clause-runs c = rw (← c.self.view_is) (front_settles c.args.slot.place c.args.tiles.now c.self.inside.machine c.exchange_all.new.machine c.exchange_all.ensures.front)
