@@ -1,15 +1,17 @@
 -- Whole jobs and walks come to the desk.
 use Rattle.std.proofs.Common.{◌≡◌, ℕ, suc, zero, ◌+◌, ◌≤◌, true, false, not, Some, List, [], ◌∷◌, ◌++◌, length, take, drop, refl, sym, ap, ◌∙◌, subst, arith, Result, Ok, Err, OnOk}
 use Rattle.std.specs.Prelude.{slice_get}
-use Rattle.std.specs.List.{list_any, list_all}
+use Rattle.std.specs.List.{All, list_any, list_all}
 use Rattle.std.proofs.lemmas.List.{drop_all}
 use Rattle.geom_core.specs.Grid.{Key, same_key, all_keys_of}
 use Rattle.geom_core.proofs.Tests.{and_left, and_right, both_true}
+use Rattle.doc_model.specs.Forest.{content}
 use Rattle.doc_model.specs.Jobs.{writes}
 use Rattle.job_core.specs.Paints.{layer_of}
 use Rattle.whole_tiles.specs.Wholes.{Entire}
 use Rattle.machine_model.specs.State as state
-use Rattle.machine_model.specs.State.{State, Paints}
+use Rattle.machine_model.specs.State.{State, Paints, head_stroke}
+use Rattle.machine_model.specs.Guards.{kept_jobs}
 use Rattle.machine_model.specs.Event.{Event, Publish, End, WalkEnd}
 use Rattle.machine_model.specs.Step.{Step, PublishStep, Run}
 use Rattle.machine_model.specs.MeaningLaws.{is_feed}
@@ -29,6 +31,8 @@ use Rattle.desk_parts.proofs.Places.{IsPaintingAs, painting_as, painting_at}
 use Rattle.desk_parts.proofs.Taking.{job_is}
 use Rattle.desk_work.specs.Lacking.{IsOfJob, AreLacking}
 use Rattle.desk_machine.specs.Commits.{MayCommit, TakesWhole, RunsFront, lacking_in, lacking_at, pair_events, row_events, commit_walk_events}
+use Rattle.desk_machine.specs.Sparing.{ArePrior, IsPrior, IsPriorAt}
+use Rattle.desk_work.proofs.Lackings.{all_at}
 use Rattle.desk_core.specs.Commits.{commit_events}
 use Rattle.desk_parts.proofs.SettlingRuns.{run_then}
 
@@ -95,6 +99,20 @@ at_index s place serial tiles i x at = subst (MayCommit s place serial) (drop_he
 
 pub none_left : (s : State) (place serial : ℕ) (tiles : List Entire) (i : ℕ) → length tiles ≤ i → MayCommit s place serial (drop i tiles) → MayCommit s place serial []
 none_left s place serial tiles i low = subst (MayCommit s place serial) (drop_all i tiles low)
+
+-- ---- what the tiles were made from
+
+-- a tile that is published leaves the others made from what they were
+pub prior_stays : (s t : State) (place serial since : ℕ) (key : Key) (tiles : List Entire) → PublishStep s place key t → ArePrior s place serial since tiles → ArePrior t place serial since tiles
+prior_stays s t place serial since key tiles step prior w runs drawn stroke at_head base was =
+    let e : record step.painter { published = key ∷ step.painter.published } ≡ w = one_painter _ _ (sym (get_set s.slots place (Paints step.painter) _ step.runs) ∙ sym (ap (λ (n : State). slice_get n.slots place) step.new_is) ∙ runs) in
+    subst (λ (q : state.Painter). All (IsPrior (kept_jobs stroke) base since q.index q.job) tiles) e
+    (prior step.painter step.runs (ap (λ (q : state.Painter). q.serial) e ∙ drawn) stroke (sym (ap head_stroke step.new_is) ∙ at_head) base (sym (ap (λ (n : State). content stroke.layer n.base) step.new_is) ∙ was))
+
+-- what holds of the tiles of the job in a slot holds of each
+pub prior_at : (s : State) (place serial since i : ℕ) (x : Entire) (tiles left : List Entire) → slice_get tiles i ≡ Some x → MayCommit s place serial left → ArePrior s place serial since tiles → IsPriorAt s place since x
+prior_at s place serial since i x tiles left at m prior w runs stroke at_head base was =
+    all_at (IsPrior (kept_jobs stroke) base since w.index w.job) tiles i x at (prior w runs (ap (λ (q : state.Painter). q.serial) (one_painter w m.painter (sym runs ∙ m.runs)) ∙ m.drawn) stroke at_head base was)
 
 -- ---- a whole walk
 

@@ -6,5 +6,6 @@ mod Exported
 mod FreeSlots
 mod PairRuns
 pub mod OwnTiles
+pub mod Untouched
 mod Committing
 mod WholeWalks

@@ -3,22 +3,28 @@ use Rattle.std.specs.Prelude.{slice_get}
 use Rattle.std.proofs.lemmas.Option.{slice_get_read}
 use Rattle.machine_model.specs.Step.{Run}
 use Rattle.desk_core.specs.Commits.{commit_events}
-use Rattle.desk_core.proofs.Committing.{takes_first, at_index, commits_rest, next_run, whole_run, none_left}
+use Rattle.desk_core.proofs.Committing.{takes_first, at_index, commits_rest, next_run, whole_run, none_left, prior_at, prior_stays}
 use Rattle.desk_core.proofs.commits.exchange_all.Goals as goal
 
-pub exchange_at-requires : goal.exchange_at-requires
-exchange_at-requires c =
+pub exchange_one-requires-clause-takes : goal.exchange_one-requires-clause-takes
+exchange_one-requires-clause-takes c =
     let at : slice_get c.args.tiles.now c.loop-whole.whole-index ≡ Some c.whole-item.result = slice_get_read c.args.tiles.now (length c.args.tiles.now) c.loop-whole.whole-index c.whole-item.result refl c.loop-whole-test.true c.whole-item.is in
     takes_first c.loop-whole.machine c.args.slot.place c.args.slot.serial c.whole-item.result _ (at_index c.loop-whole.machine c.args.slot.place c.args.slot.serial c.args.tiles.now c.loop-whole.whole-index c.whole-item.result at c.loop-whole.invariant.1)
 
-pub returns-in_err-exchange_at-clause-front : goal.returns-in_err-exchange_at-clause-front
-returns-in_err-exchange_at-clause-front c = record { count = c.loop-whole.whole-index; run = subst (λ s. Run c.args.machine.now (take c.loop-whole.whole-index (commit_events c.args.slot.place c.args.tiles.now)) s) (sym c.in_err-exchange_at.ensures.err) c.loop-whole.invariant.0 }
+pub exchange_one-requires-clause-prior : goal.exchange_one-requires-clause-prior
+exchange_one-requires-clause-prior c n e =
+    let at : slice_get c.args.tiles.now c.loop-whole.whole-index ≡ Some c.whole-item.result = slice_get_read c.args.tiles.now (length c.args.tiles.now) c.loop-whole.whole-index c.whole-item.result refl c.loop-whole-test.true c.whole-item.is in
+    prior_at c.loop-whole.machine c.args.slot.place c.args.slot.serial n c.loop-whole.whole-index c.whole-item.result c.args.tiles.now _ at c.loop-whole.invariant.1 (c.loop-whole.invariant.2 n e)
+
+pub returns-in_err-exchange_one-clause-front : goal.returns-in_err-exchange_one-clause-front
+returns-in_err-exchange_one-clause-front c = record { count = c.loop-whole.whole-index; run = subst (λ s. Run c.args.machine.now (take c.loop-whole.whole-index (commit_events c.args.slot.place c.args.tiles.now)) s) (sym c.in_err-exchange_one.ensures.err) c.loop-whole.invariant.0 }
 
 pub loop-whole-preserved : goal.loop-whole-preserved
 loop-whole-preserved c =
     let at : slice_get c.args.tiles.now c.loop-whole.whole-index ≡ Some c.whole-item.result = slice_get_read c.args.tiles.now (length c.args.tiles.now) c.loop-whole.whole-index c.whole-item.result refl c.loop-whole-test.true c.whole-item.is in (
-      next_run c.args.slot.place c.args.tiles.now c.loop-whole.whole-index c.whole-item.result c.args.machine.now c.loop-whole.machine c.exchange_at.new.self at c.loop-whole.invariant.0 c.in_ok-exchange_at.ensures.ok,
-      commits_rest c.loop-whole.machine c.exchange_at.new.self c.args.slot.place c.args.slot.serial c.whole-item.result _ (at_index c.loop-whole.machine c.args.slot.place c.args.slot.serial c.args.tiles.now c.loop-whole.whole-index c.whole-item.result at c.loop-whole.invariant.1) c.in_ok-exchange_at.ensures.ok,
+      next_run c.args.slot.place c.args.tiles.now c.loop-whole.whole-index c.whole-item.result c.args.machine.now c.loop-whole.machine c.exchange_one.new.machine at c.loop-whole.invariant.0 c.in_ok-exchange_one.ensures.ok,
+      commits_rest c.loop-whole.machine c.exchange_one.new.machine c.args.slot.place c.args.slot.serial c.whole-item.result _ (at_index c.loop-whole.machine c.args.slot.place c.args.slot.serial c.args.tiles.now c.loop-whole.whole-index c.whole-item.result at c.loop-whole.invariant.1) c.in_ok-exchange_one.ensures.ok,
+      (λ n e. prior_stays c.loop-whole.machine c.exchange_one.new.machine c.args.slot.place c.args.slot.serial n c.whole-item.result.key c.args.tiles.now c.in_ok-exchange_one.ensures.ok (c.loop-whole.invariant.2 n e)),
     )
 
 pub returns-clause-front : goal.returns-clause-front

@@ -6,6 +6,9 @@ use Rattle.desk_core.proofs.desk.Desk.commit_by.Goals as goal
 pub exchange_all-requires-clause-commits : goal.exchange_all-requires-clause-commits
 exchange_all-requires-clause-commits c = c.in_ok-commits.ensures.some (ap Ok c.if-not-commits.false)
 
+pub exchange_all-requires-clause-prior : goal.exchange_all-requires-clause-prior
+exchange_all-requires-clause-prior c n e = rw c.self.view_is (c.requires.prior n e)
+
 pub returns-in_err-exchange_all-clause-runs : goal.returns-in_err-exchange_all-clause-runs
 returns-in_err-exchange_all-clause-runs c = rw (← c.self.view_is) (front_settles c.args.slot.place c.args.tiles.now c.self.inside.machine c.exchange_all.new.machine c.exchange_all.ensures.front)
 

@@ -1,6 +1,7 @@
-use Rattle.std.proofs.Common.{◌≡◌, ◌+◌, suc, Some, refl, sym, ap, ◌∙◌, subst, arith, add-one}
+use Rattle.std.proofs.Common.{◌≡◌, ◌≤◌, ◌+◌, suc, Some, refl, sym, ap, ◌∙◌, subst, arith, add-one}
 use Rattle.doc_model.specs.Shots.{shot_of}
 use Rattle.desk_steps.specs.Archives.{layer_under_way}
+use Rattle.desk_steps.specs.Tiles.{ShowsTiles}
 use Rattle.machine_model.specs.State.{State}
 use Rattle.machine_model.specs.Event.{Start}
 use Rattle.machine_model.specs.Step.{StartStep}
@@ -8,6 +9,7 @@ use Rattle.desk_parts.specs.Enabled.{Enabled}
 use Rattle.desk_parts.specs.Parts.{Parts, parts, state_of}
 use Rattle.desk_parts.proofs.JobDoing.{free_at, start_does, serial_fits}
 use Rattle.desk_parts.proofs.Doing.{Does}
+use Rattle.desk_machine.specs.Sparing.{AreFrom}
 use Rattle.desk_machine.proofs.TicketsMatch.{paint_ticket}
 use Rattle.desk_machine.proofs.machine.Machine.start.Goals as goal
 
@@ -50,10 +52,13 @@ returns-clause-ok c = subst (λ s. StartStep s c.args.place (state_of (after c))
 
 pub returns-clause-ticket : goal.returns-clause-ticket
 returns-clause-ticket c = paint_ticket (before c) (state_of (after c))
-    (record { slot = record { place = c.args.place; serial = c.self.inside.next }; stroke = c.next_job-next.result.no; job = c.next_job-next.result.index + 1; work = c.next_job-next.result.job; shot = c.in_ok-shot.shot })
+    (record { slot = record { place = c.args.place; serial = c.self.inside.next }; stroke = c.next_job-next.result.no; job = c.next_job-next.result.index + 1; work = c.next_job-next.result.job; since = c.least_at_work-since.result; shot = c.in_ok-shot.shot })
     c.self.invariant (does c).step refl
     (subst (λ (t : State). (can : Enabled t (Start c.args.place)) → c.next_job-next.result.no ≡ can.1.stroke.no) (sym c.self.view_is) c.next_job-next.ensures.no (state_of (after c), (does c).step))
     (add-one c.next_job-next.result.index ∙ ap suc (subst (λ (t : State). (can : Enabled t (Start c.args.place)) → c.next_job-next.result.index ≡ can.1.next) (sym c.self.view_is) c.next_job-next.ensures.index (state_of (after c), (does c).step)))
     (subst (λ (t : State). (can : Enabled t (Start c.args.place)) → c.next_job-next.result.job ≡ can.1.job.1) (sym c.self.view_is) c.next_job-next.ensures.job (state_of (after c), (does c).step))
     c.next_job-next.ensures.checked (c.in_ok-shot.ensures.rects ∙ c.as_slice-2.ensures.value ∙ c.reads-reads.ensures)
     (c.in_ok-shot.ensures.shot ∙ ap (λ rects. shot_of rects (layer_under_way c.self.inside.store.way c.self.inside.store.present)) (c.as_slice-2.ensures.value ∙ c.reads-reads.ensures))
+    (subst (λ n. c.least_at_work-since.result ≤ n) (subst (λ (t : State). (can : Enabled t (Start c.args.place)) → c.next_job-next.result.index ≡ can.1.next) (sym c.self.view_is) c.next_job-next.ensures.index (state_of (after c), (does c).step)) c.least_at_work-since.ensures.low)
+    (subst (λ (t : State). AreFrom c.least_at_work-since.result t.slots) (sym c.self.view_is) c.least_at_work-since.ensures.all)
+    (subst (λ rects. ShowsTiles rects (layer_under_way c.self.inside.store.way c.self.inside.store.present) c.in_ok-shot.shot) (c.as_slice-2.ensures.value ∙ c.reads-reads.ensures) c.in_ok-shot.ensures.tiles)

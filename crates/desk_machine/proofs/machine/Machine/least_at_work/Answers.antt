@@ -1,0 +1,24 @@
+use Rattle.std.proofs.Common.{◌≡◌, ◌≤◌, length, sym, ap, ◌∙◌, subst, arith}
+use Rattle.machine_model.specs.State.{State}
+use Rattle.machine_model.proofs.Lists.{length_map}
+use Rattle.desk_parts.specs.Parts.{slot_of}
+use Rattle.desk_machine.proofs.Untouched.{least_more, least_all}
+use Rattle.desk_machine.proofs.machine.Machine.least_at_work.Goals as goal
+
+pub loop-place-start : goal.loop-place-start
+loop-place-start c = (omega arith, λ q w lt at. absurd (omega arith))
+
+pub loop-place-preserved : goal.loop-place-preserved
+loop-place-preserved c = (
+  (let h : c.least_with.result ≤ c.loop-place.least = c.least_with.ensures.low in let k : c.loop-place.least ≤ c.args.own = c.loop-place.invariant.0 in omega arith),
+  least_more c.args.self.now.slots c.loop-place.place c.loop-place.least c.least_with.result c.loop-place.invariant.1 c.least_with.ensures.low c.least_with.ensures.at,
+)
+
+pub returns-clause-low : goal.returns-clause-low
+returns-clause-low c = c.loop-place.invariant.0
+
+pub returns-clause-all : goal.returns-clause-all
+returns-clause-all c =
+    let many : length c.args.self.now.slots ≡ length c.self.inside.slots = ap (λ (s : State). length s.slots) (sym c.self.view_is) ∙ length_map slot_of c.self.inside.slots in
+    let value = c.count-place-end.ensures.value in
+    least_all c.args.self.now.slots c.loop-place.place c.loop-place.least (omega (arith, many, value)) c.loop-place.invariant.1
