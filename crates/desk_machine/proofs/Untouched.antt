@@ -71,17 +71,14 @@ before_is jobs base since i slots p from spared = shown_all jobs base (done slot
 -- and still does when further ones were
 later_same : (jobs : Jobs) (base : Layer) (d : ℕ → Key → Bool) (since i n : ℕ) (p : Point) → since ≤ i → i ≤ n → d i (key_of p) ≡ false → Spared jobs since i n p → shown jobs base d n p ≡ shown jobs base d i p
 later_same jobs base d since i zero p low few left spared = let e : i ≡ 0 = omega arith in ap (λ m. shown jobs base d m p) (sym e)
-later_same jobs base d since i (suc n) p low few left spared = go (eqb i (suc n)) refl (eqb n i) refl
+later_same jobs base d since i (suc n) p low few left spared = go (λ h. later_same jobs base d since i n p low h left (λ j a b. spared j a (omega arith))) (eqb i (suc n)) refl (eqb n i) refl
   where
-    rest : i ≤ n → shown jobs base d n p ≡ shown jobs base d i p
-    rest h = later_same jobs base d since i n p low h left (λ j a b. spared j a (omega arith))
-
-    go : (b : Bool) → eqb i (suc n) ≡ b → (c : Bool) → eqb n i ≡ c → shown jobs base d (suc n) p ≡ shown jobs base d i p
-    go true e c f = let same : i ≡ suc n = grind (arith, nat_tests) in ap (λ m. shown jobs base d m p) (sym same)
-    go false e true f =
+    go : (i ≤ n → shown jobs base d n p ≡ shown jobs base d i p) → (b : Bool) → eqb i (suc n) ≡ b → (c : Bool) → eqb n i ≡ c → shown jobs base d (suc n) p ≡ shown jobs base d i p
+    go rest true e c f = let same : i ≡ suc n = grind (arith, nat_tests) in ap (λ m. shown jobs base d m p) (sym same)
+    go rest false e true f =
         let same : n ≡ i = grind (arith, nat_tests) in
         kept _ _ _ (and_none (any_holds (writes_at jobs n) p) _ (ap (λ m. d m (key_of p)) same ∙ left)) ∙ rest (omega (arith, same))
-    go false e false f =
+    go rest false e false f =
         let above : i ≤ n = grind (arith, nat_tests) in
         kept _ _ _ (none_and _ _ (spared n (omega arith) (omega arith) (λ q. grind (arith, nat_tests)))) ∙ rest above
 

@@ -5,13 +5,10 @@ use Rattle.desk_parts.specs.Parts.{slot_of}
 use Rattle.desk_machine.proofs.Untouched.{least_more, least_all}
 use Rattle.desk_machine.proofs.machine.Machine.least_at_work.Goals as goal
 
-pub loop-place-start : goal.loop-place-start
-loop-place-start c = (omega arith, λ q w lt at. absurd (omega arith))
-
 pub loop-place-preserved : goal.loop-place-preserved
 loop-place-preserved c = (
-  (let h : c.least_with.result ≤ c.loop-place.least = c.least_with.ensures.low in let k : c.loop-place.least ≤ c.args.own = c.loop-place.invariant.0 in omega arith),
-  least_more c.args.self.now.slots c.loop-place.place c.loop-place.least c.least_with.result c.loop-place.invariant.1 c.least_with.ensures.low c.least_with.ensures.at,
+  (let h : c.least_with-least.result ≤ c.loop-place.least = c.least_with-least.ensures.low in let k : c.loop-place.least ≤ c.args.own = c.loop-place.invariant.0 in omega arith),
+  least_more c.args.self.now.slots c.loop-place.place c.loop-place.least c.least_with-least.result c.loop-place.invariant.1 c.least_with-least.ensures.low c.least_with-least.ensures.at,
 )
 
 pub returns-clause-low : goal.returns-clause-low
