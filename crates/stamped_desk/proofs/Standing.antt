@@ -16,10 +16,10 @@ use Rattle.machine_model.specs.Guards.{is_paint}
 use Rattle.machine_model.specs.Walks.{walk_shot}
 use Rattle.machine_model.specs.Effects.{layer_in, moved_to, with_outcome, after_change, after_undo, after_redo, after_entry, after_finish}
 
--- work with a serial below the bound stood there before: the same job with the same shot, or the same walk
+-- work with a serial below the bound stood there before: the same job, with the same index and shot, or the same walk
 abbrev pub StoodBefore : ℕ → Option Slot → Slot → Type 0
 StoodBefore bound old Free = Unit {0}
-StoodBefore bound old (Paints w) = w.serial < bound → (v : Painter) × (old ≡ Some (Paints v)) × (v.serial ≡ w.serial) × (v.job ≡ w.job) × (v.shot ≡ w.shot)
+StoodBefore bound old (Paints w) = w.serial < bound → (v : Painter) × (old ≡ Some (Paints v)) × (v.serial ≡ w.serial) × (v.index ≡ w.index) × (v.job ≡ w.job) × (v.shot ≡ w.shot)
 StoodBefore bound old (Walks w) = w.serial < bound → (v : Walker) × (old ≡ Some (Walks v)) × (v.serial ≡ w.serial) × (v.patch ≡ w.patch) × (v.shot ≡ w.shot)
 
 -- so it is in each slot
@@ -28,7 +28,7 @@ AllStood bound old new = (p : ℕ) (y : Slot) → slice_get new p ≡ Some y →
 
 stands : (bound : ℕ) (y : Slot) → StoodBefore bound (Some y) y
 stands bound Free = tt
-stands bound (Paints w) = λ less. (w, refl, refl, refl, refl)
+stands bound (Paints w) = λ less. (w, refl, refl, refl, refl, refl)
 stands bound (Walks w) = λ less. (w, refl, refl, refl, refl)
 
 stand : (bound : ℕ) (slots : List Slot) → AllStood bound slots slots
@@ -49,8 +49,8 @@ not_below : (n bound : ℕ) → n ≡ bound → n < bound → ⊥
 not_below n bound e h = omega arith
 
 -- a job at work that has published more
-painter_stood : (bound : ℕ) (o : Option Slot) (v w : Painter) → o ≡ Some (Paints v) → v.serial ≡ w.serial → v.job ≡ w.job → v.shot ≡ w.shot → StoodBefore bound o (Paints w)
-painter_stood bound o v w at serial job shot less = (v, at, serial, job, shot)
+painter_stood : (bound : ℕ) (o : Option Slot) (v w : Painter) → o ≡ Some (Paints v) → v.serial ≡ w.serial → v.index ≡ w.index → v.job ≡ w.job → v.shot ≡ w.shot → StoodBefore bound o (Paints w)
+painter_stood bound o v w at serial index job shot less = (v, at, serial, index, job, shot)
 
 -- a walk that has
 walker_stood : (bound : ℕ) (o : Option Slot) (v w : Walker) → o ≡ Some (Walks v) → v.serial ≡ w.serial → v.patch ≡ w.patch → v.shot ≡ w.shot → StoodBefore bound o (Walks w)
@@ -100,7 +100,7 @@ pub step_stood : (a b : State) (e : Event) → Step a e b → AllStood a.next a.
 step_stood a b (Feed c) step = same_slots a b (ap (λ (s : State). s.slots) step.1)
 step_stood a b Init step = same_slots a b (ap (λ (s : State). s.slots) step.new_is)
 step_stood a b (Start place) step = subst (AllStood a.next a.slots) (sym (ap (λ (s : State). s.slots) step.new_is)) (set_stood a.next a.slots place _ (painter_drawn a.next _ (record { serial = a.next; index = step.next; job = step.job.1; shot = shot_of (reads step.job.1) (layer_in step.stroke.layer a.present); published = [] }) refl))
-step_stood a b (Publish place key) step = subst (AllStood a.next a.slots) (sym (ap (λ (s : State). s.slots) step.new_is)) (set_stood a.next a.slots place _ (painter_stood a.next _ step.painter (record step.painter { published = key ∷ step.painter.published }) step.runs refl refl refl))
+step_stood a b (Publish place key) step = subst (AllStood a.next a.slots) (sym (ap (λ (s : State). s.slots) step.new_is)) (set_stood a.next a.slots place _ (painter_stood a.next _ step.painter (record step.painter { published = key ∷ step.painter.published }) step.runs refl refl refl refl))
 step_stood a b (End place) step = subst (AllStood a.next a.slots) (sym (ap (λ (s : State). s.slots) step.new_is)) (set_stood a.next a.slots place Free tt)
 step_stood a b Finish step = same_slots a b (ap (λ (s : State). s.slots) step.new_is ∙ finish_slots a step.stroke (is_paint step.stroke.layer a.base))
 step_stood a b Cancel step = same_slots a b (ap (λ (s : State). s.slots) step.new_is)

@@ -57,6 +57,7 @@ impl<J: Naming> StampedDesk<J> {
         requires { unnamed ≡ J.book }
         ensures { result ≡ desk }
     {
+        desk.tell_orderly();
         StampedDesk {
             desk,
             stamps: unnamed.named::<J>(),
@@ -113,7 +114,8 @@ impl<J: Naming> StampedDesk<J> {
     }
 
     /// Publishes all tiles that the job in their slot lacks, and ends it, as `Desk::commit` does. Where they were made
-    /// of what was taken for that slot, no pixel is compared.
+    /// of what was taken for that slot, no pixel is compared but in tiles that other jobs may have written in
+    /// meanwhile.
     ///
     /// # Errors
     /// `NoMemory`; of the tiles some, from the first on, are published, or none.
@@ -127,7 +129,8 @@ impl<J: Naming> StampedDesk<J> {
         ensures fed { self.new.fed ≡ self.old.fed }
     {
         if knows(&self.stamps, &tiles.stamp) {
-            self.desk.commit_known(tiles.slot(), &tiles.tiles)
+            self.desk
+                .commit_made(tiles.slot(), tiles.since, &tiles.tiles)
         } else {
             self.desk.commit(tiles.slot(), &tiles.tiles)
         }

@@ -3,11 +3,9 @@
 ghost use Rattle.std.specs.Prelude.{All, ◌≡◌, [], true, Some, IfOk, IfSome, length};
 ghost use Rattle.doc_model.specs.Jobs.{checks, reads};
 ghost use Rattle.doc_model.specs.Lawful.{within_limits};
-ghost use Rattle.job_core.specs.Paints.{layer_of};
 ghost use Rattle.whole_tiles.specs.Plans.{tiles_of};
-ghost use Rattle.desk_work.specs.Lacking.{IsOfJob};
 ghost use Rattle.desk_core.specs.declared.tickets.Taken.TheVariants as taken;
-ghost use Rattle.stamped_desk.specs.Stamped.{batch};
+ghost use Rattle.stamped_desk.specs.Stamped.{IsMadeOf, batch};
 
 use crate::tiles::StampedTiles;
 use desk_core::{PaintTicket, SlotId, Taken};
@@ -24,6 +22,7 @@ pub struct StampedPainting<J: Naming> {
     slot: SlotId,
     stroke: u32,
     job: u32,
+    since: u32,
     painting: Painting,
     stamp: Option<Stamp<J, Taken>>,
 }
@@ -39,9 +38,9 @@ impl<J: Naming> Model for StampedPainting<J> {
 
     ghost coded = { (the_row).coded };
 
-    ghost view = { λ p. ticket_of p.slot p.stroke p.job p.painting };
+    ghost view = { λ p. ticket_of p.slot p.stroke p.job p.since p.painting };
 
-    ghost invariant = { λ p. IfSome p.stamp (λ s. s.value ≡ Some (taken.Paint (ticket_of p.slot p.stroke p.job p.painting))) };
+    ghost invariant = { λ p. IfSome p.stamp (λ s. s.value ≡ Some (taken.Paint (ticket_of p.slot p.stroke p.job p.since p.painting))) };
 }
 
 impl<J: Naming> StampedPainting<J> {
@@ -64,6 +63,7 @@ impl<J: Naming> StampedPainting<J> {
             slot: ticket.slot,
             stroke: ticket.stroke,
             job: ticket.job,
+            since: ticket.since,
             painting: Painting::new(alloc, ticket.work, ticket.shot)?,
             stamp,
         })
@@ -105,7 +105,8 @@ impl<J: Naming> StampedPainting<J> {
         ensures { IfOk result (λ b. b ≡ batch self.now.slot []) }
     {
         let tiles = Vec::with_capacity(alloc, room)?;
-        Ok(StampedTiles::of_job(self.slot, tiles, copy_of(&self.stamp)))
+        let stamp = copy_of(&self.stamp);
+        Ok(StampedTiles::of_job(self.slot, self.since, tiles, stamp))
     }
 
     /// Its tiles from one place of the list to before another, painted whole. Where a fill leaves one pixel all
@@ -115,10 +116,11 @@ impl<J: Naming> StampedPainting<J> {
     /// `NoMemory`.
     pub fn paint(&self, alloc: Global, from: usize, to: usize) -> Result<StampedTiles<J>, NoMemory>
         ensures slot { IfOk result (λ b. b.slot ≡ self.now.slot) }
-        ensures made { IfOk result (λ b. All (IsOfJob self.now.work (layer_of self.now.shot)) b.tiles) }
+        ensures made { IfOk result (λ b. All (IsMadeOf self.now.work self.now.shot) b.tiles) }
     {
         let tiles = paint_all(alloc, &self.painting, from, to)?;
-        Ok(StampedTiles::of_job(self.slot, tiles, copy_of(&self.stamp)))
+        let stamp = copy_of(&self.stamp);
+        Ok(StampedTiles::of_job(self.slot, self.since, tiles, stamp))
     }
 }
 
@@ -139,7 +141,7 @@ fn paint_all(
     from: usize,
     to: usize,
 ) -> Result<Vec<Whole>, NoMemory>
-    ensures { IfOk result (λ v. All (IsOfJob painting.now.job (layer_of painting.now.shot)) v.items) }
+    ensures { IfOk result (λ v. All (IsMadeOf painting.now.job painting.now.shot) v.items) }
 {
     let to = to.min(painting.tile_count());
     let mut made = Vec::with_capacity(alloc, to.saturating_sub(from))?;

@@ -14,6 +14,8 @@ use whole_tiles::Whole;
 #[derive(Drop)]
 pub struct StampedTiles<J: Naming> {
     slot: SlotId,
+    /// The least index of the jobs that were at work when that job started, its own where none was.
+    pub(crate) since: u32,
     pub(crate) tiles: Vec<Whole>,
     pub(crate) stamp: Option<Stamp<J, Taken>>,
 }
@@ -28,20 +30,26 @@ impl<J: Naming> Model for StampedTiles<J> {
 
     ghost view = { λ t. batch t.slot t.tiles.items };
 
-    ghost invariant = { λ t. IfSome t.stamp (λ s. AreMadeOf s (batch t.slot t.tiles.items)) };
+    ghost invariant = { λ t. IfSome t.stamp (λ s. AreMadeOf s t.since (batch t.slot t.tiles.items)) };
 }
 
 impl<J: Naming> StampedTiles<J> {
     /// Tiles that were made of one job, with its stamp.
     pub(crate) fn of_job(
         slot: SlotId,
+        since: u32,
         tiles: Vec<Whole>,
         stamp: Option<Stamp<J, Taken>>,
     ) -> StampedTiles<J>
-        requires { IfSome stamp (λ s. AreMadeOf s (batch slot tiles.items)) }
+        requires { IfSome stamp (λ s. AreMadeOf s since (batch slot tiles.items)) }
         ensures { result ≡ batch slot tiles.items }
     {
-        StampedTiles { slot, tiles, stamp }
+        StampedTiles {
+            slot,
+            since,
+            tiles,
+            stamp,
+        }
     }
 
     /// The slot that they are for.

@@ -6,6 +6,6 @@ use Rattle.stamped_desk.proofs.painting.StampedPainting.paint.Goals as goal
 
 pub of_job-requires : goal.of_job-requires
 of_job-requires g c =
-    subst (λ o. IfSome o (λ s. AreMadeOf s (batch c.self.inside.slot c.in_ok-tiles.tiles.items))) (sym c.copy_of.ensures)
-    (job_made c.self.inside.stamp (ticket_of c.self.inside.slot c.self.inside.stroke c.self.inside.job c.self.inside.painting) c.in_ok-tiles.tiles.items c.self.invariant
+    subst (λ o. IfSome o (λ s. AreMadeOf s c.self.inside.since (batch c.self.inside.slot c.in_ok-tiles.tiles.items))) (sym c.copy_of-stamp.ensures)
+    (job_made c.self.inside.stamp (ticket_of c.self.inside.slot c.self.inside.stroke c.self.inside.job c.self.inside.since c.self.inside.painting) c.in_ok-tiles.tiles.items c.self.invariant
     c.in_ok-tiles.ensures)
