@@ -3,7 +3,6 @@ use Rattle.std.proofs.Common.{◌≡◌, Result, Ok, Err, ◌≤◌, List, lengt
 use Rattle.std.specs.Prelude.{IfOk}
 use Rattle.geom_core.specs.declared.NoMemory.{NoMemory}
 use Rattle.doc_model.specs.Flat.{read, flat, read-flat}
-use Rattle.doc_model.specs.Forest.{count, height}
 use Rattle.doc_model.specs.Laws.{IsDocument}
 use Rattle.tree_core.specs.declared.node.Node.{Node}
 use Rattle.tree_core.specs.declared.exchange.Exchange.{Exchange}

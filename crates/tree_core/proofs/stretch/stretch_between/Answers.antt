@@ -1,5 +1,4 @@
 use Rattle.std.proofs.Common.{◌≡◌, ◌-◌, length, drop, sym, ap, ◌∙◌}
-use Rattle.std.specs.Prelude.{slice_range}
 use Rattle.tree_core.specs.Nodes.{row_of, rows_of}
 use Rattle.tree_core.specs.Exchanges.{replaced}
 use Rattle.tree_core.proofs.Replaced.{back_from, fits_back, map_replaced, replaced_there}

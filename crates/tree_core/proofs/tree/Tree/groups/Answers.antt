@@ -1,4 +1,4 @@
-use Rattle.std.proofs.Common.{◌≡◌, ◌∙◌, ap}
+use Rattle.std.proofs.Common.{◌∙◌, ap}
 use Rattle.doc_model.specs.Readers.{order}
 use Rattle.tree_core.specs.Nodes.{tree_of}
 use Rattle.tree_core.proofs.tree.Tree.groups.Goals as goal
