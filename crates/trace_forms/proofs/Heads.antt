@@ -1,15 +1,14 @@
 -- The first two lines of a trace keep to the limits.
 use Rattle.std.proofs.Common.{◌≡◌, ℕ, ◌≤◌, Bool, true, false, ◌&&◌, cond, List, [], ◌∷◌, Result, Ok, Err, refl, sym, ap, subst, ◌∙◌, arith, leb, codes}
 use Rattle.std.specs.Prelude.{ℤ, pos, negsuc, nat_abs, int_le}
-use Rattle.std.specs.Str.{bytes_eq}
 use Rattle.std.proofs.lemmas.Bool.Decides.{nat_tests}
-use Rattle.geom_core.proofs.Tests.{true_or_false, and_left, and_right}
+use Rattle.geom_core.proofs.Tests.{and_left, and_right}
 use Rattle.pixel_core.specs.Rgba.{Rgba, if_canonical, rgba as pixel}
 use Rattle.doc_model.specs.declared.canvas.Canvas.{Canvas}
 use Rattle.doc_model.specs.Canvases.{IsOfLimits}
 use Rattle.script_lines.specs.declared.cause.Cause.{Cause}
 use Rattle.script_lines.specs.declared.cause.Cause.TheVariants.{Range}
-use Rattle.script_lines.specs.Values.{◌>>=◌, natural, number, number_in, rgb, hex_byte}
+use Rattle.script_lines.specs.Values.{◌>>=◌, natural, number, number_in, rgb, rgba, hex_byte}
 use Rattle.script_forms.specs.Forms.{canvas, sides, canvas_text}
 use Rattle.script_forms.specs.Jobs.{Fields}
 use Rattle.trace_forms.specs.Forms.{slots, canvas_line, word}
@@ -59,21 +58,41 @@ sides_ok w h s e =
     let q : b.0 ≡ s.1 = ap (λ (t : ℕ × ℕ). t.1) same in
     ((omega (arith, x.0), omega (arith, x.1)), (omega (arith, y.0), omega (arith, y.1)))
 
-rgb_ok : (bytes : List ℕ) (p : Rgba) → rgb bytes ≡ Ok p → p.a ≡ 255
-unfolding rgb
-rgb_ok (a ∷ b ∷ c ∷ d ∷ e ∷ f ∷ []) p h =
-    let x = first_ok (hex_byte a b) _ p h in
+-- the pixel of eight digits has the alpha of the last two
+alpha_ok : (a b c d e f g h : ℕ) (p : Rgba) → rgba (a ∷ b ∷ c ∷ d ∷ e ∷ f ∷ g ∷ h ∷ []) ≡ Ok p → (x : ℕ) × (y : ℕ) × (z : ℕ) × (w : ℕ) × (hex_byte g h ≡ Ok w) × (if_canonical x y z w ≡ p)
+unfolding rgba
+alpha_ok a b c d e f g h p k =
+    let x = first_ok (hex_byte a b) _ p k in
     let y = first_ok (hex_byte c d) _ p x.2 in
     let z = first_ok (hex_byte e f) _ p y.2 in
-    let same : if_canonical x.0 y.0 z.0 255 ≡ p = (let g : ◌≡◌ {A = Result Rgba Cause} (Ok (if_canonical x.0 y.0 z.0 255)) (Ok p) = z.2 in cc) in
-    ap (λ (q : Rgba). q.a) (sym same)
+    let w = first_ok (hex_byte g h) _ p z.2 in
+    (x.0, y.0, z.0, w.0, w.1, ok_same (if_canonical x.0 y.0 z.0 w.0) p w.2)
+  where
+    ok_same : (q p : Rgba) → ◌≡◌ {A = Result Rgba Cause} (Ok q) (Ok p) → q ≡ p
+    ok_same q p e = cc
+
+full_alpha : hex_byte 102 102 ≡ Ok 255
+unfolding hex_byte
+full_alpha = refl
+
+opaque_by : (x y z w : ℕ) (p : Rgba) → hex_byte 102 102 ≡ Ok w → if_canonical x y z w ≡ p → p.a ≡ 255
+opaque_by x y z w p e k = ap (λ (q : Rgba). q.a) (sym k ∙ ap (if_canonical x y z) (sym (same (sym full_alpha ∙ e))))
+  where
+    same : {m n : ℕ} → ◌≡◌ {A = Result ℕ Cause} (Ok m) (Ok n) → m ≡ n
+    same h = cc
+
+rgb_ok : (bytes : List ℕ) (p : Rgba) → rgb bytes ≡ Ok p → p.a ≡ 255
+unfolding rgb rgba
+rgb_ok (a ∷ b ∷ c ∷ d ∷ e ∷ f ∷ []) p h = let q = alpha_ok a b c d e f 102 102 p h in opaque_by q.0 q.1 q.2 q.3 p q.4 q.5
 rgb_ok [] p h = cc
 rgb_ok (a ∷ []) p h = cc
 rgb_ok (a ∷ b ∷ []) p h = cc
 rgb_ok (a ∷ b ∷ c ∷ []) p h = cc
 rgb_ok (a ∷ b ∷ c ∷ d ∷ []) p h = cc
 rgb_ok (a ∷ b ∷ c ∷ d ∷ e ∷ []) p h = cc
-rgb_ok (a ∷ b ∷ c ∷ d ∷ e ∷ f ∷ g ∷ more) p h = cc
+rgb_ok (a ∷ b ∷ c ∷ d ∷ e ∷ f ∷ g ∷ []) p h = cc
+rgb_ok (a ∷ b ∷ c ∷ d ∷ e ∷ f ∷ g ∷ i ∷ []) p h = cc
+rgb_ok (a ∷ b ∷ c ∷ d ∷ e ∷ f ∷ g ∷ i ∷ j ∷ more) p h = cc
 
 of_limits : (w h : List ℕ) (s : ℕ × ℕ) (p : Rgba) (c : Canvas) → sides w h ≡ Ok s → p.a ≡ 255 → ◌≡◌ {A = Result Canvas Cause} (Ok (record { w = s.0; h = s.1; paper = p })) (Ok c) → IsOfLimits c
 of_limits w h s p c e opaque f =

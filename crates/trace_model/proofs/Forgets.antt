@@ -1,12 +1,11 @@
 -- Pixels tell nothing of which events may happen, and of what else they leave.
-use Rattle.std.proofs.Common.{◌≡◌, ℕ, suc, zero, Bool, true, false, ◌&&◌, ◌||◌, not, cond, Option, Some, None, is_some, Result, Ok, Err, List, [], ◌∷◌, ◌++◌, length, map, take, drop, refl, sym, ap, ◌∙◌, arith, eqb}
+use Rattle.std.proofs.Common.{◌≡◌, ℕ, suc, zero, Bool, true, false, ◌&&◌, ◌||◌, not, cond, Option, Some, None, is_some, Result, Ok, Err, List, [], ◌∷◌, ◌++◌, length, map, take, drop, refl, sym, ap, ◌∙◌, eqb}
 use Rattle.std.specs.Prelude.{slice_get, slice_set}
 use Rattle.std.specs.Option.{option_map, unwrap_or}
 use Rattle.std.specs.List.{list_any, list_all}
 use Rattle.std.specs.FinMap as map
 use Rattle.std.specs.FinSet as set
 use Rattle.std.proofs.lemmas.Option.{slice_get-map}
-use Rattle.std.proofs.lemmas.List.{map-append}
 use Rattle.geom_core.specs.Areas.{Area}
 use Rattle.geom_core.specs.Grid.{Key, key_set, same_key, keys_of}
 use Rattle.pixel_core.specs.Rgba.{clear}
@@ -18,10 +17,9 @@ use Rattle.doc_model.specs.declared.canvas.Walk.TheVariants.{Up, All}
 use Rattle.doc_model.specs.declared.tree.Change.{Change}
 use Rattle.doc_model.specs.declared.tree.TreeFault.{TreeFault}
 use Rattle.doc_model.specs.declared.command.Outcome.{Outcome}
-use Rattle.doc_model.specs.declared.command.Outcome.TheVariants as outcome
 use Rattle.doc_model.specs.declared.command.Outcome.TheVariants.{Done}
 use Rattle.doc_model.specs.Layers.{Layer, plain}
-use Rattle.doc_model.specs.Forest.{Forest, none, paint, group, content, or_else, has}
+use Rattle.doc_model.specs.Forest.{none, paint, group, or_else}
 use Rattle.doc_model.specs.Adjusting.{adjusted, each}
 use Rattle.doc_model.specs.Readers.{path, order}
 use Rattle.doc_model.specs.Jobs.{writes}
@@ -31,17 +29,17 @@ use Rattle.doc_model.specs.Strokes.{is_export, Stroke, Entry, Strokes, Changes, 
 use Rattle.doc_model.specs.declared.command.Command.{Command}
 use Rattle.doc_model.specs.Picture.{Doc, canvas_area}
 use Rattle.doc_model.specs.Changes.{changed}
-use Rattle.doc_model.specs.Updates.{queued, refreshed}
-use Rattle.machine_model.specs.State.{Reach, Whole, Part, Child, Painter, Walker, Slot, Free, Paints, Walks, State, waiting, first, head, stroke_of, head_stroke, is_free}
+use Rattle.doc_model.specs.Updates.{refreshed}
+use Rattle.machine_model.specs.State.{Reach, Whole, Part, Child, Walker, Slot, Free, Paints, Walks, State, waiting, first, head, stroke_of, head_stroke, is_free}
 use Rattle.machine_model.specs.Event.{Event, Feed, Init, Start, Publish, End, Finish, Cancel, Act, WalkStart, WalkPublish, WalkEnd}
 use Rattle.machine_model.specs.Slots.{is_painter, is_walker, no_painter, no_walker}
-use Rattle.machine_model.specs.Groups.{on, path_of, parent_of, children_of}
+use Rattle.machine_model.specs.Groups.{on, path_of, parent_of}
 use Rattle.machine_model.specs.Guards.{is_paint, blocks, is_bar, is_exclusive, is_ended, is_closed, is_cancelled, overlaps, meets_walker, kept_jobs, same_pair}
-use Rattle.machine_model.specs.Walks.{walk_shot, shots_of, cut_child}
-use Rattle.machine_model.specs.Effects.{bound_of, reach_of, writes_of, started_jobs, updates_with, updates_with_all, moved_to, with_outcome, after_change, after_undo, after_redo, after_entry, after_finish, no_paint_outcome, cancel_outcome, without_nth}
+use Rattle.machine_model.specs.Walks.{walk_shot, shots_of}
+use Rattle.machine_model.specs.Effects.{bound_of, reach_of, writes_of, started_jobs, updates_with, updates_with_all, with_outcome, after_change, after_undo, after_redo, after_entry, after_finish, no_paint_outcome, cancel_outcome, without_nth}
 use Rattle.machine_model.proofs.Lists.{length_map}
-use Rattle.trace_model.specs.Next.{next, when, begun, started, job_started, tile_published, ended, finished, cancelled, acted, walk_started, tile_composed, walk_ended, is_clear, is_number, may_begin, may_act, may_start, may_publish, may_finish, may_cancel, may_compose, is_painted, is_composed, new_painter, with_painter, with_tile, without_painter, after_cancel, new_walker, with_walker, with_composed, groups_of, is_alive, may_walk, place_of}
-use Rattle.trace_model.specs.Replays.{stepped, work_ended, is_settled, first_of}
+use Rattle.trace_model.specs.Next.{next, when, begun, started, job_started, tile_published, ended, finished, cancelled, acted, walk_started, tile_composed, walk_ended, is_clear, is_number, may_begin, may_act, may_start, may_publish, may_finish, may_cancel, may_compose, is_painted, is_composed, new_painter, with_painter, with_tile, without_painter, after_cancel, new_walker, with_walker, with_composed, is_alive, may_walk, place_of}
+use Rattle.trace_model.specs.Replays.{is_settled, first_of}
 use Rattle.trace_model.specs.Blank.{blank, blank_doc, blank_entry, blank_group, blank_slot}
 use Rattle.trace_model.specs.BlankLaws.{PixelsDontCount}
 use Rattle.trace_model.proofs.Natural.{has_each, parent_each, changed_each, with_contents, after}

@@ -1,5 +1,5 @@
 -- What the function gives is a step, and a step is what it gives.
-use Rattle.std.proofs.Common.{◌≡◌, ℕ, suc, Bool, true, false, ◌&&◌, ◌||◌, not, Option, Some, None, List, [], ◌∷◌, length, refl, sym, ap, ◌∙◌, arith, eqb, subst, ◌⊎◌, inl, inr}
+use Rattle.std.proofs.Common.{◌≡◌, ℕ, Bool, true, false, ◌&&◌, ◌||◌, not, Option, Some, None, List, [], ◌∷◌, length, refl, sym, ap, ◌∙◌, arith, eqb, subst, inl, inr}
 use Rattle.std.specs.Prelude.{slice_get}
 use Rattle.std.specs.List.{list_any}
 use Rattle.std.proofs.lemmas.Bool.Decides.{nat_tests}
@@ -7,22 +7,18 @@ use Rattle.geom_core.proofs.Tests.{true_or_false, and_left, and_right, both_true
 use Rattle.geom_core.specs.Grid.{Key, same_key, keys_of, all_keys_of}
 use Rattle.doc_model.specs.declared.job.Job.{Job}
 use Rattle.doc_model.specs.declared.job.Kind.{Kind}
-use Rattle.doc_model.specs.declared.command.Command.{Command}
 use Rattle.doc_model.specs.declared.canvas.Patch.{Patch}
 use Rattle.doc_model.specs.Jobs.{writes}
-use Rattle.doc_model.specs.Picture.{canvas_area}
 use Rattle.doc_model.specs.Updates.{all_unlike}
 use Rattle.doc_model.specs.Lawful.{may_follow}
 use Rattle.doc_model.specs.Strokes.{is_export, Stroke, Entry, Strokes, Changes, Undoes, Redoes, Purges, Exports, entries}
-use Rattle.machine_model.specs.State.{Child, Painter, Walker, Slot, Free, Paints, Walks, State, head, head_stroke, stroke_of}
+use Rattle.machine_model.specs.State.{Slot, Free, Paints, Walks, State, head, head_stroke}
 use Rattle.machine_model.specs.Event.{Event, Feed, Init, Start, Publish, End, Finish, Cancel, Act, WalkStart, WalkPublish, WalkEnd}
 use Rattle.machine_model.specs.Slots.{no_painter, no_walker}
 use Rattle.machine_model.specs.Groups.{on}
-use Rattle.machine_model.specs.Guards.{kept_jobs, is_cancelled, is_ended, is_closed, overlaps, is_paint, blocks, is_bar, is_exclusive, meets_walker, same_pair}
-use Rattle.machine_model.specs.Effects.{after_finish, after_entry, without_nth}
+use Rattle.machine_model.specs.Guards.{kept_jobs, is_cancelled, is_ended, is_closed, overlaps, is_paint, blocks, is_bar, is_exclusive, same_pair}
+use Rattle.machine_model.specs.Effects.{after_finish, after_entry}
 use Rattle.machine_model.specs.Step.{Step, InitStep, StartStep, PublishStep, EndStep, FinishStep, CancelStep, ActStep, WalkStartStep, WalkPublishStep, WalkEndStep}
-use Rattle.machine_model.specs.Sound.{IsOrderly}
-use Rattle.machine_model.specs.SoundnessLaws.{IsReached}
 use Rattle.machine_model.proofs.RunsOrderly.{runs_are_orderly}
 use Rattle.trace_model.specs.Next.{next, when, is_number, is_clear, is_alive, may_begin, begun, lets_bar, may_start, with_painter, job_started, started, may_publish, with_tile, tile_published, is_painted, without_painter, ended, has_ended, may_finish, finished, may_cancel, after_cancel, cancelled, may_act, acted, place_of, may_walk, with_walker, walk_started, groups_of, may_compose, with_composed, tile_composed, is_composed, walk_ended}
 use Rattle.trace_model.specs.NextLaws.{StepsAreNext}

@@ -1,8 +1,8 @@
 -- Changes of a tree are natural in the contents of its paint nodes.
-use Rattle.std.proofs.Common.{◌≡◌, ℕ, suc, zero, ◌+◌, Bool, true, false, ◌||◌, not, cond, Option, Some, None, is_some, Result, Ok, Err, [], ◌∷◌, refl, sym, ap, ◌∙◌, arith, eqb, ltb, max, inl, inr}
+use Rattle.std.proofs.Common.{◌≡◌, ℕ, suc, zero, ◌+◌, Bool, true, false, ◌||◌, not, cond, Option, Some, None, is_some, Result, Ok, Err, [], ◌∷◌, refl, sym, ap, ◌∙◌, arith, eqb, ltb, max}
 use Rattle.std.proofs.lemmas.Bool.Decides.{nat_tests}
 use Rattle.pixel_core.specs.Rgba.{Rgba}
-use Rattle.geom_core.proofs.Tests.{none_right, true_or_false, kept}
+use Rattle.geom_core.proofs.Tests.{none_right}
 use Rattle.doc_model.specs.declared.tree.Look.{Look}
 use Rattle.doc_model.specs.declared.tree.Change.{Change}
 use Rattle.doc_model.specs.declared.tree.Change.TheVariants as change

@@ -1,5 +1,5 @@
 -- A state without pixels: what tells which events may happen.
-use Rattle.std.specs.Prelude.{ℕ, Option, List, [], map}
+use Rattle.std.specs.Prelude.{ℕ, List, [], map}
 use Rattle.std.specs.FinMap as map
 use Rattle.pixel_core.specs.Rgba.{clear}
 use Rattle.doc_model.specs.declared.command.Outcome.TheVariants.{Done}

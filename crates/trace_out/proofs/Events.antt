@@ -10,6 +10,7 @@ use Rattle.machine_model.specs.Event as event
 use Rattle.machine_model.specs.Event.{Event}
 use Rattle.machine_model.specs.Step.{Step, Run}
 use Rattle.machine_model.specs.SoundnessLaws.{IsReached}
+use Rattle.machine_model.proofs.Continuing.{runs_continue}
 use Rattle.desk_parts.proofs.SettlingRuns.{run_then}
 use Rattle.trace_model.proofs.GivenSteps.{steps_are_next}
 use Rattle.trace_model.proofs.Turns.{turns_are_steps}
@@ -56,11 +57,12 @@ one_written es s t e before after r h fit text = record {
   fit = both _ _ fit refl;
   leads = ap (option_and_then (λ u. led_to u [])) (told_happens es s t e r h);
   text = text ∙ ap (λ l. before ++ l) (sym (append-nil (line_text (told_by e))));
+  canvas = (runs_continue (e ∷ []) s t (t, h, refl)).canvas;
 }
 
 -- nothing was
 pub none_written : (s t : State) (before after : List ℕ) → t ≡ s → after ≡ before → Writes s before t after
-none_written s t before after e h = record { lines = []; fit = refl; leads = ap Some (sym e); text = h ∙ sym (append-nil before) }
+none_written s t before after e h = record { lines = []; fit = refl; leads = ap Some (sym e); text = h ∙ sym (append-nil before); canvas = ap (λ (u : State). u.canvas) e }
 
 led_through : (s t u : State) (ls ms : List Line) → led_to s ls ≡ Some t → led_to t ms ≡ Some u → led_to s (ls ++ ms) ≡ Some u
 led_through s t u [] ms e h = let same : s ≡ t = cc in ap (λ v. led_to v ms) same ∙ h
@@ -84,6 +86,7 @@ written_then {s = s} {t = t} {u = u} {a = a} one two = record {
   fit = all_both one.lines two.lines one.fit two.fit;
   leads = led_through s t u one.lines two.lines one.leads two.leads;
   text = two.text ∙ ap (λ l. l ++ flat_map line_text two.lines) one.text ∙ append_assoc a (flat_map line_text one.lines) (flat_map line_text two.lines) ∙ ap (λ l. a ++ l) (sym (flat_map-append line_text one.lines two.lines));
+  canvas = two.canvas ∙ one.canvas;
 }
 
 -- a run with one event more

@@ -26,3 +26,4 @@ pub record Writes (old : State) (before : List ℕ) (new : State) (after : List 
   pub fit : list_all line_in_range lines ≡ true
   pub leads : led_to old lines ≡ Some new
   pub text : after ≡ before ++ flat_map line_text lines
+  pub canvas : new.canvas ≡ old.canvas

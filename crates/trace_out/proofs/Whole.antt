@@ -1,0 +1,44 @@
+-- What was written is the trace of the script.
+use Rattle.std.proofs.Common.{◌≡◌, ℕ, ◌≤◌, true, ◌&&◌, List, ◌++◌, Ok, refl, sym, ap, ◌∙◌, subst}
+use Rattle.std.specs.List.{list_all, flat_map}
+use Rattle.doc_model.specs.declared.canvas.Canvas.{Canvas}
+use Rattle.script_lines.proofs.FieldLemmas.{first, second}
+use Rattle.script_forms.specs.Ranges.{in_limits, in_range}
+use Rattle.script_text.specs.Script.{Contents, contents}
+use Rattle.script_text.specs.Closed.{is_script, all_closed}
+use Rattle.doc_model.specs.Lawful.{lawful}
+use Rattle.machine_model.specs.State.{State, new_state, IsSettled}
+use Rattle.trace_model.proofs.Turns.{settled_tells}
+use Rattle.trace_forms.specs.Replay.{replay, slots_in}
+use Rattle.trace_text.specs.Texts.{head_text, line_text, trace_text}
+use Rattle.trace_text.specs.Laws.{IsSettlingText}
+use Rattle.trace_text.proofs.PrintedTraces.{printed_replays}
+use Rattle.trace_out.specs.Writing.{Writes}
+use Rattle.trace_out.specs.Traces.{IsTraceOf}
+
+-- the canvas of a script is one of the limits, and its commands' numbers are in their ranges
+pub canvas_fits : (s : Contents) → is_script s ≡ true → in_limits s.canvas ≡ true
+unfolding is_script
+canvas_fits s h = first (in_limits s.canvas) (list_all in_range s.commands) (first (in_limits s.canvas && list_all in_range s.commands) (lawful s.commands && all_closed s.commands) h)
+
+pub commands_fit : (s : Contents) → is_script s ≡ true → list_all in_range s.commands ≡ true
+unfolding is_script
+commands_fit s h = second (in_limits s.canvas) (list_all in_range s.commands) (first (in_limits s.canvas && list_all in_range s.commands) (lawful s.commands && all_closed s.commands) h)
+
+text_is : (n : ℕ) (c : Canvas) (t : State) (bytes : List ℕ) (w : Writes (new_state c n) (head_text n c) t bytes) → bytes ≡ trace_text n c w.lines
+unfolding trace_text
+text_is n c t bytes w = w.text
+
+pub is_trace : (script : Contents) (n : ℕ) (t : State) (bytes : List ℕ) → is_script script ≡ true → 1 ≤ n → n ≤ 17 → Writes (new_state script.canvas n) (head_text n script.canvas) t bytes → IsSettled t → t.fed ≡ script.commands → IsTraceOf script n bytes
+is_trace script n t bytes is some few w rests fed = record {
+  last = t;
+  replays = ap replay text ∙ printed_replays.replays n script.canvas w.lines t settling;
+  script_is = λ i. contents (w.canvas i) (fed i);
+  slots_are = ap slots_in text ∙ printed_replays.slots n script.canvas w.lines t settling;
+}
+  where
+    settling : IsSettlingText n script.canvas w.lines t
+    settling = record { some_slot = some; few_slots = few; canvas_fits = canvas_fits script is; lines_fit = w.fit; leads = w.leads; settled = settled_tells.told t rests }
+
+    text : bytes ≡ trace_text n script.canvas w.lines
+    text = text_is n script.canvas t bytes w
