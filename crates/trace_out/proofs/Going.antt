@@ -24,7 +24,7 @@ use Rattle.trace_text.specs.Texts.{line_text}
 use Rattle.trace_text.specs.Ranges.{line_in_range}
 use Rattle.trace_out.specs.declared.scribe.Scribe.{Scribe}
 use Rattle.trace_out.specs.Writing.{IsTied, Writes}
-use Rattle.trace_out.specs.Goes.{GoesOnWriting, SettlesWriting, GoesOnPutting, SettlesPutting, IsSameScribe}
+use Rattle.trace_out.specs.Goes.{GoesOnWriting, SettlesWriting, GoesOnPutting, SettlesPutting}
 use Rattle.trace_out.proofs.Events.{told_by, one_written, none_written, written_then}
 
 -- what is held tells that the state is orderly
@@ -51,24 +51,18 @@ told_at_once (event.WalkPublish p g k) h = cc
 told_at_once (event.WalkEnd p) h = cc
 
 -- one event and its line
-pub event_written : (a b : Scribe) (held : List (Option (Busy Work))) (e : Event) → IsTied held a.desk → Step a.desk e b.desk → is_feed e ≡ false → line_in_range (told_by e) ≡ true → b.out.items ≡ a.out.items ++ line_text (told_by e) → IsTied b.held b.desk → GoesOnWriting a b
-event_written a b held e tie step other fit text tied = record {
-  goes = goes_on a.desk b.desk e other step;
-  writes = one_written tie.events a.desk b.desk e a.out.items b.out.items tie.reached step fit text;
-  tied = tied;
+pub event_put : (held : List (Option (Busy Work))) (s t : State) (e : Event) (before after : List ℕ) → IsTied held s → Step s e t → is_feed e ≡ false → line_in_range (told_by e) ≡ true → after ≡ before ++ line_text (told_by e) → GoesOnPutting s before t after
+event_put held s t e before after tie step other fit text = record {
+  goes = goes_on s t e other step;
+  writes = one_written tie.events s t e before after tie.reached step fit text;
 }
 
--- the same while a walk is out of its place
-pub event_put : (a b : Scribe) (held : List (Option (Busy Work))) (e : Event) → IsTied held a.desk → Step a.desk e b.desk → is_feed e ≡ false → line_in_range (told_by e) ≡ true → b.out.items ≡ a.out.items ++ line_text (told_by e) → GoesOnPutting a b
-event_put a b held e tie step other fit text = record {
-  goes = goes_on a.desk b.desk e other step;
-  writes = one_written tie.events a.desk b.desk e a.out.items b.out.items tie.reached step fit text;
-}
+-- none
+pub put_none : (s t : State) (before after : List ℕ) → t ≡ s → after ≡ before → SettlesPutting s before t after
+put_none s t before after e h = record { settles = settles_none s t e; writes = none_written s t before after e h }
 
-pub put_none : (a b : Scribe) → b.desk ≡ a.desk → b.out.items ≡ a.out.items → SettlesPutting a b
-put_none a b e h = record { settles = settles_none a.desk b.desk e; writes = none_written a.desk b.desk a.out.items b.out.items e h }
-
-pub put_more : {a b c : Scribe} → SettlesPutting a b → GoesOnPutting b c → SettlesPutting a c
+-- some and more
+pub put_more : {s t u : State} {a b c : List ℕ} → SettlesPutting s a t b → GoesOnPutting t b u c → SettlesPutting s a u c
 put_more one two = record { settles = settles_then one.settles two.goes.settles; writes = written_then one.writes two.writes }
 
 -- at least one event, and others
@@ -78,27 +72,19 @@ goes_then {a = a} {b = b} {c = c} one two = record { settles = settles_then one.
     more : 1 ≤ length one.settles.events → 1 ≤ length (one.settles.events ++ two.events)
     more h = simp length-append (omega arith)
 
-pub put_all : {a b c d : Scribe} → GoesOnPutting a b → SettlesPutting b c → d.desk ≡ c.desk → d.out.items ≡ c.out.items → IsTied d.held d.desk → GoesOnWriting a d
-put_all {a = a} {d = d} one two desk text tied = record {
-  goes = subst (λ s. GoesOn a.desk s) (sym desk) (goes_then one.goes two.settles);
-  writes = written_then (written_then one.writes two.writes) (none_written _ d.desk _ d.out.items desk text);
-  tied = tied;
-}
+pub put_then : {s t u : State} {a b c : List ℕ} → GoesOnPutting s a t b → SettlesPutting t b u c → GoesOnPutting s a u c
+put_then one two = record { goes = goes_then one.goes two.settles; writes = written_then one.writes two.writes }
 
 -- any number of events
-pub settles_more : {a b c : Scribe} → SettlesWriting a b → GoesOnWriting b c → SettlesWriting a c
-settles_more one two = record { settles = settles_then one.settles two.goes.settles; writes = written_then one.writes two.writes; tied = two.tied }
+pub settles_more : {s : State} {a : List ℕ} {b c : Scribe} → SettlesWriting s a b → GoesOnWriting b.desk b.out.items c → SettlesWriting s a c
+settles_more one two = record { puts = put_more one.puts two.puts; tied = two.tied }
 
-pub settles_still : {a b c : Scribe} → SettlesWriting a b → IsSameScribe b c → SettlesWriting a c
-settles_still {a = a} {c = c} one same = record {
-  settles = subst (λ s. Settles a.desk s) (sym same.desk) one.settles;
-  writes = written_then one.writes (none_written _ c.desk _ c.out.items same.desk same.text);
-  tied = subst (λ h. IsTied h c.desk) (sym same.held) (subst (λ s. IsTied _ s) (sym same.desk) one.tied);
-}
+pub settles_still : {s : State} {a : List ℕ} {b c : Scribe} → SettlesWriting s a b → c ≡ b → SettlesWriting s a c
+settles_still {s = s} {a = a} one same = subst (λ d. SettlesWriting s a d) (sym same) one
 
-pub settles_first : (a b : Scribe) → b.desk ≡ a.desk → b.out.items ≡ a.out.items → IsTied b.held b.desk → SettlesWriting a b
-settles_first a b e h tied = record { settles = settles_none a.desk b.desk e; writes = none_written a.desk b.desk a.out.items b.out.items e h; tied = tied }
+pub settles_first : (b : Scribe) → IsTied b.held b.desk → SettlesWriting b.desk b.out.items b
+settles_first b tied = record { puts = put_none b.desk b.desk b.out.items b.out.items refl refl; tied = tied }
 
 -- fewer events are left
-pub writing_less : (a b : Scribe) (held : List (Option (Busy Work))) → IsTied held a.desk → GoesOnWriting a b → left b.desk < left a.desk
-writing_less a b held tie on = goes_less a.desk b.desk (orderly_by tie) on.goes
+pub writing_less : (held : List (Option (Busy Work))) (s : State) (before : List ℕ) (b : Scribe) → IsTied held s → GoesOnWriting s before b → left b.desk < left s
+writing_less held s before b tie on = goes_less s b.desk (orderly_by tie) on.puts.goes

@@ -1,7 +1,9 @@
 pub mod Events
 pub mod Ties
+pub mod Beginning
 pub mod Fits
 pub mod Works
 pub mod Taken
 pub mod Going
+pub mod Feeding
 pub mod Whole

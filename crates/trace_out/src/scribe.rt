@@ -59,7 +59,8 @@ impl Scribe {
         ensures tied { OnOk result (IsTied self.new.held self.new.desk) }
     {
         self.desk.feed(command)?;
-        add_line(&mut self.out, &Line::Feed(*command))
+        add_line(&mut self.out, &Line::Feed(*command))?;
+        Ok(())
     }
 
     /// A place at which something is at work, the given one if that is. None exactly where all are free.

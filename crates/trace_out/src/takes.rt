@@ -37,12 +37,9 @@ impl Scribe {
     /// Takes what may be done next.
     pub(crate) fn take<L: Ledger>(&mut self, steps: &mut Steps<L>) -> Result<Took, NoMemory>
         requires { IsTied self.old.held self.old.desk }
-        ensures something { result ≡ Ok took.Something → GoesOnWriting self.old self.new }
-        ensures nothing { result ≡ Ok took.Nothing → IsIdle self.old.desk }
-        ensures settled { result ≡ Ok took.Settled → IsSettled self.old.desk }
-        ensures desk { (result ≡ Ok took.Something → ⊥) → OnOk result (self.new.desk ≡ self.old.desk) }
-        ensures held { (result ≡ Ok took.Something → ⊥) → OnOk result (self.new.held ≡ self.old.held) }
-        ensures text { (result ≡ Ok took.Something → ⊥) → OnOk result (self.new.out.items ≡ self.old.out.items) }
+        ensures something { result ≡ Ok took.Something → GoesOnWriting self.old.desk self.old.out.items self.new }
+        ensures nothing { result ≡ Ok took.Nothing → IsIdle self.old.desk × (self.new ≡ self.old) }
+        ensures settled { result ≡ Ok took.Settled → IsSettled self.old.desk × (self.new ≡ self.old) }
     {
         match self.desk.take(steps)? {
             Taken::Paint(ticket) => {
@@ -85,7 +82,8 @@ impl Scribe {
             published: Newest::new(self.alloc),
         };
         self.held.put(slot.place, Work::Paint(painter), None);
-        add_line(&mut self.out, &Line::Start(slot.place))
+        add_line(&mut self.out, &Line::Start(slot.place))?;
+        Ok(())
     }
 
     /// Holds a walk that was taken.
@@ -108,6 +106,7 @@ impl Scribe {
             published: Newest::new(self.alloc),
         };
         self.held.put(slot.place, Work::Walk(walker), Some(patch.rect));
-        add_line(&mut self.out, &Line::Walk(slot.place, patch))
+        add_line(&mut self.out, &Line::Walk(slot.place, patch))?;
+        Ok(())
     }
 }

@@ -1,13 +1,12 @@
 //! The whole trace.
 
-ghost use Rattle.std.specs.Prelude.{◌≡◌, ◌≤◌, ◌<◌, ◌-◌, ◌^◌, ◌++◌, ◌∷◌, [], true, false, IfOk, OnOk, Ok, length, take};
+ghost use Rattle.std.specs.Prelude.{◌≡◌, ◌≤◌, ◌<◌, ◌-◌, ◌^◌, [], true, false, IfOk, OnOk, Ok, length, slice_get, IsSomeAnd};
 ghost use Rattle.std.specs.List.{list_all};
 ghost use Rattle.doc_model.specs.Lawful.{is_closed_entry};
 ghost use Rattle.doc_model.specs.Strokes.{entries};
-ghost use Rattle.machine_model.specs.State.{IsSettled, is_free, new_state};
-ghost use Rattle.trace_text.specs.Texts.{head_text};
+ghost use Rattle.machine_model.specs.State.{IsSettled, is_free};
 ghost use Rattle.trace_out.specs.Writing.{IsTied, Writes};
-ghost use Rattle.trace_out.specs.Goes.{GoesOnWriting, SettlesWriting, MayRest, IsSameScribe};
+ghost use Rattle.trace_out.specs.Goes.{GoesOnWriting, SettlesWriting, MayRest};
 ghost use Rattle.trace_out.specs.Traces.{IsTraceOf};
 
 use crate::scribe::Scribe;
@@ -28,20 +27,42 @@ fn go_on<L: Ledger>(
     steps: &mut Steps<L>,
 ) -> Result<bool, NoMemory>
     requires { IsTied scribe.old.held scribe.old.desk }
-    ensures on { result ≡ Ok true → GoesOnWriting scribe.old scribe.new }
+    ensures on { result ≡ Ok true → GoesOnWriting scribe.old.desk scribe.old.out.items scribe.new }
     ensures rests { result ≡ Ok false → MayRest scribe.old.desk }
-    ensures same { result ≡ Ok false → IsSameScribe scribe.old scribe.new }
+    ensures same { result ≡ Ok false → scribe.new ≡ scribe.old }
 {
     let place = draw(draws, u32::from(scribe.held.count())) as u8;
     match scribe.busy_place(place) {
         Some(place) => {
-            if draw(draws, 2) == 0 && scribe.take(steps)? == Took::Something {
-                return Ok(true);
-            }
-            scribe.work_at(place)?;
+            take_or_work(scribe, place, draws, steps)?;
             Ok(true)
         }
-        None => Ok(scribe.take(steps)? == Took::Something),
+        None => match scribe.take(steps)? {
+            Took::Something => Ok(true),
+            Took::Nothing => Ok(false),
+            Took::Settled => Ok(false),
+        },
+    }
+}
+
+/// Takes something from the desk, or does some of the work at a place.
+fn take_or_work<L: Ledger>(
+    scribe: &mut Scribe,
+    place: u8,
+    draws: &mut u64,
+    steps: &mut Steps<L>,
+) -> Result<(), NoMemory>
+    requires tied { IsTied scribe.old.held scribe.old.desk }
+    requires busy { IsSomeAnd (slice_get scribe.old.desk.slots place) (λ slot. is_free slot ≡ false) }
+    ensures { OnOk result (GoesOnWriting scribe.old.desk scribe.old.out.items scribe.new) }
+{
+    if draw(draws, 2) == 0 {
+        return scribe.work_at(place);
+    }
+    match scribe.take(steps)? {
+        Took::Something => Ok(()),
+        Took::Nothing => scribe.work_at(place),
+        Took::Settled => scribe.work_at(place),
     }
 }
 
@@ -52,7 +73,7 @@ fn go_on_some<L: Ledger>(
     steps: &mut Steps<L>,
 ) -> Result<(), NoMemory>
     requires { IsTied scribe.old.held scribe.old.desk }
-    ensures { OnOk result (SettlesWriting scribe.old scribe.new) }
+    ensures { OnOk result (SettlesWriting scribe.old.desk scribe.old.out.items scribe.new) }
 {
     'events: loop {
         if draw(draws, 3) == 0 {
@@ -94,7 +115,7 @@ fn settle<L: Ledger>(
 ) -> Result<(), NoMemory>
     requires tied { IsTied scribe.old.held scribe.old.desk }
     requires closed { list_all is_closed_entry (entries scribe.old.desk.fed) ≡ true }
-    ensures writes { OnOk result (SettlesWriting scribe.old scribe.new) }
+    ensures writes { OnOk result (SettlesWriting scribe.old.desk scribe.old.out.items scribe.new) }
     ensures settled { OnOk result (IsSettled scribe.new.desk) }
 {
     'events: loop {

@@ -24,7 +24,7 @@ impl Scribe {
     pub(crate) fn work_at(&mut self, place: u8) -> Result<(), NoMemory>
         requires tied { IsTied self.old.held self.old.desk }
         requires busy { IsSomeAnd (slice_get self.old.desk.slots place) (λ slot. is_free slot ≡ false) }
-        ensures { OnOk result (GoesOnWriting self.old self.new) }
+        ensures { OnOk result (GoesOnWriting self.old.desk self.old.out.items self.new) }
     {
         match self.held.clear(place) {
             Some(Work::Paint(painter)) => self.paint_at(place, painter),
@@ -36,7 +36,7 @@ impl Scribe {
     /// The same of a job.
     fn paint_at(&mut self, place: u8, painter: Painter) -> Result<(), NoMemory>
         requires { IsLent self.old.held place (busy_painter painter) self.old.desk }
-        ensures { OnOk result (GoesOnWriting self.old self.new) }
+        ensures { OnOk result (GoesOnWriting self.old.desk self.old.out.items self.new) }
     {
         match next_tile(&painter) {
             Some(key) => self.publish(place, painter, key),
@@ -51,7 +51,7 @@ impl Scribe {
     fn publish(&mut self, place: u8, mut painter: Painter, key: TileKey) -> Result<(), NoMemory>
         requires lent { IsLent self.old.held place (busy_painter painter) self.old.desk }
         requires lacks { LacksTile painter key }
-        ensures { OnOk result (GoesOnWriting self.old self.new) }
+        ensures { OnOk result (GoesOnWriting self.old.desk self.old.out.items self.new) }
     {
         let slot = SlotId {
             place,
@@ -65,24 +65,27 @@ impl Scribe {
         }
         painter.published.note(key)?;
         self.held.put(place, Work::Paint(painter), None);
-        add_line(&mut self.out, &Line::Publish(place, key))
+        add_line(&mut self.out, &Line::Publish(place, key))?;
+        Ok(())
     }
 
     /// Ends work whose tiles are all published.
     fn end(&mut self, slot: SlotId) -> Result<(), NoMemory>
         requires { MayEndLent self.old.held slot self.old.desk }
-        ensures { OnOk result (GoesOnWriting self.old self.new) }
+        ensures { OnOk result (GoesOnWriting self.old.desk self.old.out.items self.new) }
     {
         match self.desk.end(slot) {
-            Ended::Done => add_line(&mut self.out, &Line::End(slot.place)),
+            Ended::Done => {}
             Ended::Nothing => unreachable!(),
         }
+        add_line(&mut self.out, &Line::End(slot.place))?;
+        Ok(())
     }
 
     /// Publishes a tile of a walk of all its groups of which it isn't published, or ends the walk.
     fn compose_at(&mut self, place: u8, walker: Walker) -> Result<(), NoMemory>
         requires { IsLent self.old.held place (busy_walker walker) self.old.desk }
-        ensures { OnOk result (GoesOnWriting self.old self.new) }
+        ensures { OnOk result (GoesOnWriting self.old.desk self.old.out.items self.new) }
     {
         match next_pair(&walker) {
             Some((group, key)) => self.publish_groups(place, walker, group, key),
@@ -103,7 +106,7 @@ impl Scribe {
     ) -> Result<(), NoMemory>
         requires lent { IsLent self.old.held place (busy_walker walker) self.old.desk }
         requires lacks { LacksPair walker group key }
-        ensures { OnOk result (GoesOnWriting self.old self.new) }
+        ensures { OnOk result (GoesOnWriting self.old.desk self.old.out.items self.new) }
     {
         let Walker {
             serial,
@@ -136,7 +139,7 @@ impl Scribe {
         requires composed { composed.now.keys ≡ key ∷ [] }
         requires lent { IsLentWalk self.old.held slot composed.now published.old self.old.desk }
         requires lacks { LacksPair (walk_of slot composed.now published.old) group key }
-        ensures goes { OnOk result (GoesOnPutting self.old self.new) }
+        ensures goes { OnOk result (GoesOnPutting self.old.desk self.old.out.items self.new.desk self.new.out.items) }
         ensures lent { OnOk result (IsLentWalk self.new.held slot composed.now published.new self.new.desk) }
     {
         match self.desk.publish_walk(slot, composed, group, key)? {
@@ -144,7 +147,8 @@ impl Scribe {
             Published::Nothing => unreachable!(),
         }
         published.note((group, key))?;
-        add_line(&mut self.out, &Line::Put(slot.place, group, key))
+        add_line(&mut self.out, &Line::Put(slot.place, group, key))?;
+        Ok(())
     }
 
     /// Publishes a tile of a walk of all its groups of which it isn't published.
@@ -159,7 +163,7 @@ impl Scribe {
         requires world { IsWorldKey key }
         requires in_patch { list_any (same_key key) (keys_of composed.now.readings.patch.rect) ≡ true }
         requires lent { IsLentWalk self.old.held slot composed.now published.old self.old.desk }
-        ensures goes { OnOk result (SettlesPutting self.old self.new) }
+        ensures goes { OnOk result (SettlesPutting self.old.desk self.old.out.items self.new.desk self.new.out.items) }
         ensures lent { OnOk result (IsLentWalk self.new.held slot composed.now published.new self.new.desk) }
     {
         for group in composed.inputs().path() {

@@ -8,7 +8,8 @@ use std::test::Fail;
 use trace_forms::Line;
 
 /// A trace with each form of line.
-const TEXT: &[u8] = b"trace 3\ncanvas 640 480 ffffff\nfeed stroke 7 1\nstep\nstart 0\npublish 0 -1 2\nend 0\nwalk 2 up 0 64 0 64 32\nwalk 1 all -5 0 1 1\nput 2 65535 -256 255\n";
+const TEXT: &[u8] =
+    b"trace 3\ncanvas 640 480 ffffff\nfeed stroke 7 1\nstep\nstart 0\npublish 0 -1 2\nend 0\nwalk 2 up 0 64 0 64 32\nwalk 1 all -5 0 1 1\nput 2 65535 -256 255\n";
 
 #[test]
 fn lines_are_printed(rt: HostRuntime) -> Result<(), Fail> {
