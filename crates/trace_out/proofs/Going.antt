@@ -88,3 +88,10 @@ settles_first b tied = record { puts = put_none b.desk b.desk b.out.items b.out.
 -- fewer events are left
 pub writing_less : (held : List (Option (Busy Work))) (s : State) (before : List ℕ) (b : Scribe) → IsTied held s → GoesOnWriting s before b → left b.desk < left s
 writing_less held s before b tie on = goes_less s b.desk (orderly_by tie) on.puts.goes
+
+-- an event whose work was put into its place
+pub took_work : (held : List (Option (Busy Work))) (s t : State) (e : Event) (before : List ℕ) (b : Scribe) → IsTied held s → Step s e t → is_feed e ≡ false → line_in_range (told_by e) ≡ true → b.desk ≡ t → b.out.items ≡ before ++ line_text (told_by e) → IsTied b.held t → GoesOnWriting s before b
+took_work held s t e before b tie step other fit same text tied = record {
+  puts = subst (λ u. GoesOnPutting s before u b.out.items) (sym same) (event_put held s t e before b.out.items tie step other fit text);
+  tied = subst (λ u. IsTied b.held u) (sym same) tied;
+}

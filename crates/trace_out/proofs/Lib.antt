@@ -1,9 +1,11 @@
 pub mod Events
 pub mod Ties
 pub mod Beginning
+pub mod Busy
 pub mod Fits
 pub mod Works
 pub mod Taken
 pub mod Going
+pub mod AtOnce
 pub mod Feeding
 pub mod Whole

@@ -40,10 +40,12 @@ impl Scribe {
     {
         let mut out = Vec::new(alloc);
         add_head(&mut out, slots, &canvas)?;
+        let desk = Desk::new(alloc, canvas, slots)?;
+        let held = Slots::new(alloc, slots)?;
         Ok(Scribe {
             alloc,
-            desk: Desk::new(alloc, canvas, slots)?,
-            held: Slots::new(alloc, slots)?,
+            desk,
+            held,
             out,
         })
     }

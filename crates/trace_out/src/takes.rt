@@ -7,7 +7,7 @@ ghost use Rattle.desk_parts.specs.Choices.{IsIdle};
 ghost use Rattle.desk_parts.specs.After.{busy_painter, busy_walker};
 ghost use Rattle.trace_forms.specs.declared.line.Line.TheVariants.{Start as StartLine, Walk as WalkLine};
 ghost use Rattle.trace_text.specs.Texts.{line_text};
-ghost use Rattle.trace_text.specs.Ranges.{line_in_range, is_place};
+ghost use Rattle.trace_text.specs.Ranges.{line_in_range, patch_in_range, walk_in_range, is_place};
 ghost use Rattle.trace_out.specs.declared.takes.Took.TheVariants as took;
 ghost use Rattle.trace_out.specs.Writing.{IsTied};
 ghost use Rattle.trace_out.specs.Lent.{IsLent, taken_job, taken_walk};
@@ -16,6 +16,7 @@ ghost use Rattle.trace_out.specs.Goes.{GoesOnWriting};
 use crate::scribe::Scribe;
 use desk_core::{PaintTicket, Taken, WalkTicket};
 use desk_parts::{Newest, Painter, Walker, Work};
+use doc_model::{Patch, Walk};
 use geom_core::NoMemory;
 use memento_core::Steps;
 use std::sync::ledger::Ledger;
@@ -31,6 +32,28 @@ pub(crate) enum Took {
     Nothing,
     /// Nothing is left to do.
     Settled,
+}
+
+/// Tells that the numbers of a patch are in their ranges.
+fn tell_fits(patch: &Patch)
+    requires world { lies_in patch.now.rect world ≡ true }
+    requires columns { patch.now.rect.w ≤ 4096 }
+    requires rows { patch.now.rect.h ≤ 4096 }
+    ensures { patch_in_range patch.now ≡ true }
+{
+    let _w = patch.rect.w();
+    let _h = patch.rect.h();
+    tell_walk_fits(patch.walk);
+}
+
+/// Tells that the number of a walk's group is in its range.
+fn tell_walk_fits(walk: Walk)
+    ensures { walk_in_range walk ≡ true }
+{
+    match walk {
+        Walk::Up(_group) => {}
+        Walk::All => {}
+    }
 }
 
 impl Scribe {
@@ -100,6 +123,7 @@ impl Scribe {
     {
         let WalkTicket { slot, inputs } = ticket;
         let patch = inputs.patch();
+        tell_fits(&patch);
         let walker = Walker {
             serial: slot.serial,
             inputs,

@@ -60,13 +60,14 @@ impl Scribe {
         let painted = paint_tile(self.alloc, &painter.job, &painter.shot, key)?;
         let _known = painted.key();
         match self.desk.publish(slot, &painted)? {
-            Published::Stored => {}
+            Published::Stored => {
+                painter.published.note(key)?;
+                self.held.put(place, Work::Paint(painter), None);
+                add_line(&mut self.out, &Line::Publish(place, key))?;
+                Ok(())
+            }
             Published::Nothing => unreachable!(),
         }
-        painter.published.note(key)?;
-        self.held.put(place, Work::Paint(painter), None);
-        add_line(&mut self.out, &Line::Publish(place, key))?;
-        Ok(())
     }
 
     /// Ends work whose tiles are all published.
@@ -75,11 +76,12 @@ impl Scribe {
         ensures { OnOk result (GoesOnWriting self.old.desk self.old.out.items self.new) }
     {
         match self.desk.end(slot) {
-            Ended::Done => {}
+            Ended::Done => {
+                add_line(&mut self.out, &Line::End(slot.place))?;
+                Ok(())
+            }
             Ended::Nothing => unreachable!(),
         }
-        add_line(&mut self.out, &Line::End(slot.place))?;
-        Ok(())
     }
 
     /// Publishes a tile of a walk of all its groups of which it isn't published, or ends the walk.
@@ -143,12 +145,13 @@ impl Scribe {
         ensures lent { OnOk result (IsLentWalk self.new.held slot composed.now published.new self.new.desk) }
     {
         match self.desk.publish_walk(slot, composed, group, key)? {
-            Published::Stored => {}
+            Published::Stored => {
+                published.note((group, key))?;
+                add_line(&mut self.out, &Line::Put(slot.place, group, key))?;
+                Ok(())
+            }
             Published::Nothing => unreachable!(),
         }
-        published.note((group, key))?;
-        add_line(&mut self.out, &Line::Put(slot.place, group, key))?;
-        Ok(())
     }
 
     /// Publishes a tile of a walk of all its groups of which it isn't published.
