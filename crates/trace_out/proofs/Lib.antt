@@ -6,6 +6,8 @@ pub mod Fits
 pub mod Works
 pub mod Taken
 pub mod Going
+pub mod Tiles
 pub mod AtOnce
 pub mod Feeding
+pub mod Resting
 pub mod Whole

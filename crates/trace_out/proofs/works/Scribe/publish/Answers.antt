@@ -1,18 +1,13 @@
-use Rattle.std.proofs.Common.{Ok, Some, refl, sym, ap, ◌∙◌, subst, ◌∷◌}
+use Rattle.std.proofs.Common.{Ok, Some, ap, ◌∙◌, subst}
 use Rattle.std.specs.Prelude.{slice_set}
 use Rattle.machine_model.specs.Event as event
 use Rattle.machine_model.specs.Step.{Step}
 use Rattle.geom_core.specs.Grid.{IsWorldKey}
 use Rattle.whole_tiles.proofs.Seen.{own_seen}
-use Rattle.script_lines.proofs.FieldLemmas.{both}
-use Rattle.desk_parts.specs.Parts.{painter_of}
 use Rattle.desk_parts.specs.After.{busy_painter}
-use Rattle.desk_parts.specs.declared.work.Painter.{Painter}
-use Rattle.trace_out.specs.Writing.{IsTied}
-use Rattle.trace_out.proofs.Fits.{place_fits, key_fits}
-use Rattle.trace_out.proofs.Ties.{lent_runs, lent_back}
-use Rattle.trace_out.proofs.Works.{lent_kept, job_takes, published_slots}
-use Rattle.trace_out.proofs.Going.{orderly_by, event_put}
+use Rattle.trace_out.proofs.Ties.{lent_runs}
+use Rattle.trace_out.proofs.Works.{lent_kept, job_takes}
+use Rattle.trace_out.proofs.Tiles.{tile_written}
 use Rattle.trace_out.proofs.works.Scribe.publish.Goals as goal
 
 pub paint_tile-requires-clause-checked : goal.paint_tile-requires-clause-checked
@@ -33,3 +28,11 @@ unreachable-requires c = c.publish.ensures.refused (c.in_ok-publish.was ∙ ap O
 
 pub put-requires : goal.put-requires
 put-requires c = c.requires.lent.empty
+
+pub returns : goal.returns
+returns c =
+    tile_written c.args.self.now.held c.args.self.now.desk c.args.place c.args.painter c.args.key c.args.self.now.out.items (record c.args.self.now { desk = c.publish.new.self; held = c.put.new.self; out = c.add_line.new.out }) c.requires.lent
+    (subst IsWorldKey c.in_ok-painted.ensures.key c.key.ensures.known.key_is)
+    (subst (λ k. Step c.args.self.now.desk (event.Publish c.args.place k) c.publish.new.self) c.in_ok-painted.ensures.key (c.publish.ensures.stored (c.in_ok-publish.was ∙ ap Ok c.in-Stored.is)))
+    (c.put.ensures ∙ ap (λ ps. slice_set c.args.self.now.held c.args.place (Some (busy_painter (record c.args.painter { published = ps })))) c.in_ok-note.ensures.ok)
+    c.in_ok-add_line.ensures
