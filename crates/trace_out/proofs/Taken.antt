@@ -41,8 +41,8 @@ job_slot t index e = ap (λ n. Paints (record { serial = t.slot.serial; index = 
 pub lent_job : (held : List (Option (Busy Work))) (s t : State) (ticket : PaintTicket) → IsTied held s → Step s (Start ticket.slot.place) t → IsPaintTicket ticket t → IsLent held ticket.slot.place (busy_painter (taken_job ticket)) t
 lent_job held s t ticket tie step is = record {
   tied = tied_set held ticket.slot.place (Some (busy_painter (taken_job ticket))) s t (Start ticket.slot.place) tie step
-    (set_is s.slots t.slots ticket.slot.place _ _ Free step.free (ap (λ (u : State). u.slots) step.new_is) is.runs ∙ ap (slice_set s.slots ticket.slot.place) (job_slot ticket is.index is.number))
-    (refl, is.reads, is.checked, is.limits);
+      (set_is s.slots t.slots ticket.slot.place _ _ Free step.free (ap (λ (u : State). u.slots) step.new_is) is.runs ∙ ap (slice_set s.slots ticket.slot.place) (job_slot ticket is.index is.number))
+      (refl, is.reads, is.checked, is.limits);
   empty = lent_new held ticket.slot.place s tie step.free;
 }
 
@@ -50,7 +50,7 @@ lent_job held s t ticket tie step is = record {
 pub lent_walk : (held : List (Option (Busy Work))) (s t : State) (ticket : WalkTicket) → IsTied held s → Step s (WalkStart ticket.slot.place ticket.inputs.patch) t → IsWalkTicket ticket t → IsLent held ticket.slot.place (busy_walker (taken_walk ticket)) t
 lent_walk held s t ticket tie step is = record {
   tied = tied_set held ticket.slot.place (Some (busy_walker (taken_walk ticket))) s t (WalkStart ticket.slot.place ticket.inputs.patch) tie step
-    (set_is s.slots t.slots ticket.slot.place _ _ Free step.free (ap (λ (u : State). u.slots) step.new_is) is.runs)
-    refl;
+      (set_is s.slots t.slots ticket.slot.place _ _ Free step.free (ap (λ (u : State). u.slots) step.new_is) is.runs)
+      refl;
   empty = lent_new held ticket.slot.place s tie step.free;
 }

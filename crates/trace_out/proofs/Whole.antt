@@ -1,7 +1,11 @@
 -- What was written is the trace of the script.
-use Rattle.std.proofs.Common.{◌≡◌, ℕ, ◌≤◌, true, ◌&&◌, List, ◌++◌, Ok, refl, sym, ap, ◌∙◌, subst}
+use Rattle.std.proofs.Common.{◌≡◌, ℕ, ◌≤◌, true, ◌&&◌, nat_le, List, ◌++◌, Ok, refl, sym, ap, ◌∙◌, subst, arith}
+use Rattle.std.specs.Prelude.{◌==◌}
 use Rattle.std.specs.List.{list_all, flat_map}
+use Rattle.std.proofs.lemmas.Bool.Decides.{nat_tests}
 use Rattle.doc_model.specs.declared.canvas.Canvas.{Canvas}
+use Rattle.doc_model.specs.Canvases.{IsOfLimits}
+use Rattle.script_lines.specs.Colours.{is_pixel}
 use Rattle.script_lines.proofs.FieldLemmas.{first, second}
 use Rattle.script_forms.specs.Ranges.{in_limits, in_range}
 use Rattle.script_text.specs.Script.{Contents, contents}
@@ -42,3 +46,29 @@ is_trace script n t bytes is some few w rests fed = record {
 
     text : bytes ≡ trace_text n script.canvas w.lines
     text = text_is n script.canvas t bytes w
+
+at_most : (a b : ℕ) → nat_le a b ≡ true → a ≤ b
+at_most a b h = grind (arith, nat_tests)
+
+equal : (a b : ℕ) → (a == b) ≡ true → a ≡ b
+equal a b h = grind (arith, nat_tests)
+
+-- the canvas of a script, read from it, is one of the limits
+pub limits_of : (s : Contents) {c : Canvas} → is_script s ≡ true → c ≡ s.canvas → IsOfLimits c
+limits_of s is e = subst IsOfLimits (sym e) (record {
+  w = (at_most 1 s.canvas.w (first _ _ columns), at_most s.canvas.w 2048 (second (nat_le 1 s.canvas.w) _ columns));
+  h = (at_most 1 s.canvas.h (first _ _ rows), at_most s.canvas.h 2048 (second (nat_le 1 s.canvas.h) _ rows));
+  paper = equal s.canvas.paper.a 255 (second (is_pixel s.canvas.paper) (s.canvas.paper.a == 255) (second ((nat_le 1 s.canvas.w && nat_le s.canvas.w 2048) && (nat_le 1 s.canvas.h && nat_le s.canvas.h 2048)) (is_pixel s.canvas.paper && (s.canvas.paper.a == 255)) fits));
+})
+  where
+    fits : in_limits s.canvas ≡ true
+    fits = canvas_fits s is
+
+    sides : ((nat_le 1 s.canvas.w && nat_le s.canvas.w 2048) && (nat_le 1 s.canvas.h && nat_le s.canvas.h 2048)) ≡ true
+    sides = first ((nat_le 1 s.canvas.w && nat_le s.canvas.w 2048) && (nat_le 1 s.canvas.h && nat_le s.canvas.h 2048)) (is_pixel s.canvas.paper && (s.canvas.paper.a == 255)) fits
+
+    columns : (nat_le 1 s.canvas.w && nat_le s.canvas.w 2048) ≡ true
+    columns = first (nat_le 1 s.canvas.w && nat_le s.canvas.w 2048) (nat_le 1 s.canvas.h && nat_le s.canvas.h 2048) sides
+
+    rows : (nat_le 1 s.canvas.h && nat_le s.canvas.h 2048) ≡ true
+    rows = second (nat_le 1 s.canvas.w && nat_le s.canvas.w 2048) (nat_le 1 s.canvas.h && nat_le s.canvas.h 2048) sides

@@ -3,9 +3,9 @@
 
 mod scribe;
 mod takes;
-mod trace;
-mod works;
 #[cfg(test)]
 mod tests;
+mod trace;
+mod works;
 
 pub use trace::trace_of;

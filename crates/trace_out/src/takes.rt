@@ -129,7 +129,8 @@ impl Scribe {
             inputs,
             published: Newest::new(self.alloc),
         };
-        self.held.put(slot.place, Work::Walk(walker), Some(patch.rect));
+        self.held
+            .put(slot.place, Work::Walk(walker), Some(patch.rect));
         add_line(&mut self.out, &Line::Walk(slot.place, patch))?;
         Ok(())
     }

@@ -2,10 +2,12 @@
 
 use crate::trace_of;
 use script_text::{print, read};
+use std::alloc::Global;
 use std::test::Fail;
 
 /// A script whose stroke has two jobs.
-const SCRIPT: &[u8] = b"canvas 64 1 ffffff\nlayer 1 0 0\nstroke 1 1\nfill 1 con 0 0 1 1 ff0000ff over 255\nfill 1 con 1 0 1 1 00ff00ff over 255\nend 1\nexport\nundo\n";
+const SCRIPT: &[u8] =
+    b"canvas 64 1 ffffff\nlayer 1 0 0\nstroke 1 1\nfill 1 con 0 0 1 1 ff0000ff over 255\nfill 1 con 1 0 1 1 00ff00ff over 255\nend 1\nexport\nundo\n";
 
 /// The lines behind `feed `, the second line before them.
 fn fed_lines(alloc: Global, trace: &[u8]) -> Result<Vec<u8>, Fail> {
