@@ -3,8 +3,6 @@
 
 mod laws;
 mod printing;
-#[cfg(test)]
-mod tests;
 
 pub use laws::printed_replays;
 pub use printing::{add_head, add_line};

@@ -1,4 +1,0 @@
-pub mod Writing
-pub mod Lent
-pub mod Goes
-pub mod Traces
