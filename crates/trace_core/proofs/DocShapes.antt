@@ -13,7 +13,7 @@ use Rattle.doc_model.specs.Changes.{changed}
 use Rattle.doc_model.specs.Picture.{Doc}
 use Rattle.machine_model.specs.Groups.{path_of, parent_of}
 use Rattle.machine_model.specs.Guards.{is_paint}
-use Rattle.trace_model.proofs.Natural.{has_each, parent_each, changed_each}
+use Rattle.trace_model.proofs.Natural.{has_each, parent_each, changed_each, with_contents, after}
 use Rattle.trace_core.specs.Trees.{Shape, paints, group_of, tree_path}
 use Rattle.trace_core.specs.Outline.{shape}
 
@@ -65,6 +65,6 @@ shape_result (Err fault) = Err fault
 pub changed_shape : (c : Change) (f : Doc) → changed (λ _. tt) c (shape f) ≡ shape_result (changed plain c f)
 changed_shape c f = changed_each (λ _. tt) (λ _. tt) plain c f ∙ go (changed plain c f)
   where
-    go : (r : Result Doc TreeFault) → _ ≡ shape_result r
+    go : (r : Result Doc TreeFault) → with_contents (after (λ _. tt) c (λ _. tt)) r ≡ shape_result r
     go (Ok f) = refl
     go (Err fault) = refl

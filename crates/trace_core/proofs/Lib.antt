@@ -1,8 +1,12 @@
-mod TileSets
-mod Passes
-mod Intakes
-mod TreeWays
 mod DocShapes
+mod Events
+mod Following
 mod HeadOutlines
-mod SlotOutlines
+mod Intakes
+mod LastLines
 mod Outlines
+mod PaintTests
+mod Passes
+mod SlotOutlines
+mod TileSets
+mod TreeWays

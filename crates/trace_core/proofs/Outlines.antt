@@ -4,6 +4,7 @@ use Rattle.std.specs.Prelude.{slice_get, slice_set, replicate}
 use Rattle.std.specs.Option.{option_map}
 use Rattle.std.specs.List.{list_any, list_all}
 use Rattle.std.specs.FinSet as set
+use Rattle.std.proofs.lemmas.Bool.Decides.{nat_tests}
 use Rattle.std.proofs.lemmas.Option.{slice_get-map}
 use Rattle.std.proofs.lemmas.List.{take-map}
 use Rattle.geom_core.proofs.Tests.{and_left, and_right}
@@ -83,9 +84,6 @@ no_walker_told s = ap not (any_slots is_walker model.is_walker walker_slot s.slo
 pub fed_told : (s : State) (c : Command) → Told s → option_map outline (after s (Feed c)) ≡ move.fed (outline s) c
 fed_told s c is = when_told outline (may_follow (entries s.fed) c) (may_follow (entries s.fed) c) _ _ refl (λ may i. record (outline s) { fed = s.fed ++ c ∷ []; left = left may i })
   where
-    q : Pending
-    q = record { left = map queued (waiting s); outcomes = s.outcomes }
-
     left : may_follow (entries s.fed) c ≡ true → map queued (drop (length s.outcomes) (entries (s.fed ++ c ∷ []))) ≡ pushed (map queued (waiting s)) c
     left may = sym (stands_pushed s.fed c (record { left = map queued (waiting s); outcomes = s.outcomes }) (lawful_last s.fed c is.lawful may) (record { left_is = refl; few = is.few; closed = is.closed })).left_is
 
@@ -318,11 +316,18 @@ stepped_told s = first_told outline (after s Init) _
 pub settled_told : (s : State) → Told s → replay.is_settled s ≡ move.is_settled (outline s)
 settled_told s is = λ i. done (length s.outcomes) (entries s.fed) is.few i && (sym (all_slots is_free state.is_free free_slot s.slots) i && is_clear s.updates)
   where
+    one_less : (n m : ℕ) → eqb (suc n) (suc m) ≡ eqb n m
+    one_less n m = go (eqb n m) refl
+      where
+        go : (b : Bool) → eqb n m ≡ b → eqb (suc n) (suc m) ≡ b
+        go true e = grind (arith, nat_tests)
+        go false e = grind (arith, nat_tests)
+
     done : (n : ℕ) (es : List doc.Entry) → n ≤ length es → eqb n (length es) ≡ is_done (map queued (drop n es))
     done zero [] h = refl
-    done zero (e ∷ es) h = refl
+    done zero (e ∷ es) h = grind (arith, nat_tests)
     done (suc n) [] h = absurd (omega arith)
-    done (suc n) (e ∷ es) h = done n es (omega arith)
+    done (suc n) (e ∷ es) h = one_less n (length es) ∙ done n es (omega arith)
 
 -- nothing was fed
 pub new_slots : (c : Canvas) (n : ℕ) → map slot_of (new_state c n).slots ≡ replicate n slot.Free

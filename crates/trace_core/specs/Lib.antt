@@ -8,3 +8,5 @@ pub mod Waits
 pub mod Outline
 pub mod Parts
 pub mod Moves
+pub mod Following
+pub mod Answers

@@ -14,12 +14,14 @@ use doc_model::{Change, Command};
 use geom_core::NoMemory;
 use tree_core::Tree;
 
-/// Puts the tree in the place of the other, which it gives.
-fn exchange(tree: &mut Tree, new: Tree) -> Tree
-    ensures new { tree.new ≡ new }
-    ensures old { result ≡ tree.old }
+/// Puts the kept tree in the place of the other, which is kept from then on.
+fn exchange(tree: &mut Tree, kept: Former) -> Former
+    ensures new { tree.new ≡ kept.tree }
+    ensures old { result ≡ former tree.old kept.reach }
 {
-    std::mem::replace(tree, new)
+    let Former { tree: new, reach } = kept;
+    let old = std::mem::replace(tree, new);
+    Former { tree: old, reach }
 }
 
 impl Machine {
@@ -67,11 +69,12 @@ impl Machine {
     fn undo(&mut self) -> Result<(), NoMemory>
         ensures { OnOk result (parts self.new ≡ after_undo (parts self.old) self.old.past.items) }
     {
-        let Some(Former { tree, reach }) = self.past.pop_front() else {
+        let Some(kept) = self.past.pop_front() else {
             return Ok(());
         };
-        let tree = exchange(&mut self.tree, tree);
-        self.future.push_front(Former { tree, reach })?;
+        let reach = kept.reach;
+        let old = exchange(&mut self.tree, kept);
+        self.future.push_front(old)?;
         self.reached(reach);
         Ok(())
     }
@@ -80,11 +83,12 @@ impl Machine {
     fn redo(&mut self) -> Result<(), NoMemory>
         ensures { OnOk result (parts self.new ≡ after_redo (parts self.old) self.old.future.items) }
     {
-        let Some(Former { tree, reach }) = self.future.pop_front() else {
+        let Some(kept) = self.future.pop_front() else {
             return Ok(());
         };
-        let tree = exchange(&mut self.tree, tree);
-        self.past.push_front(Former { tree, reach })?;
+        let reach = kept.reach;
+        let old = exchange(&mut self.tree, kept);
+        self.past.push_front(old)?;
         self.reached(reach);
         Ok(())
     }
@@ -124,7 +128,15 @@ impl Machine {
     pub(crate) fn step(&mut self) -> Result<bool, NoMemory>
         ensures { Follows result (stepped (parts self.old)) (parts self.old) (parts self.new) }
     {
-        if self.begin() || self.finish()? || self.cancel()? {
+        if self.begin() {
+            return Ok(true);
+        }
+        let finished = self.finish()?;
+        if finished {
+            return Ok(true);
+        }
+        let cancelled = self.cancel()?;
+        if cancelled {
             return Ok(true);
         }
         self.act()

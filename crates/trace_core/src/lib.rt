@@ -6,12 +6,21 @@ mod composed;
 mod head;
 mod history;
 mod intake;
+mod lines;
 mod machine;
 mod painter;
 mod paths;
+mod refusal;
+mod replaying;
 mod slot;
 mod strokes;
+#[cfg(test)]
+mod tests;
 mod tiles;
 mod walker;
 mod walks;
 mod work;
+
+pub use refusal::ReplayRefusal;
+pub use replaying::{Replayed, replay};
+pub use trace_forms::TraceCause;

@@ -14,7 +14,7 @@ ghost use Rattle.trace_core.specs.Moves.{Follows, fed, no_painter, no_walker, is
 
 use crate::history::Former;
 use crate::intake::Intake;
-use crate::slot::Slot;
+use crate::slot::{Slot, all_free, some_painter, some_walker};
 use doc_model::{Canvas, Command};
 use geom_core::{NoMemory, Rect};
 use std::alloc::Global;
@@ -83,7 +83,7 @@ impl Machine {
     pub(crate) fn is_settled(&self) -> bool
         ensures { result ≡ is_settled (parts self.now) }
     {
-        self.intake.is_done() && (self.slots.iter().all(|s| s.is_free()) && self.is_clean())
+        self.intake.is_done() && (all_free(&self.slots) && self.is_clean())
     }
 
     /// The commands that were fed.
@@ -114,14 +114,14 @@ impl Machine {
     pub(crate) fn no_painter(&self) -> bool
         ensures { result ≡ no_painter (parts self.now) }
     {
-        !self.slots.iter().any(|s| s.is_painter())
+        !some_painter(&self.slots)
     }
 
     /// Whether no walk is at work.
     pub(crate) fn no_walker(&self) -> bool
         ensures { result ≡ no_walker (parts self.now) }
     {
-        !self.slots.iter().any(|s| s.is_walker())
+        !some_walker(&self.slots)
     }
 
     /// Whether no patch waits.

@@ -1,6 +1,7 @@
 //! What is at work in the slots.
 
-ghost use Rattle.std.specs.Prelude.{◌≡◌};
+ghost use Rattle.std.specs.Prelude.{◌≡◌, slice_set};
+ghost use Rattle.std.specs.List.{list_any, list_all};
 ghost use Rattle.machine_model.specs.Guards.{excludes as guard_excludes, kind_at};
 ghost use Rattle.trace_core.specs.Slots.{is_free, is_painter, is_walker, meets_walker, blocks};
 
@@ -77,4 +78,49 @@ impl Slot {
             _ => false,
         }
     }
+}
+
+/// Puts that into the slot, where it is there.
+pub(crate) fn fill(slots: &mut [Slot], place: u8, slot: Slot)
+    ensures { slots.new ≡ slice_set slots.old place slot }
+{
+    match slots.get_mut(place as usize) {
+        Some(old) => *old = slot,
+        None => {}
+    }
+}
+
+/// Whether all slots are free.
+pub(crate) fn all_free(slots: &[Slot]) -> bool
+    ensures { result ≡ list_all is_free slots.now }
+{
+    slots.iter().all(|s| s.is_free())
+}
+
+/// Whether a job is at work.
+pub(crate) fn some_painter(slots: &[Slot]) -> bool
+    ensures { result ≡ list_any is_painter slots.now }
+{
+    slots.iter().any(|s| s.is_painter())
+}
+
+/// Whether a walk is at work.
+pub(crate) fn some_walker(slots: &[Slot]) -> bool
+    ensures { result ≡ list_any is_walker slots.now }
+{
+    slots.iter().any(|s| s.is_walker())
+}
+
+/// Whether a walk is at work whose patch meets the rectangle.
+pub(crate) fn some_meets(slots: &[Slot], rect: &Rect) -> bool
+    ensures { result ≡ list_any (meets_walker rect.now) slots.now }
+{
+    slots.iter().any(|s| s.meets(rect))
+}
+
+/// Whether a job of that kind may not run beside what is at work, by the jobs of its stroke.
+pub(crate) fn some_blocks(slots: &[Slot], jobs: &[(Kind, Job)], kind: Kind) -> bool
+    ensures { result ≡ list_any (blocks jobs.now kind) slots.now }
+{
+    slots.iter().any(|s| s.blocks(jobs, kind))
 }

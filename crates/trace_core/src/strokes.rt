@@ -1,14 +1,14 @@
 //! The stroke at the head.
 
-ghost use Rattle.std.specs.Prelude.{◌≡◌, ◌||◌, ◌&&◌, not, Ok, OnOk, true, IfOk, None, [], ◌∷◌, length};
-ghost use Rattle.std.specs.Prelude.{All, take};
+ghost use Rattle.std.specs.Prelude.{◌≡◌, Ok, OnOk, true, All, take};
 ghost use Rattle.doc_model.specs.Jobs.{checks};
+ghost use Rattle.entry_queue.specs.Pushed.{may_leave};
 ghost use Rattle.trace_core.specs.Parts.{parts};
 ghost use Rattle.trace_core.specs.Waits.{head_in, jobs_in};
 ghost use Rattle.trace_core.specs.declared.head.Head.{Head};
 ghost use Rattle.trace_core.specs.Trees.{group_of};
 ghost use Rattle.trace_core.specs.Tiles.{round};
-ghost use Rattle.trace_core.specs.Moves.{Follows, may_begin, begun, may_finish, has_ended, with_change, finished, may_cancel, started_of, widened, without_change, cancelled};
+ghost use Rattle.trace_core.specs.Moves.{Follows, may_begin, begun, may_finish, has_ended, with_change, finished, may_cancel, started_of, widened, without_change, cancelled, popped};
 
 use crate::head::Head;
 use crate::history::{Former, Reach};
@@ -79,17 +79,19 @@ impl Machine {
         ended && (!head.overlaps && (!self.paints(head.layer) || self.has_ended(head)))
     }
 
-    /// The stroke at the head becomes the newest change.
-    fn keep_change(&mut self, layer: u16) -> Result<(), NoMemory>
-        ensures { (h : Head) → h.layer ≡ layer → OnOk result (parts self.new ≡ with_change (parts self.old) h) }
+    /// The stroke at the head becomes the newest change, and leaves the queue.
+    fn keep_change(&mut self, head: &Head) -> Result<(), NoMemory>
+        requires { may_leave self.old.intake.left ≡ true }
+        ensures { OnOk result (parts self.new ≡ popped (with_change (parts self.old) head.now)) }
     {
         let bound = round(self.alloc, self.intake.jobs())?;
         self.past.push_front(Former {
             tree: self.tree.copy(),
-            reach: Reach::Part(layer, bound),
+            reach: Reach::Part(head.layer, bound),
         })?;
         self.future.clear();
         self.way = None;
+        self.intake.pop();
         Ok(())
     }
 
@@ -104,7 +106,8 @@ impl Machine {
             return Ok(false);
         }
         if self.paints(head.layer) {
-            self.keep_change(head.layer)?;
+            self.keep_change(&head)?;
+            return Ok(true);
         }
         self.intake.pop();
         Ok(true)
@@ -129,14 +132,16 @@ impl Machine {
         }
     }
 
-    /// What the stroke at the head has painted is taken back.
+    /// What the stroke at the head has painted is taken back, and it leaves the queue.
     fn drop_change(&mut self, head: &Head) -> Result<(), NoMemory>
-        ensures { OnOk result (parts self.new ≡ without_change (parts self.old) head.now) }
+        requires { may_leave self.old.intake.left ≡ true }
+        ensures { OnOk result (parts self.new ≡ popped (without_change (parts self.old) head.now)) }
     {
         let bound = round(self.alloc, self.started_jobs())?;
         let group = self.group_of(head.layer);
         widen(&mut self.updates, group, bound);
         self.way = None;
+        self.intake.pop();
         Ok(())
     }
 
@@ -151,7 +156,6 @@ impl Machine {
             return Ok(false);
         }
         self.drop_change(&head)?;
-        self.intake.pop();
         Ok(true)
     }
 }

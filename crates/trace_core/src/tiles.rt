@@ -1,7 +1,7 @@
 //! Tiles of rectangles.
 
 ghost use Rattle.std.specs.Prelude.{◌≡◌, true, All, OnOk, IfOk};
-ghost use Rattle.std.specs.List.{list_any};
+ghost use Rattle.std.specs.List.{list_any, list_all};
 ghost use Rattle.std.specs.FinSet as set;
 ghost use Rattle.geom_core.specs.Grid.{IsWorldKey, same_key, keys_of, all_keys_of};
 ghost use Rattle.geom_core.specs.Areas.{Area};
@@ -15,7 +15,7 @@ use memento_core::KeySet;
 use std::alloc::Global;
 
 /// Whether the tile is one that the rectangle meets.
-fn is_tile_of(rect: &Rect, key: TileKey) -> bool
+pub(crate) fn is_tile_of(rect: &Rect, key: TileKey) -> bool
     requires { IsWorldKey key }
     ensures { result ≡ list_any (same_key key) (keys_of rect.now) }
 {
@@ -25,12 +25,12 @@ fn is_tile_of(rect: &Rect, key: TileKey) -> bool
     rect.meets(&key.rect())
 }
 
-/// Whether the tile is one that the rectangle of a walk meets.
-pub(crate) fn is_tile(rect: &Rect, key: TileKey) -> bool
+/// The same, as a test of each rectangle.
+fn some_has(rects: &[Rect], key: TileKey) -> bool
     requires { IsWorldKey key }
-    ensures { result ≡ list_any (same_key key) (keys_of rect.now) }
+    ensures { result ≡ list_any (λ r. list_any (same_key key) (keys_of r)) rects.now }
 {
-    is_tile_of(rect, key)
+    rects.iter().any(|rect| is_tile_of(rect, key))
 }
 
 /// Whether the tile is one that some of the rectangles meet.
@@ -38,7 +38,7 @@ pub(crate) fn is_tile_of_some(rects: &[Rect], key: TileKey) -> bool
     requires { IsWorldKey key }
     ensures { result ≡ list_any (same_key key) (all_keys_of rects.now) }
 {
-    rects.iter().any(|rect| is_tile_of(rect, key))
+    some_has(rects, key)
 }
 
 /// Whether all tiles of the rectangle are in the set.
@@ -53,11 +53,18 @@ pub(crate) fn has_all(keys: &KeySet, rect: &Rect) -> bool
     true
 }
 
+/// The same, as a test of each rectangle.
+fn each_has(keys: &KeySet, rects: &[Rect]) -> bool
+    ensures { result ≡ list_all (λ r. has_all keys.now (keys_of r)) rects.now }
+{
+    rects.iter().all(|rect| has_all(keys, rect))
+}
+
 /// Whether all tiles of the rectangles are in the set.
 pub(crate) fn has_all_of(keys: &KeySet, rects: &[Rect]) -> bool
     ensures { result ≡ has_all keys.now (all_keys_of rects.now) }
 {
-    rects.iter().all(|rect| has_all(keys, rect))
+    each_has(keys, rects)
 }
 
 /// Adds all tiles of the rectangle.

@@ -1,14 +1,15 @@
 //! A walk at work.
 
 ghost use Rattle.std.specs.Prelude.{◌≡◌, true, false, IfOk, Ok, OnOk, map, length};
-ghost use Rattle.std.specs.List.{list_any};
-ghost use Rattle.geom_core.specs.Grid.{IsWorldKey};
+ghost use Rattle.std.specs.List.{list_any, list_all};
+ghost use Rattle.trace_core.specs.Tiles.{has_all};
+ghost use Rattle.geom_core.specs.Grid.{IsWorldKey, keys_of};
 ghost use Rattle.trace_core.specs.Walking.{fresh, lacks, noted, lacks_pair, with_pair, is_composed};
 
 use crate::composed::Composed;
-use crate::tiles::is_tile;
+use crate::tiles::is_tile_of;
 use doc_model::Patch;
-use geom_core::{NoMemory, TileKey};
+use geom_core::{NoMemory, Rect, TileKey};
 use memento_core::KeySet;
 use std::alloc::Global;
 use std::marker::Model;
@@ -55,6 +56,20 @@ fn note_pair(groups: &mut [Composed], group: u16, key: TileKey) -> Result<(), No
     Ok(())
 }
 
+/// Whether the tile of the group is still to be published.
+fn some_lacks(groups: &[Composed], group: u16, key: TileKey) -> bool
+    ensures { result ≡ list_any (lacks group key) groups.now }
+{
+    groups.iter().any(|c| c.lacks(group, key))
+}
+
+/// Whether all tiles of the rectangle are published of all groups.
+fn each_has(groups: &[Composed], rect: &Rect) -> bool
+    ensures { result ≡ list_all (λ c. has_all c.published (keys_of rect.now)) groups.now }
+{
+    groups.iter().all(|c| c.has_all(rect))
+}
+
 impl Walker {
     /// A walk of a patch over the groups of a path, of which no tile is published.
     pub(crate) fn new(alloc: Global, patch: Patch, path: &[u16]) -> Result<Walker, NoMemory>
@@ -76,7 +91,7 @@ impl Walker {
         requires { IsWorldKey key }
         ensures { result ≡ lacks_pair self.now group key }
     {
-        is_tile(&self.patch.rect, key) && self.groups.iter().any(|c| c.lacks(group, key))
+        is_tile_of(&self.patch.rect, key) && some_lacks(&self.groups, group, key)
     }
 
     /// Publishes a tile of a group. False where the walk doesn't compose it, or it is published.
@@ -97,6 +112,6 @@ impl Walker {
     pub(crate) fn is_composed(&self) -> bool
         ensures { result ≡ is_composed self.now }
     {
-        self.groups.iter().all(|c| c.has_all(&self.patch.rect))
+        each_has(&self.groups, &self.patch.rect)
     }
 }

@@ -10,7 +10,7 @@ ghost use Rattle.trace_core.specs.Waits.{head_in};
 
 use crate::machine::Machine;
 use crate::paths::path_of;
-use crate::slot::Slot;
+use crate::slot::{Slot, fill, some_meets};
 use crate::walker::Walker;
 use doc_model::Patch;
 use geom_core::{NoMemory, Rect, TileKey};
@@ -59,7 +59,7 @@ impl Machine {
     fn may_walk(&self, rect: &Rect) -> bool
         ensures { result ≡ may_walk (parts self.now) rect.now }
     {
-        !self.is_exclusive() && !self.slots.iter().any(|s| s.meets(rect))
+        !self.is_exclusive() && !some_meets(&self.slots, rect)
     }
 
     /// A walk of the patch starts in the slot.
@@ -79,7 +79,7 @@ impl Machine {
         let path = path_of(self.alloc, &self.tree, patch.walk)?;
         let walker = Walker::new(self.alloc, patch, &path)?;
         let _patch = self.updates.take_at(i);
-        self.slots[place as usize] = Slot::Walks(walker);
+        fill(&mut self.slots, place, Slot::Walks(walker));
         Ok(true)
     }
 

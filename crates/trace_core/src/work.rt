@@ -13,7 +13,7 @@ ghost use Rattle.trace_core.specs.Waits.{head_in, jobs_in};
 use crate::head::Head;
 use crate::machine::Machine;
 use crate::painter::Painter;
-use crate::slot::Slot;
+use crate::slot::{Slot, fill, some_blocks};
 use doc_model::{Job, Kind, Walk};
 use geom_core::{NoMemory, Rect, TileKey};
 use update_queue::Updates;
@@ -34,14 +34,23 @@ pub(crate) fn is_alive(head: &Head) -> bool
     !head.cancelled && !head.overlaps
 }
 
+/// Whether a job of that kind is a barrier.
+fn is_bar(kind: Kind) -> bool
+    ensures { result ≡ is_bar kind }
+{
+    match kind {
+        Kind::Bar => true,
+        Kind::Con | Kind::Seq | Kind::Uni => false,
+    }
+}
+
 impl Machine {
     /// Whether a job of that kind of the stroke at the head may start beside those at work.
     fn may_start(&self, head: &Head, kind: Kind) -> bool
         ensures { result ≡ may_start (parts self.now) head.now kind }
     {
-        let jobs = self.intake.jobs();
-        let beside = !self.slots.iter().any(|s| s.blocks(jobs, kind));
-        is_alive(head) && (beside && (kind != Kind::Bar || self.lets_bar(head)))
+        let blocked = some_blocks(&self.slots, self.intake.jobs(), kind);
+        is_alive(head) && (!blocked && (!is_bar(kind) || self.lets_bar(head)))
     }
 
     /// Whether a barrier may start.
@@ -70,7 +79,8 @@ impl Machine {
         if !self.may_start(&head, kind) {
             return false;
         }
-        self.slots[place as usize] = Slot::Paints(Painter::new(self.alloc, index, job));
+        let painter = Painter::new(self.alloc, index, job);
+        fill(&mut self.slots, place, Slot::Paints(painter));
         self.way = Some(index + 1);
         true
     }
@@ -102,7 +112,7 @@ impl Machine {
         };
         let group = self.group_of(head.layer);
         widen_all(&mut self.updates, group, job.writes().as_slice());
-        self.slots[place as usize] = Slot::Free;
+        fill(&mut self.slots, place, Slot::Free);
         true
     }
 
@@ -114,7 +124,7 @@ impl Machine {
             Some(Slot::Walks(walker)) if walker.is_composed() => {}
             _ => return false,
         }
-        self.slots[place as usize] = Slot::Free;
+        fill(&mut self.slots, place, Slot::Free);
         true
     }
 
@@ -122,6 +132,9 @@ impl Machine {
     pub(crate) fn end(&mut self, place: u8) -> bool
         ensures { Follows (Ok result) (work_ended (parts self.old) place) (parts self.old) (parts self.new) }
     {
-        self.end_job(place) || self.end_walk(place)
+        if self.end_job(place) {
+            return true;
+        }
+        self.end_walk(place)
     }
 }
