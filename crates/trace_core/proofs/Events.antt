@@ -70,15 +70,15 @@ module _ (o : Outline) (place : ℕ) where
 -- a tile is published
 pub publishes : (o new : Outline) (place : ℕ) (key : Key) (h : Head) (w w' : Painting) (r : Result Bool NoMemory) → head_in o.left ≡ Some h → slice_get o.slots place ≡ Some (Paints w) → IfOk r (λ may. may ≡ lacks_tile w key) → (r ≡ Ok true → w' ≡ with_tile w key) → (r ≡ Ok false → w' ≡ w)
     → new ≡ record o { slots = slice_set o.slots place (Paints w') } → Follows r (move.published o place key) o new
-publishes o new place key h w w' (Ok true) e at may yes no is = (λ i. move.published_by o place key (e i) (at i)) ∙ ap (λ b. when b (move.with_slot o place (Paints (with_tile w key)))) (sym may) ∙ ap Some ((λ i. record o { slots = slice_set o.slots place (Paints (sym (yes refl) i)) }) ∙ sym is)
-publishes o new place key h w w' (Ok false) e at may yes no is = ((λ i. move.published_by o place key (e i) (at i)) ∙ ap (λ b. when b (move.with_slot o place (Paints (with_tile w key)))) (sym may), is ∙ (λ i. record o { slots = slice_set o.slots place (Paints (no refl i)) }) ∙ (λ i. record o { slots = stays o.slots place (Paints w) at i }))
+publishes o new place key h w w' (Ok true) e at may yes no is = (λ i. move.published_by o place key (e i) (at i)) ∙ ap (λ b. when b (move.with_slot o place (Paints (with_tile w key)))) (sym may) ∙ ap Some (ap (λ v. record o { slots = slice_set o.slots place (Paints v) }) (sym (yes refl)) ∙ sym is)
+publishes o new place key h w w' (Ok false) e at may yes no is = ((λ i. move.published_by o place key (e i) (at i)) ∙ ap (λ b. when b (move.with_slot o place (Paints (with_tile w key)))) (sym may), is ∙ ap (λ v. record o { slots = slice_set o.slots place (Paints v) }) (no refl) ∙ ap (λ xs. record o { slots = xs }) (stays o.slots place (Paints w) at))
 publishes o new place key h w w' (Err x) e at may yes no is = tt
 
 -- a tile of a group is composed
 pub composes : (o new : Outline) (place g : ℕ) (key : Key) (w w' : Walking) (r : Result Bool NoMemory) → slice_get o.slots place ≡ Some (Walks w) → IfOk r (λ may. may ≡ lacks_pair w g key) → (r ≡ Ok true → w' ≡ with_pair w g key) → (r ≡ Ok false → w' ≡ w)
     → new ≡ record o { slots = slice_set o.slots place (Walks w') } → Follows r (move.composed o place g key) o new
-composes o new place g key w w' (Ok true) at may yes no is = ap (move.composed_by o place g key) at ∙ ap (λ b. when b (move.with_slot o place (Walks (with_pair w g key)))) (sym may) ∙ ap Some ((λ i. record o { slots = slice_set o.slots place (Walks (sym (yes refl) i)) }) ∙ sym is)
-composes o new place g key w w' (Ok false) at may yes no is = (ap (move.composed_by o place g key) at ∙ ap (λ b. when b (move.with_slot o place (Walks (with_pair w g key)))) (sym may), is ∙ (λ i. record o { slots = slice_set o.slots place (Walks (no refl i)) }) ∙ (λ i. record o { slots = stays o.slots place (Walks w) at i }))
+composes o new place g key w w' (Ok true) at may yes no is = ap (move.composed_by o place g key) at ∙ ap (λ b. when b (move.with_slot o place (Walks (with_pair w g key)))) (sym may) ∙ ap Some (ap (λ v. record o { slots = slice_set o.slots place (Walks v) }) (sym (yes refl)) ∙ sym is)
+composes o new place g key w w' (Ok false) at may yes no is = (ap (move.composed_by o place g key) at ∙ ap (λ b. when b (move.with_slot o place (Walks (with_pair w g key)))) (sym may), is ∙ ap (λ v. record o { slots = slice_set o.slots place (Walks v) }) (no refl) ∙ ap (λ xs. record o { slots = xs }) (stays o.slots place (Walks w) at))
 composes o new place g key w w' (Err x) at may yes no is = tt
 
 

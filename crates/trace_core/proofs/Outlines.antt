@@ -25,6 +25,7 @@ use Rattle.doc_model.specs.Layers.{plain}
 use Rattle.doc_model.specs.Jobs.{writes}
 use Rattle.doc_model.specs.Shots.{published}
 use Rattle.doc_model.specs.Changes.{changed}
+use Rattle.doc_model.specs.Forest.{none}
 use Rattle.doc_model.specs.Kept.{kept}
 use Rattle.doc_model.specs.Lawful.{may_follow, lawful}
 use Rattle.doc_model.specs.Picture.{Doc, canvas_area, frame}
@@ -163,7 +164,7 @@ composed_one_told s place g key = go (slice_get s.slots place) ∙ ap (move.comp
   where
     go : (x : Option state.Slot) → option_map outline (next.tile_composed s place g key x) ≡ move.composed_by (outline s) place g key (option_map slot_of x)
     go (Some (Walks w)) = when_told outline (next.may_compose w g key) _ _ _ (sym (lacks_pair_told w g key))
-        (λ _. (λ i. record (outline s) { slots = set_slots s.slots place (Walks (record w { published = (g, key) ∷ w.published })) i }) ∙ (λ i. record (outline s) { slots = slice_set (map slot_of s.slots) place (slot.Walks (with_pair_told w g key i)) }))
+        (λ _. ap (λ xs. record (outline s) { slots = xs }) (set_slots s.slots place (Walks (record w { published = (g, key) ∷ w.published })) ∙ ap (λ v. slice_set (map slot_of s.slots) place (slot.Walks v)) (with_pair_told w g key)))
     go (Some Free) = refl
     go (Some (Paints w)) = refl
     go None = refl
@@ -189,8 +190,8 @@ walk_started_told s place patch = go (next.place_of patch s.updates) (slice_get 
 
     go : (i : ℕ) (p : Option Patch) (x : Option state.Slot) → option_map outline (next.walk_started s place i p x) ≡ move.walk_started_by (outline s) place i p (option_map slot_of x)
     go i (Some p) (Some Free) = when_told outline (next.may_walk s p.rect) _ _ _ (test p.rect)
-        (λ _. (λ j. record (outline s) { updates = patches_of (canvas_area s.canvas) (take i s.updates ++ drop (suc i) s.updates); slots = set_slots s.slots place (next.new_walker s p) j })
-        ∙ (λ j. record (outline s) { updates = patches_of (canvas_area s.canvas) (take i s.updates ++ drop (suc i) s.updates); slots = slice_set (map slot_of s.slots) place (slot.Walks (record { patch = p; groups = groups p j })) }))
+        (λ _. ap (λ xs. record (outline s) { updates = patches_of (canvas_area s.canvas) (take i s.updates ++ drop (suc i) s.updates); slots = xs })
+        (set_slots s.slots place (next.new_walker s p) ∙ ap (λ gs. slice_set (map slot_of s.slots) place (slot.Walks (record { patch = p; groups = gs }))) (groups p)))
     go i (Some p) (Some (Paints w)) = refl
     go i (Some p) (Some (Walks w)) = refl
     go i (Some p) None = refl
@@ -333,3 +334,18 @@ settled_told s is = λ i. done (length s.outcomes) (entries s.fed) is.few i && (
 pub new_slots : (c : Canvas) (n : ℕ) → map slot_of (new_state c n).slots ≡ replicate n slot.Free
 new_slots c zero = refl
 new_slots c (suc n) = ap (λ t. slot.Free ∷ t) (new_slots c n)
+
+pub new_outline : (o : Outline) (c : Canvas) (n : ℕ) → o.area ≡ canvas_area c → o.fed ≡ [] → o.left ≡ [] → o.past ≡ [] → o.future ≡ [] → o.base ≡ none → o.present ≡ none → o.way ≡ None → o.updates ≡ patches_of (canvas_area c) [] → o.slots ≡ replicate n slot.Free
+    → o ≡ outline (new_state c n)
+new_outline o c n area fed left past future base present way updates slots = λ i. record {
+  area = area i;
+  fed = fed i;
+  left = left i;
+  past = past i;
+  future = future i;
+  base = base i;
+  present = present i;
+  way = way i;
+  updates = updates i;
+  slots = (slots ∙ sym (new_slots c n)) i;
+}
