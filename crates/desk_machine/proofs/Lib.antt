@@ -8,3 +8,4 @@ mod PairRuns
 pub mod OwnTiles
 mod Committing
 mod WholeWalks
+pub mod SmallJobs

@@ -3,3 +3,4 @@ pub mod OwnWork
 pub mod Commits
 pub mod Asks
 pub mod Shown
+pub mod SmallJobs
