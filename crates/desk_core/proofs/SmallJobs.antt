@@ -1,5 +1,6 @@
 -- Small jobs that were painted are events other than feeding.
-use Rattle.std.proofs.Common.{◌≡◌, ℕ, suc, zero, ◌≤◌, true, List, length, not, refl, arith}
+use Rattle.std.proofs.Common.{◌≡◌, ℕ, suc, zero, ◌≤◌, true, List, length, refl, arith}
+use Rattle.std.specs.Prelude.{not}
 use Rattle.std.specs.List.{list_all}
 use Rattle.geom_core.specs.Grid.{Key}
 use Rattle.machine_model.specs.State.{State}

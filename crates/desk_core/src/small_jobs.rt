@@ -1,7 +1,7 @@
 //! Small jobs, painted without tickets.
 
 ghost use Rattle.std.specs.Prelude.{◌≡◌, true, false, Ok, OnErr};
-ghost use Rattle.desk_parts.specs.Settles.{GoesOn};
+ghost use Rattle.desk_parts.specs.Settles.{GoesOn, Settles};
 
 use crate::desk::Desk;
 use geom_core::NoMemory;
@@ -17,6 +17,7 @@ impl Desk {
         ensures on { result ≡ Ok true → GoesOn self.old self.new }
         ensures none { result ≡ Ok false → self.new ≡ self.old }
         ensures err { OnErr result (self.new ≡ self.old) }
+        ensures runs { Settles self.old self.new }
         ensures canvas { self.new.canvas ≡ self.old.canvas }
         ensures fed { self.new.fed ≡ self.old.fed }
     {

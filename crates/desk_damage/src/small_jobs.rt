@@ -17,6 +17,7 @@ impl TrackedMachine {
     /// `NoMemory`; all is as it was.
     pub fn paint_small(&mut self) -> Result<Option<TileKey>, NoMemory>
         ensures some { IfOk result (λ o. IfSome o (λ key. PaintsSmall self.old key self.new)) }
+        ensures world { IfOk result (λ o. IfSome o IsWorldKey) }
         ensures none { result ≡ Ok None → self.new ≡ self.old }
         ensures err { OnErr result (self.new ≡ self.old) }
     {

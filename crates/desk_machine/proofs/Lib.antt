@@ -8,4 +8,5 @@ mod PairRuns
 pub mod OwnTiles
 mod Committing
 mod WholeWalks
-pub mod SmallJobs
+mod SmallJobs
+mod Barriers

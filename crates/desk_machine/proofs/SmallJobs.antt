@@ -1,7 +1,7 @@
 -- Jobs that write within one tile alone: what the desk does in one hold is the machine's events.
 use borrow.Author.Differences.{ints}
-use Rattle.std.proofs.Common.{◌≡◌, ℕ, suc, zero, ◌+◌, ◌<◌, ◌≤◌, Bool, true, false, ◌&&◌, ◌||◌, cond, not, Option, Some, None, List, [], ◌∷◌, ◌++◌, append-nil, length, take, drop, refl, sym, ap, ◌∙◌, subst, arith, eqb}
-use Rattle.std.specs.Prelude.{All, ℤ, pos, ◌+ℤ◌, ◌*ℤ◌, int_le, int_lt, slice_get, slice_set, option_map}
+use Rattle.std.proofs.Common.{◌≡◌, ℕ, suc, zero, ◌+◌, ◌*◌, ◌<◌, ◌≤◌, Bool, true, false, ◌&&◌, ◌||◌, cond, Option, Some, None, List, [], ◌∷◌, ◌++◌, append-nil, length, take, drop, refl, sym, ap, ◌∙◌, subst, arith, eqb}
+use Rattle.std.specs.Prelude.{All, IfSome, ℤ, pos, ◌+ℤ◌, ◌*ℤ◌, int_le, int_lt, slice_get, slice_set, option_map, ◌^◌, ◌-◌}
 use Rattle.std.proofs.lemmas.List.{length-take-le}
 use Rattle.std.proofs.lemmas.List.Elements.{All-from_recursion, recursion_from_All}
 use Rattle.std.specs.Option.{unwrap_or}
@@ -26,7 +26,7 @@ use Rattle.doc_model.specs.Lawful.{within_limits}
 use Rattle.doc_model.specs.Picture.{Doc, canvas_area}
 use Rattle.doc_model.specs.Readers.{parent}
 use Rattle.doc_model.specs.Shots.{shot_of, published}
-use Rattle.doc_model.specs.Strokes as doc
+use Rattle.doc_model.specs.Strokes as strokes
 use Rattle.doc_model.specs.Strokes.{Jobs, Stroke, Fate, Open, Ended, Cancelled, Strokes, Changes, Undoes, Redoes, Purges, Exports}
 use Rattle.doc_model.proofs.Contents.{adjusted-with_content, content-with_content}
 use Rattle.doc_model.proofs.Shots.{shot_same}
@@ -48,6 +48,7 @@ use Rattle.machine_model.specs.Step.{Step, StartStep, Run}
 use Rattle.machine_model.specs.UnderWay.{UnderWay, IsOnWay}
 use Rattle.machine_model.proofs.Lists.{get_set, length_above}
 use Rattle.machine_model.proofs.RunsSound.{step_keeps_sound}
+use Rattle.machine_model.proofs.Serials.{serials_are_few}
 use Rattle.machine_model.proofs.StartWay.{not_started}
 use Rattle.desk_parts.specs.Noted.{writes_in, noted}
 use Rattle.desk_parts.specs.Parts.{Parts, state_of}
@@ -58,7 +59,8 @@ use Rattle.desk_parts.proofs.Noting.{written_at}
 use Rattle.desk_parts.proofs.Places.{set_twice, set_same}
 use Rattle.desk_parts.proofs.Publishing.{published_same}
 use Rattle.desk_machine.specs.declared.small_jobs.Laid.{Laid}
-use Rattle.desk_machine.specs.SmallJobs.{small_events, NoBarBehind, IsAlone, LaysRun, jobs_in}
+use Rattle.desk_machine.specs.SmallJobs.{small_events, PaintsSmall, NoBarBehind, IsAlone, LaysRun, jobs_in}
+use Rattle.desk_machine.proofs.Barriers.{updates_with_all-append, front_get}
 use Rattle.desk_machine.proofs.PairRuns.{IsRun}
 
 -- ---- the tile of a job
@@ -102,14 +104,18 @@ module _ {A : Type 0} where
       go false = refl
   adjusted-adjusted q f g (group id look nodes rest) = λ i. group id look (adjusted-adjusted q f g nodes i) (adjusted-adjusted q f g rest i)
 
-  each-adjusted : (q : ℕ) (f : A → A) (doc : Forest A) → each (λ id x. tt) (adjusted q f doc) ≡ each (λ id x. tt) doc
+  -- no content
+  abbrev blank : ℕ → A → Unit {0}
+  blank id x = tt
+
+  each-adjusted : (q : ℕ) (f : A → A) (doc : Forest A) → each blank (adjusted q f doc) ≡ each blank doc
   each-adjusted q f none = refl
   each-adjusted q f (paint id look x rest) = ap (paint id look tt) (each-adjusted q f rest)
   each-adjusted q f (group id look nodes rest) = λ i. group id look (each-adjusted q f nodes i) (each-adjusted q f rest i)
 
   -- the groups stay
   parent-adjusted : (p q : ℕ) (f : A → A) (doc : Forest A) → parent p 0 (adjusted q f doc) ≡ parent p 0 doc
-  parent-adjusted p q f doc = sym (parent_each (λ id x. tt) p 0 (adjusted q f doc)) ∙ ap (parent p 0) (each-adjusted q f doc) ∙ parent_each (λ id x. tt) p 0 doc
+  parent-adjusted p q f doc = sym (parent_each blank p 0 (adjusted q f doc)) ∙ ap (parent p 0) (each-adjusted q f doc) ∙ parent_each blank p 0 doc
 
 pub group-adjusted : (p q : ℕ) (f : Layer → Layer) (doc : Doc) → parent_of p (adjusted q f doc) ≡ parent_of p doc
 group-adjusted p q f doc = ap (λ o. unwrap_or o 0) (parent-adjusted p q f doc)
@@ -147,7 +153,7 @@ record IsGone (d : Parts) (t : Stroke) (n : ℕ) : Type 0 where
   pub way : d.store.way ≡ Some (t.layer, keys)
   pub notes : (k : Key) → set.contains keys k ≡ noted (kept_jobs t) (state_of d).slots n k
   pub room : d.store.room ≡ true
-  pub none : painter_in n (state_of d).slots ≡ None
+  pub unstarted : painter_in n (state_of d).slots ≡ None
 
 gone : (d : Parts) (t : Stroke) (n : ℕ) → IsDesk d → d.way ≡ Some n → head_stroke (state_of d) ≡ Some t → IsGone d t n
 gone d t n desk begun head = record {
@@ -159,7 +165,7 @@ gone d t n desk begun head = record {
   way = b.way ∙ ap (λ (s : Stroke). Some (s.layer, b.keys)) of_b;
   notes = λ k. b.notes k ∙ ap (λ (s : Stroke). noted (kept_jobs s) (state_of d).slots n k) of_b;
   room = b.room;
-  none = not_started (kept_jobs u.stroke) n (state_of d).slots u.started;
+  unstarted = not_started (kept_jobs u.stroke) n (state_of d).slots u.started;
 }
   where
     u : UnderWay (state_of d) n
@@ -184,7 +190,7 @@ record MayPaint (d : Parts) (place : ℕ) (key : Key) (t : Stroke) (n g : ℕ) (
   pub no_overlap : overlaps t ≡ false
   pub free : slice_get (state_of d).slots place ≡ Some Free
   pub idle : no_painter (state_of d) ≡ true
-  pub group : g ≡ parent_of t.layer d.store.present
+  pub above : g ≡ parent_of t.layer d.store.present
   pub is_next : slice_get (kept_jobs t) n ≡ Some j
   pub barrier : is_bar j.0 ≡ true → t.exclusive ≡ false → (no_walker (state_of d) ≡ true) × (d.updates.patches ≡ [])
   pub point_job : IsPointJob key j.1
@@ -289,7 +295,7 @@ ended_is d place key t n g j desk may = λ i. record (state_of d) {
     area = sym desk.area
 
     groups : parent_of t.layer (laid d t place key n j).present ≡ g
-    groups = group-adjusted t.layer t.layer (published j.1 (shot_of (reads j.1) (layer_in t.layer d.store.present)) key) d.store.present ∙ sym may.group
+    groups = group-adjusted t.layer t.layer (published j.1 (shot_of (reads j.1) (layer_in t.layer d.store.present)) key) d.store.present ∙ sym may.above
 
 or_of : (a b : Bool) → a ≡ true → (b && a) ≡ b
 or_of a true e = e
@@ -323,7 +329,7 @@ one_desk d place key t n g j desk may = record {
     w = gone d t n desk may.begun may.at_head
 
     own : (k : Key) → (writes_in (kept_jobs t) n k && done (state_of d).slots n k) ≡ same_key k key
-    own k = or_of (done (state_of d).slots n k) (writes_in (kept_jobs t) n k) (ap (λ o. is_done o k) w.none) ∙ written_at (kept_jobs t) n j.0 j.1 k may.is_next ∙ tile_alone key k j.1 may.point_job may.within
+    own k = or_of (done (state_of d).slots n k) (writes_in (kept_jobs t) n k) (ap (λ o. is_done o k) w.unstarted) ∙ written_at (kept_jobs t) n j.0 j.1 k may.is_next ∙ tile_alone key k j.1 may.point_job may.within
 
     notes : (k : Key) → set.contains (set.insert w.keys key) k ≡ noted (kept_jobs t) (state_of d).slots (suc n) k
     notes k = set.contains-insert key_cmp_total w.keys key k ∙ ap (λ b. same_key k key || b) (w.notes k) ∙ ap (λ b. b || noted (kept_jobs t) (state_of d).slots n k) (sym (own k))
@@ -350,7 +356,7 @@ record MayPaintAll (d : Parts) (place : ℕ) (key : Key) (t : Stroke) (n g : ℕ
   pub no_overlap : overlaps t ≡ false
   pub free : slice_get (state_of d).slots place ≡ Some Free
   pub idle : no_painter (state_of d) ≡ true
-  pub group : g ≡ parent_of t.layer d.store.present
+  pub above : g ≡ parent_of t.layer d.store.present
   pub follow : (i : ℕ) (j : Kind × Job) → slice_get jobs i ≡ Some j → slice_get (kept_jobs t) (n + i) ≡ Some j
   pub barrier : (j : Kind × Job) → slice_get jobs 0 ≡ Some j → is_bar j.0 ≡ true → t.exclusive ≡ false → (no_walker (state_of d) ≡ true) × (d.updates.patches ≡ [])
   pub clear : NoBarBehind jobs
@@ -374,12 +380,15 @@ first_of d place key t n g j jobs may = record {
   no_overlap = may.no_overlap;
   free = may.free;
   idle = may.idle;
-  group = may.group;
-  is_next = subst (λ m. slice_get (kept_jobs t) m ≡ Some j) (omega arith) (may.follow 0 j refl);
+  above = may.above;
+  is_next = subst (λ m. slice_get (kept_jobs t) m ≡ Some j) flat (may.follow 0 j refl);
   barrier = may.barrier j refl;
   point_job = may.each.0;
   within = may.within.0;
 }
+  where
+    flat : n + 0 ≡ n
+    flat = omega arith
 
 both : (b : Bool) → b ≡ true → b ≡ false → ⊥
 both true e h = cc
@@ -393,7 +402,7 @@ rest_of d place key t n g j jobs desk may = record {
   no_overlap = may.no_overlap;
   free = may.free;
   idle = may.idle;
-  group = may.group ∙ sym (ap (λ (a : Archive). parent_of t.layer a.present) (store_one d t n key j (gone d t n desk may.begun may.at_head)) ∙ group-adjusted t.layer t.layer (painted_in j.1 key) d.store.present);
+  above = may.above ∙ sym (ap (λ (a : Archive). parent_of t.layer a.present) (store_one d t n key j (gone d t n desk may.begun may.at_head)) ∙ group-adjusted t.layer t.layer (painted_in j.1 key) d.store.present);
   follow = λ i k h. subst (λ m. slice_get (kept_jobs t) m ≡ Some k) (shift i) (may.follow (suc i) k h);
   barrier = λ k h bar. absurd (both (is_bar k.0) bar (may.clear 0 k h));
   clear = λ i k h. may.clear (suc i) k h;
@@ -420,10 +429,6 @@ store_more a layer keys key j jobs e =
     ∙ (λ i. record a { present = adjusted-adjusted layer (all_painted_in jobs key) (painted_in j.1 key) a.present i; way = Some (layer, put_twice keys key i) })
     ∙ sym (ap (λ o. with_painted o (spot (j ∷ jobs) key) a) e)
 
-updates_with_all-append : (canvas : Area) (g : ℕ) (xs ys : List Area) (patches : List Patch) → updates_with_all canvas g (xs ++ ys) patches ≡ updates_with_all canvas g ys (updates_with_all canvas g xs patches)
-updates_with_all-append canvas g [] ys patches = refl
-updates_with_all-append canvas g (x ∷ xs) ys patches = updates_with_all-append canvas g xs ys _
-
 last_is : (d : Parts) (key : Key) (n g : ℕ) (j : Kind × Job) → after_job d key n g j ≡ after_jobs d key n g (j ∷ [])
 last_is d key n g j = λ i. record d {
   store = with_painted d.store.way (spot (j ∷ []) key) d.store;
@@ -449,6 +454,15 @@ more_is d key t n g j jobs w = λ i. record d {
     more : (m l : ℕ) → suc m + l ≡ m + suc l
     more m l = omega arith
 
+-- one, and then the others
+jobs_more : (d : Parts) (place : ℕ) (key : Key) (t : Stroke) (n g : ℕ) (j k : Kind × Job) (rest : Jobs) → IsDesk d → MayPaintAll d place key t n g (j ∷ k ∷ rest)
+    → IsRun (after_job d key n g j) (after_jobs (after_job d key n g j) key (suc n) g (k ∷ rest)) (small_events place key (suc (length rest))) → IsRun d (after_jobs d key n g (j ∷ k ∷ rest)) (small_events place key (suc (suc (length rest))))
+jobs_more d place key t n g j k rest desk may others =
+    subst (λ new. IsRun d new (small_events place key (suc (suc (length rest))))) (more_is d key t n g j (k ∷ rest) (gone d t n desk may.begun may.at_head)) (record {
+      desk = others.desk;
+      run = one_then d place key t n g j (small_events place key (suc (length rest))) _ desk (first_of d place key t n g j (k ∷ rest) may) others.run;
+    })
+
 -- all of them, one after another
 jobs_run : (jobs : Jobs) (d : Parts) (place : ℕ) (key : Key) (t : Stroke) (n g : ℕ) (j : Kind × Job) → IsDesk d → MayPaintAll d place key t n g (j ∷ jobs) → IsRun d (after_jobs d key n g (j ∷ jobs)) (small_events place key (suc (length jobs)))
 jobs_run [] d place key t n g j desk may =
@@ -456,29 +470,17 @@ jobs_run [] d place key t n g j desk may =
       desk = one_desk d place key t n g j desk (first_of d place key t n g j [] may);
       run = one_then d place key t n g j [] (state_of (after_job d key n g j)) desk (first_of d place key t n g j [] may) refl;
     })
-jobs_run (k ∷ rest) d place key t n g j desk may =
-    subst (λ new. IsRun d new (small_events place key (suc (suc (length rest))))) (more_is d key t n g j (k ∷ rest) (gone d t n desk may.begun may.at_head)) (record {
-      desk = others.desk;
-      run = one_then d place key t n g j (small_events place key (suc (length rest))) _ desk first others.run;
-    })
-  where
-    first : MayPaint d place key t n g j
-    first = first_of d place key t n g j (k ∷ rest) may
-
-    others : IsRun (after_job d key n g j) (after_jobs (after_job d key n g j) key (suc n) g (k ∷ rest)) (small_events place key (suc (length rest)))
-    others = jobs_run rest (after_job d key n g j) place key t (suc n) g k (one_desk d place key t n g j desk first) (rest_of d place key t n g j (k ∷ rest) desk may)
+jobs_run (k ∷ rest) d place key t n g j desk may = jobs_more d place key t n g j k rest desk may
+    (jobs_run rest (after_job d key n g j) place key t (suc n) g k (one_desk d place key t n g j desk (first_of d place key t n g j (k ∷ rest) may)) (rest_of d place key t n g j (k ∷ rest) desk may))
 
 -- ---- what the desk's calls tell
 
 module _ {A : Type 0} where
-  front_get : (m : ℕ) (xs : List A) (i : ℕ) (x : A) → slice_get (take m xs) i ≡ Some x → slice_get xs i ≡ Some x
-  front_get zero xs i x h = cc
-  front_get (suc m) [] i x h = h
-  front_get (suc m) (y ∷ xs) zero x h = h
-  front_get (suc m) (y ∷ xs) (suc i) x h = front_get m xs i x h
-
   drop_get : (n : ℕ) (xs : List A) (i : ℕ) → slice_get (drop n xs) i ≡ slice_get xs (n + i)
-  drop_get zero xs i = ap (slice_get xs) (omega arith)
+  drop_get zero xs i = ap (slice_get xs) flat
+    where
+      flat : i ≡ 0 + i
+      flat = omega arith
   drop_get (suc n) [] i = refl
   drop_get (suc n) (y ∷ xs) i = drop_get n xs i ∙ ap (slice_get (y ∷ xs)) (shift n i)
     where
@@ -498,7 +500,7 @@ queued_jobs d t desk h = ap jobs_in (head_queued d desk) ∙ go (head (state_of 
     by s Ended = refl
     by s Cancelled = refl
 
-    go : (o : Option doc.Entry) → stroke_of o ≡ Some t → jobs_in (option_map queued o) ≡ kept_jobs t
+    go : (o : Option strokes.Entry) → stroke_of o ≡ Some t → jobs_in (option_map queued o) ≡ kept_jobs t
     go None e = cc
     go (Some (Strokes s)) e = by s s.fate ∙ ap kept_jobs (stroke_same s t e)
     go (Some (Changes change)) e = cc
@@ -509,15 +511,14 @@ queued_jobs d t desk h = ap jobs_in (head_queued d desk) ∙ go (head (state_of 
 
 -- the next jobs, up to a barrier
 pub record AreNext (d : Parts) (n : ℕ) (jobs : Jobs) : Type 0 where
-  pub m : ℕ
-  pub front : jobs ≡ take m (drop n (jobs_in (slice_get d.queue.left 0)))
+  pub front : jobs ≡ take (length jobs) (drop n (jobs_in (slice_get d.queue.left 0)))
   pub clear : NoBarBehind jobs
 
 next_get : (d : Parts) (t : Stroke) (n : ℕ) (jobs : Jobs) → IsDesk d → head_stroke (state_of d) ≡ Some t → AreNext d n jobs → (i : ℕ) (j : Kind × Job) → slice_get jobs i ≡ Some j → slice_get (kept_jobs t) (n + i) ≡ Some j
 next_get d t n jobs desk h next i j e =
     ap (λ (js : Jobs). slice_get js (n + i)) (sym (queued_jobs d t desk h))
     ∙ sym (drop_get n (jobs_in (slice_get d.queue.left 0)) i)
-    ∙ front_get next.m (drop n (jobs_in (slice_get d.queue.left 0))) i j (ap (λ (js : Jobs). slice_get js i) (sym next.front) ∙ e)
+    ∙ front_get (length jobs) (drop n (jobs_in (slice_get d.queue.left 0))) i j (ap (λ (js : Jobs). slice_get js i) (sym next.front) ∙ e)
 
 number_same : (a b : ℕ) → Some a ≡ Some b → a ≡ b
 number_same a b e = cc
@@ -562,7 +563,7 @@ laid_run d n g jobs laid store updates desk alone way told next run widened = go
       no_overlap = s.no_overlap;
       free = s.free;
       idle = alone.idle;
-      group = told s.stroke s.at_head;
+      above = told s.stroke s.at_head;
       follow = follow;
       barrier = λ j h. subst (λ (k : Kind × Job). is_bar k.0 ≡ true → s.stroke.exclusive ≡ false → (no_walker (state_of d) ≡ true) × (d.updates.patches ≡ [])) (first j h) s.barrier;
       clear = λ i j h. next.clear i j (front_get laid.count jobs (suc i) j (ap (λ (ks : Jobs). slice_get ks (suc i)) is ∙ h));
@@ -577,10 +578,9 @@ laid_run d n g jobs laid store updates desk alone way told next run widened = go
         job_same a b e = cc
 
         first : (j : Kind × Job) → slice_get js 0 ≡ Some j → s.job ≡ j
-        first j h = job_same _ _ (sym s.is_next ∙ ap (slice_get (kept_jobs s.stroke)) (at ∙ plain n) ∙ follow 0 j h)
-          where
-            plain : (m : ℕ) → m ≡ m + 0
-            plain m = omega arith
+        first j h =
+            let here : s.next ≡ n + 0 = omega (arith, at) in
+            job_same _ _ (sym s.is_next ∙ ap (slice_get (kept_jobs s.stroke)) here ∙ follow 0 j h)
 
     all : (js : Jobs) → take laid.count jobs ≡ js → after_jobs d laid.key n g js ≡ after_laid d store updates n laid.count
     all js is = λ i. record d {
@@ -594,7 +594,22 @@ laid_run d n g jobs laid store updates desk alone way told next run widened = go
         count = ap length (sym is) ∙ long
 
     go : (js : Jobs) → take laid.count jobs ≡ js → IsRun d (after_laid d store updates n laid.count) (small_events alone.place laid.key laid.count)
-    go [] is = absurd (let none : length (take laid.count jobs) ≡ 0 = ap length is in omega (arith, run.some))
+    go [] is = absurd (let empty : length (take laid.count jobs) ≡ 0 = ap length is in omega (arith, run.some, empty, long))
     go (j ∷ js) is =
         subst (λ new. IsRun d new (small_events alone.place laid.key laid.count)) (all (j ∷ js) is)
         (subst (λ m. IsRun d (after_jobs d laid.key n g (j ∷ js)) (small_events alone.place laid.key m)) (ap length (sym is) ∙ long) (jobs_run js d alone.place laid.key s.stroke n g j desk (may (j ∷ js) is)))
+
+-- what was laid, where something was
+pub laid_there : (jobs : Jobs) (laid : Laid) (o : Option Laid) (old new : Archive) → o ≡ Some laid → IfSome o (λ (l : Laid). LaysRun jobs l old new) → LaysRun jobs laid old new
+laid_there jobs laid o old new is told = subst (λ (p : Option Laid). IfSome p (λ (l : Laid). LaysRun jobs l old new)) is told
+
+-- so they were painted
+pub paints_small : (d new : Parts) (place count : ℕ) (key : Key) → 1 ≤ count → IsRun d new (small_events place key count) → PaintsSmall (state_of d) key (state_of new)
+paints_small d new place count key some run = record { place = place; count = count; some = some; run = run.run }
+
+-- serials fit, so many more too
+pub serials_fit : (d : Parts) → IsDesk d → d.next + 4096 < 2 ^ 64
+serials_fit d desk =
+    let a : d.next + length d.updates.patches ≤ 65 * length d.fed + 17 = serials_are_few (state_of d) desk.sound.orderly in
+    let b : length d.fed ≤ 2 ^ 32 - 1 = desk.few in
+    omega arith

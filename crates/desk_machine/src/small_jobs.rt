@@ -1,6 +1,6 @@
 //! Small jobs, painted without tickets.
 
-ghost use Rattle.std.specs.Prelude.{All, ◌≡◌, ◌≤◌, ◌<◌, ℕ, suc, true, false, is_some, Ok, None, Some, IfOk, IfSome, OnErr, length, take, drop, slice_get};
+ghost use Rattle.std.specs.Prelude.{All, ◌≡◌, ◌≤◌, ◌<◌, ◌+◌, ℕ, suc, true, false, is_some, Ok, None, Some, IfOk, IfSome, OnErr, length, take, drop, slice_get};
 ghost use Rattle.geom_core.specs.Grid.{IsWorldKey};
 ghost use Rattle.doc_model.specs.declared.job.Job.{Job};
 ghost use Rattle.doc_model.specs.declared.job.Kind.{Kind};
@@ -73,30 +73,52 @@ impl Machine {
         ensures err { OnErr result (self.new ≡ self.old) }
     {
         let group = self.group_of(self.head_layer());
+        let started = self.started();
+        let jobs = next_jobs(&self.queue, started as usize);
+        match lay_run(self.alloc, &mut self.store, jobs)? {
+            Some(laid) => {
+                let (front, _) = jobs.split_at(laid.count);
+                widen_jobs(&mut self.updates, group, front);
+                self.way = Some(started + laid.count as u32);
+                self.next += laid.count as u64;
+                Ok(Some(laid.key))
+            }
+            None => Ok(None),
+        }
+    }
+
+    /// How many jobs of the stroke at the head were started.
+    fn started(&self) -> u32
+        requires { IsAlone self.now }
+        ensures { self.now.way ≡ Some result }
+    {
         let Some(started) = self.way else {
             unreachable!()
         };
-        let jobs = next_jobs(&self.queue, started as usize);
-        let Some(laid) = lay_run(self.alloc, &mut self.store, jobs)? else {
-            return Ok(None);
-        };
-        widen_jobs(&mut self.updates, group, &jobs[..laid.count]);
-        self.way = Some(started + laid.count as u32);
-        self.next += laid.count as u64;
-        Ok(Some(laid.key))
+        started
     }
 }
 
 /// The jobs of the stroke at the head from an index on, before the first barrier behind the first of them.
 fn next_jobs(queue: &Queue, from: usize) -> &[(Kind, Job)]
     requires { from ≤ length (jobs_in (slice_get queue.now.left 0)) }
-    ensures front { (n : ℕ) × (result.now ≡ take n (drop from (jobs_in (slice_get queue.now.left 0)))) }
+    ensures front { result.now ≡ take (length result.now) (drop from (jobs_in (slice_get queue.now.left 0))) }
     ensures clear { NoBarBehind result.now }
     ensures checked { All (λ j. checks j.1 ≡ true) result.now }
     ensures few { from + length result.now ≤ 4096 }
 {
     let (_, jobs) = kept_jobs(queue).split_at(from);
-    &jobs[..first_bar(jobs)]
+    before_bar(jobs)
+}
+
+/// The jobs before the first barrier behind the first of them.
+fn before_bar(jobs: &[(Kind, Job)]) -> &[(Kind, Job)]
+    ensures front { result.now ≡ take (length result.now) jobs.now }
+    ensures few { length result.now ≤ length jobs.now }
+    ensures clear { NoBarBehind result.now }
+{
+    let (front, _) = jobs.split_at(first_bar(jobs));
+    front
 }
 
 /// The jobs of the stroke at the head, or none.
