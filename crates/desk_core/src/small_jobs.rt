@@ -22,8 +22,8 @@ impl Desk {
         ensures fed { self.new.fed ≡ self.old.fed }
     {
         match self.machine.paint_small()? {
-            Some(_key) => Ok(true),
             None => Ok(false),
+            Some(_key) => Ok(true),
         }
     }
 }

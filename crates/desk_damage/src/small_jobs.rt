@@ -1,6 +1,7 @@
 //! Small jobs, painted without tickets.
 
 ghost use Rattle.std.specs.Prelude.{◌≡◌, Ok, None, IfOk, IfSome, OnErr};
+ghost use Rattle.geom_core.specs.Grid.{IsWorldKey};
 ghost use Rattle.desk_machine.specs.SmallJobs.{PaintsSmall};
 
 use crate::tracked::TrackedMachine;
