@@ -4,7 +4,7 @@ ghost use Rattle.std.specs.Prelude.{◌≡◌};
 ghost use Rattle.script_text.specs.Script.{Contents};
 ghost use Rattle.crew_run.specs.Front.{IsFront, nothing};
 
-use crate::calls::{Took, end_walk, put_job, put_rows, take};
+use crate::calls::{Took, end_walk, paint_small, put_job, put_rows, take};
 use crate::feeding::feed_ahead;
 use crate::pieces::{Piece, Walking};
 use crate::work::{Rows, TakenJob, Tiles, Work};
@@ -185,6 +185,9 @@ impl<J: Following + Naming> Board<J> {
         }
         if self.jobs > 0 && !self.desk.desk().head_may_go() {
             return Ok(Next::Wait);
+        }
+        if paint_small(&mut self.desk)? {
+            return Ok(Next::Again);
         }
         match take(self.alloc, &mut self.desk, steps)? {
             Took::Job(job) => self.begin_job(job),

@@ -44,6 +44,13 @@ pub(crate) fn take<J: Naming, L: Ledger>(
     }
 }
 
+/// Paints small jobs of the stroke at the head, in one hold of the lock. False where none was painted.
+pub(crate) fn paint_small<J: Naming>(desk: &mut StampedDesk<J>) -> Result<bool, NoMemory>
+    ensures { KeepsFed desk.old desk.new }
+{
+    desk.paint_small()
+}
+
 /// Publishes all tiles of a job, and ends it, in one hold of the lock.
 pub(crate) fn put_job<J: Naming>(
     desk: &mut StampedDesk<J>,

@@ -1,1 +1,2 @@
 mod Committing
+mod SmallJobs

@@ -8,6 +8,7 @@ mod desk;
 mod laws;
 mod looks;
 mod settling;
+mod small_jobs;
 mod takes;
 mod tickets;
 mod walks;

@@ -53,7 +53,24 @@ impl Desk {
                 do_own(&mut self.machine, place)?;
                 Ok(true)
             }
-            None => self.take_on(steps),
+            None => self.paint_or_take(steps),
+        }
+    }
+
+    /// Paints small jobs of the stroke at the head, or else takes what may be done next, where nothing is at
+    /// work. `false` exactly where the desk is settled.
+    fn paint_or_take<L: Ledger>(&mut self, steps: &mut Steps<L>) -> Result<bool, NoMemory>
+        requires free { list_all is_free self.old.slots ≡ true }
+        requires closed { list_all is_closed_entry (entries self.old.fed) ≡ true }
+        requires known { IsOrderly self.old }
+        ensures on { result ≡ Ok true → GoesOn self.old self.new }
+        ensures settled { result ≡ Ok false → IsSettled self.old × (self.new ≡ self.old) }
+        ensures err { OnErr result (self.new ≡ self.old) }
+    {
+        if self.paint_small()? {
+            Ok(true)
+        } else {
+            self.take_on(steps)
         }
     }
 

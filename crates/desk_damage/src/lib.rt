@@ -6,6 +6,7 @@ mod changes;
 mod events;
 mod known;
 mod shows;
+mod small_jobs;
 mod spread;
 mod tracked;
 

@@ -9,3 +9,5 @@ pub mod OwnTiles
 pub mod Untouched
 mod Committing
 mod WholeWalks
+mod SmallJobs
+mod Barriers

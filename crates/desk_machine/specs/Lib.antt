@@ -4,3 +4,4 @@ pub mod Commits
 pub mod Asks
 pub mod Shown
 pub mod Sparing
+pub mod SmallJobs

@@ -89,7 +89,7 @@ impl Machine {
     }
 
     /// Whether no job is at work.
-    fn no_painter(&self) -> bool
+    pub(crate) fn no_painter(&self) -> bool
         ensures value { result ≡ no_painter self.now }
         ensures known { IsOnWay self.now self.now.way }
     {

@@ -12,6 +12,7 @@ mod machine;
 mod own_work;
 mod readers;
 mod rows;
+mod small_jobs;
 mod sparing;
 mod stroke_events;
 mod tickets;

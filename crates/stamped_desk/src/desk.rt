@@ -33,7 +33,7 @@ use walker_core::Composed;
 /// A desk, and the stamps of what was taken from it. Contracts see the desk's state.
 #[derive(Drop)]
 pub struct StampedDesk<J: Naming> {
-    desk: Desk,
+    pub(crate) desk: Desk,
     stamps: Stamps<J, Taken>,
 }
 

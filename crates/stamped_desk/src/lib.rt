@@ -4,6 +4,7 @@
 
 mod desk;
 mod painting;
+mod small_jobs;
 mod tiles;
 mod walk;
 

@@ -1,0 +1,55 @@
+-- Jobs that write within one tile alone, painted in place without tickets.
+use Rattle.std.specs.Prelude.{All, ◌≡◌, ◌≤◌, ◌<◌, ℕ, suc, zero, true, false, Some, List, [], ◌∷◌, take, length, slice_get}
+use Rattle.std.specs.Prelude.{Option}
+use Rattle.geom_core.specs.Grid.{Key, tile, IsWorldKey}
+use Rattle.doc_model.specs.declared.job.Job.{Job}
+use Rattle.doc_model.specs.declared.job.Kind.{Kind}
+use Rattle.doc_model.specs.Strokes.{Jobs}
+use Rattle.job_core.specs.Points.{IsPointJob, is_within, spot}
+use Rattle.entry_queue.specs.declared.entry.Entry.{Entry}
+use Rattle.entry_queue.specs.declared.entry.Entry.TheVariants as item
+use Rattle.desk_steps.specs.Archives.{Archive, with_painted}
+use Rattle.machine_model.specs.State.{State}
+use Rattle.machine_model.specs.Event.{Event, Start, Publish, End}
+use Rattle.machine_model.specs.Slots.{no_painter}
+use Rattle.machine_model.specs.Step.{Run}
+use Rattle.machine_model.specs.Guards.{is_bar}
+use Rattle.desk_parts.specs.Enabled.{Enabled}
+use Rattle.desk_machine.specs.declared.small_jobs.Laid.{Laid}
+
+-- so many jobs, one after another: each starts in the slot, publishes the tile and ends
+abbrev pub small_events : ℕ → Key → ℕ → List Event
+small_events place key zero = []
+small_events place key (suc n) = Start place ∷ Publish place key ∷ End place ∷ small_events place key n
+
+-- some jobs of the stroke at the head, the next one first, were painted so
+pub record PaintsSmall (old : State) (key : Key) (new : State) : Type 0 where
+  pub place : ℕ
+  pub count : ℕ
+  pub some : 1 ≤ count
+  pub run : Run old (small_events place key count) new
+
+-- the next job may start, and no job is at work
+pub record IsAlone (s : State) : Type 0 where
+  pub place : ℕ
+  pub enabled : Enabled s (Start place)
+  pub idle : no_painter s ≡ true
+
+-- the jobs that an entry of the queue keeps, where it is a stroke
+abbrev pub jobs_in : Option Entry → Jobs
+jobs_in (Some (item.Waiting stroke)) = stroke.jobs
+jobs_in (Some (item.Whole closed)) = closed.stroke.jobs
+jobs_in entry = []
+
+-- none of the jobs behind the first is a barrier
+abbrev pub NoBarBehind : Jobs → Type 0
+NoBarBehind jobs = (i : ℕ) (j : Kind × Job) → slice_get jobs (suc i) ≡ Some j → is_bar j.0 ≡ false
+
+-- so many of the jobs, from the first on, write within the tile alone, and were painted there
+pub record LaysRun (jobs : Jobs) (laid : Laid) (old new : Archive) : Type 0 where
+  pub some : 1 ≤ laid.count
+  pub few : laid.count ≤ length jobs
+  pub world : IsWorldKey laid.key
+  pub each : All (λ j. IsPointJob laid.key j.1) (take laid.count jobs)
+  pub within : All (λ j. is_within (tile laid.key) j.1 ≡ true) (take laid.count jobs)
+  pub new_is : new ≡ with_painted old.way (spot (take laid.count jobs) laid.key) old

@@ -1,0 +1,193 @@
+//! Small jobs, painted without tickets.
+
+ghost use Rattle.std.specs.Prelude.{All, ◌≡◌, ◌≤◌, ◌<◌, ◌+◌, ℕ, suc, true, false, is_some, Ok, None, Some, IfOk, IfSome, OnErr, length, take, drop, slice_get};
+ghost use Rattle.geom_core.specs.Grid.{IsWorldKey};
+ghost use Rattle.doc_model.specs.declared.job.Job.{Job};
+ghost use Rattle.doc_model.specs.declared.job.Kind.{Kind};
+ghost use Rattle.doc_model.specs.Jobs.{checks};
+ghost use Rattle.doc_model.specs.Lawful.{within_limits};
+ghost use Rattle.machine_model.specs.Effects.{updates_with_all, writes_of};
+ghost use Rattle.machine_model.specs.Guards.{is_bar as is_barrier};
+ghost use Rattle.update_queue.specs.Waiting.{waiting};
+ghost use Rattle.desk_machine.specs.SmallJobs.{PaintsSmall, IsAlone, NoBarBehind, LaysRun, jobs_in};
+
+use crate::machine::Machine;
+use desk_parts::Choice;
+use desk_steps::Store;
+use desk_work::widen_all;
+use doc_model::{Job, Kind};
+use entry_queue::{Entry, Queue};
+use geom_core::{NoMemory, TileKey};
+use job_core::PointWork;
+use std::alloc::Global;
+use update_queue::Updates;
+
+/// Jobs that were painted: how many, and in which tile.
+#[derive(Clone, Copy)]
+pub(crate) struct Laid {
+    pub(crate) count: usize,
+    pub(crate) key: TileKey,
+}
+
+impl Machine {
+    /// Paints jobs of the stroke at the head in place, the next one first: as many in a row as write within
+    /// one tile alone and needn't wait for what is to be composed. Each starts in a slot, publishes its tile
+    /// and ends. It tells the tile. None where a job is at work, or the next one mayn't start or is none of
+    /// these.
+    ///
+    /// # Errors
+    /// `NoMemory`; all is as it was.
+    pub fn paint_small(&mut self) -> Result<Option<TileKey>, NoMemory>
+        ensures some { IfOk result (λ o. IfSome o (λ key. PaintsSmall self.old key self.new)) }
+        ensures world { IfOk result (λ o. IfSome o IsWorldKey) }
+        ensures none { result ≡ Ok None → self.new ≡ self.old }
+        ensures err { OnErr result (self.new ≡ self.old) }
+    {
+        if self.next_is_alone() {
+            self.paint_run()
+        } else {
+            Ok(None)
+        }
+    }
+
+    /// Whether the next job may start, and no job is at work.
+    fn next_is_alone(&self) -> bool
+        ensures { result ≡ true → IsAlone self.now }
+    {
+        match self.choice() {
+            Choice::Start(_place) => self.no_painter(),
+            Choice::Finish => false,
+            Choice::Cancel => false,
+            Choice::Act => false,
+            Choice::Init => false,
+            Choice::Wait => false,
+        }
+    }
+
+    /// Paints the next job and those behind it.
+    fn paint_run(&mut self) -> Result<Option<TileKey>, NoMemory>
+        requires { IsAlone self.old }
+        ensures some { IfOk result (λ o. IfSome o (λ key. PaintsSmall self.old key self.new)) }
+        ensures world { IfOk result (λ o. IfSome o IsWorldKey) }
+        ensures none { result ≡ Ok None → self.new ≡ self.old }
+        ensures err { OnErr result (self.new ≡ self.old) }
+    {
+        let group = self.group_of(self.head_layer());
+        let started = self.started();
+        let jobs = next_jobs(&self.queue, started as usize);
+        match lay_run(self.alloc, &mut self.store, jobs)? {
+            Some(laid) => {
+                let (front, _) = jobs.split_at(laid.count);
+                widen_jobs(&mut self.updates, group, front);
+                self.way = Some(started + laid.count as u32);
+                self.next += laid.count as u64;
+                Ok(Some(laid.key))
+            }
+            None => Ok(None),
+        }
+    }
+
+    /// How many jobs of the stroke at the head were started.
+    fn started(&self) -> u32
+        requires { IsAlone self.now }
+        ensures { self.now.way ≡ Some result }
+    {
+        let Some(started) = self.way else {
+            unreachable!()
+        };
+        started
+    }
+}
+
+/// The jobs of the stroke at the head from an index on, before the first barrier behind the first of them.
+fn next_jobs(queue: &Queue, from: usize) -> &[(Kind, Job)]
+    requires { from ≤ length (jobs_in (slice_get queue.now.left 0)) }
+    ensures front { result.now ≡ take (length result.now) (drop from (jobs_in (slice_get queue.now.left 0))) }
+    ensures clear { NoBarBehind result.now }
+    ensures checked { All (λ j. checks j.1 ≡ true) result.now }
+    ensures few { from + length result.now ≤ 4096 }
+{
+    let (_, jobs) = kept_jobs(queue).split_at(from);
+    before_bar(jobs)
+}
+
+/// The jobs before the first barrier behind the first of them.
+fn before_bar(jobs: &[(Kind, Job)]) -> &[(Kind, Job)]
+    ensures front { result.now ≡ take (length result.now) jobs.now }
+    ensures few { length result.now ≤ length jobs.now }
+    ensures clear { NoBarBehind result.now }
+{
+    let (front, _) = jobs.split_at(first_bar(jobs));
+    front
+}
+
+/// The jobs of the stroke at the head, or none.
+fn kept_jobs(queue: &Queue) -> &[(Kind, Job)]
+    ensures value { result.now ≡ jobs_in (slice_get queue.now.left 0) }
+    ensures checked { All (λ j. checks j.1 ≡ true) result.now }
+    ensures few { length result.now ≤ 4096 }
+{
+    match queue.head() {
+        Some(Entry::Waiting(stroke)) => stroke.jobs(),
+        Some(Entry::Whole(stroke)) => stroke.jobs(),
+        Some(Entry::Other(_)) | None => &[],
+    }
+}
+
+/// The index of the first barrier behind the first job, or the number of the jobs where none is.
+fn first_bar(jobs: &[(Kind, Job)]) -> usize
+    ensures few { result ≤ length jobs.now }
+    ensures clear { (i : ℕ) (j : Kind × Job) → suc i < result → slice_get jobs.now (suc i) ≡ Some j → is_barrier j.0 ≡ false }
+{
+    for i in 1..jobs.len() {
+        if is_bar(jobs[i].0) {
+            return i;
+        }
+    }
+    jobs.len()
+}
+
+/// Whether the kind is a barrier.
+fn is_bar(kind: Kind) -> bool
+    ensures { result ≡ is_barrier kind }
+{
+    match kind {
+        Kind::Bar => true,
+        Kind::Con => false,
+        Kind::Seq => false,
+        Kind::Uni => false,
+    }
+}
+
+/// Paints the jobs, from the first on, that write within one tile alone. None where the first doesn't.
+fn lay_run(
+    alloc: Global,
+    store: &mut Store,
+    jobs: &[(Kind, Job)],
+) -> Result<Option<Laid>, NoMemory>
+    requires checked { All (λ j. checks j.1 ≡ true) jobs.now }
+    requires limits { All (λ j. within_limits j.1 ≡ true) jobs.now }
+    requires under_way { is_some store.old.way ≡ true }
+    ensures some { IfOk result (λ o. IfSome o (λ laid. LaysRun jobs.now laid store.old store.new)) }
+    ensures none { result ≡ Ok None → store.new ≡ store.old }
+    ensures err { OnErr result (store.new ≡ store.old) }
+{
+    let Some(work) = PointWork::run(jobs) else {
+        return Ok(None);
+    };
+    store.paint(alloc, &work)?;
+    Ok(Some(Laid {
+        count: work.job_count(),
+        key: work.key(),
+    }))
+}
+
+/// What the jobs write waits for the group and those above it.
+fn widen_jobs(updates: &mut Updates, group: u16, jobs: &[(Kind, Job)])
+    requires { All (λ j. checks j.1 ≡ true) jobs.now }
+    ensures { updates.new ≡ waiting updates.old.canvas (updates_with_all updates.old.canvas group (writes_of jobs.now) updates.old.patches) }
+{
+    for entry in jobs {
+        widen_all(updates, group, &entry.1);
+    }
+}
