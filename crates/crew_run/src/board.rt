@@ -172,7 +172,8 @@ impl<J: Following + Naming> Board<J> {
     }
 
     /// New work, or one event. While jobs are at work for which the head waits nothing is composed: what they
-    /// change would be composed again.
+    /// change would be composed again. Small jobs are painted in place where the caller is alone; where there
+    /// are workers, each job is painted outside the lock.
     fn take<L: Ledger>(
         &mut self,
         script: &Script,
@@ -186,7 +187,7 @@ impl<J: Following + Naming> Board<J> {
         if self.jobs > 0 && !self.desk.desk().head_may_go() {
             return Ok(Next::Wait);
         }
-        if paint_small(&mut self.desk)? {
+        if self.threads == 1 && paint_small(&mut self.desk)? {
             return Ok(Next::Again);
         }
         match take(self.alloc, &mut self.desk, steps)? {

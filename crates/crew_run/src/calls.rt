@@ -44,7 +44,7 @@ pub(crate) fn take<J: Naming, L: Ledger>(
     }
 }
 
-/// Paints small jobs of the stroke at the head, in one hold of the lock. False where none was painted.
+/// Paints small jobs of the stroke at the head in place. False where it painted none.
 pub(crate) fn paint_small<J: Naming>(desk: &mut StampedDesk<J>) -> Result<bool, NoMemory>
     ensures { KeepsFed desk.old desk.new }
 {

@@ -2,6 +2,7 @@
 use Rattle.std.proofs.Common.{◌≡◌, ℕ, suc, zero, ◌≤◌, true, List, length, refl, arith}
 use Rattle.std.specs.Prelude.{not}
 use Rattle.std.specs.List.{list_all}
+use Rattle.geom_core.specs.Areas.{Area}
 use Rattle.geom_core.specs.Grid.{Key}
 use Rattle.machine_model.specs.State.{State}
 use Rattle.machine_model.specs.MeaningLaws.{is_feed}
@@ -16,8 +17,8 @@ some_events : (place : ℕ) (key : Key) (n : ℕ) → 1 ≤ n → 1 ≤ length (
 some_events place key zero h = h
 some_events place key (suc n) h = omega arith
 
-pub small_goes : (old new : State) (key : Key) → PaintsSmall old key new → GoesOn old new
-small_goes old new key small = record {
-  settles = record { events = small_events small.place key small.count; no_feed = none_fed small.place key small.count; run = small.run };
-  some = some_events small.place key small.count small.some;
+pub small_goes : (old new : State) (bound : Area) → PaintsSmall old bound new → GoesOn old new
+small_goes old new bound small = record {
+  settles = record { events = small_events small.place small.key small.count; no_feed = none_fed small.place small.key small.count; run = small.run };
+  some = some_events small.place small.key small.count small.some;
 }

@@ -7,9 +7,9 @@ use crate::desk::Desk;
 use geom_core::NoMemory;
 
 impl Desk {
-    /// Paints jobs of the stroke at the head here, where no job is at work: the next one and those behind it,
-    /// as many as write within one tile alone and needn't wait for what is to be composed. False where it
-    /// painted none.
+    /// Paints jobs of the stroke at the head in place, where no job is at work: the next one and some behind it
+    /// that write within one tile alone and needn't wait for what is to be composed. For who is alone with the
+    /// desk, since pixels are painted in the call. False where it painted none.
     ///
     /// # Errors
     /// `NoMemory`; all is as it was.
@@ -23,7 +23,7 @@ impl Desk {
     {
         match self.machine.paint_small()? {
             None => Ok(false),
-            Some(_key) => Ok(true),
+            Some(_bound) => Ok(true),
         }
     }
 }

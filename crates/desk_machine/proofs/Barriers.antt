@@ -1,25 +1,28 @@
 -- Jobs before a barrier, and what jobs write one after another.
-use Rattle.std.proofs.Common.{◌≡◌, ℕ, suc, zero, ◌+◌, ◌<◌, ◌≤◌, Bool, true, false, Some, List, [], ◌∷◌, ◌++◌, length, take, drop, get_or, refl, sym, ap, ◌∙◌, subst, arith, eqb}
+use Rattle.std.proofs.Common.{◌≡◌, ℕ, suc, zero, ◌+◌, ◌<◌, ◌≤◌, Bool, true, false, ◌||◌, Some, List, [], ◌∷◌, ◌++◌, length, take, drop, get_or, refl, sym, ap, ◌∙◌, subst, arith, eqb}
 use Rattle.std.specs.Prelude.{All, slice_get}
 use Rattle.std.proofs.lemmas.Bool.Decides.{nat_tests}
-use Rattle.std.proofs.lemmas.List.{drop_more, drop_all, length-take}
-use Rattle.std.proofs.lemmas.List.Elements.{All-take, All-drop}
+use Rattle.std.proofs.lemmas.List.{drop_more, drop_all, length-take, take_all}
+use Rattle.std.proofs.lemmas.Grind.{take_at_read}
+use Rattle.std.proofs.lemmas.List.Elements.{All-append, All-drop, All-from_recursion, All-nil, All-take, All-weaker}
 use Rattle.std.proofs.lemmas.Option.{get_or_from_slice_get}
-use Rattle.geom_core.specs.Areas.{Area}
+use Rattle.geom_core.specs.Areas.{Area, holds}
 use Rattle.geom_core.specs.Grid.{tile, IsWorldKey}
+use Rattle.geom_core.specs.Overlaps.{any_holds, bound}
+use Rattle.geom_core.proofs.Bounds.{bound_first, bound_second}
 use Rattle.doc_model.specs.declared.canvas.Patch.{Patch}
 use Rattle.doc_model.specs.declared.job.Job.{Job}
 use Rattle.doc_model.specs.declared.job.Kind.{Kind}
 use Rattle.doc_model.specs.Jobs.{writes}
 use Rattle.doc_model.specs.Strokes.{Jobs}
-use Rattle.job_core.specs.Points.{Spot, spot, is_within, IsPointJob, IsPointWork, IsRun}
+use Rattle.job_core.specs.Points.{Spot, spot, is_point_op, is_within, IsPointJob, IsPointWork, IsRun}
 use Rattle.job_core.proofs.Runs.{front_taken, front_all}
 use Rattle.desk_steps.specs.Archives.{Archive, with_painted}
 use Rattle.update_queue.specs.Waiting.{Waiting, waiting}
 use Rattle.machine_model.specs.Effects.{updates_with_all, writes_of}
 use Rattle.machine_model.specs.Guards.{is_bar}
 use Rattle.desk_machine.specs.declared.small_jobs.Laid.{Laid}
-use Rattle.desk_machine.specs.SmallJobs.{NoBarBehind, LaysRun}
+use Rattle.desk_machine.specs.SmallJobs.{NoBarBehind, LaysRun, WritesWithin}
 
 -- one more job that is none
 pub no_bar_more : (jobs : Jobs) (i : ℕ) (x : Kind × Job) → x ≡ get_or jobs i x → is_bar x.0 ≡ false → ((k : ℕ) (j : Kind × Job) → suc k < i → slice_get jobs (suc k) ≡ Some j → is_bar j.0 ≡ false)
@@ -51,6 +54,42 @@ widened_more jobs i g x u new whole h at is so_far =
 -- all of them do
 pub widened_all : (jobs : Jobs) (i g : ℕ) (u whole : Waiting) → length jobs ≤ i → waiting u.canvas (updates_with_all u.canvas g (writes_of (drop i jobs)) u.patches) ≡ whole → u ≡ whole
 widened_all jobs i g u whole h so_far = ap (λ js. waiting u.canvas (updates_with_all u.canvas g (writes_of js) u.patches)) (sym (drop_all i jobs h)) ∙ so_far
+
+-- ---- a rectangle round what jobs write
+
+pub none_bound : (jobs : Jobs) (a : Area) → All (λ (j : Kind × Job). WritesWithin a j.1) (take 0 jobs)
+none_bound jobs a = All-nil (λ (j : Kind × Job). WritesWithin a j.1)
+
+-- one more job's
+pub bound_more : (jobs : Jobs) (i : ℕ) (x : Kind × Job) (a b c : Area) → i < length jobs → x ≡ get_or jobs i x → writes x.1 ≡ b ∷ [] → c ≡ bound a b → All (λ (j : Kind × Job). WritesWithin a j.1) (take i jobs) → All (λ (j : Kind × Job). WritesWithin c j.1) (take (i + 1) jobs)
+bound_more jobs i x a b c h at written is so_far =
+    subst (λ (js : Jobs). All (λ (j : Kind × Job). WritesWithin c j.1) js) (sym longer)
+    (subst (λ (d : Area). All (λ (j : Kind × Job). WritesWithin d j.1) (take i jobs ++ x ∷ [])) (sym is)
+    (All-append (λ (j : Kind × Job). WritesWithin (bound a b) j.1) (take i jobs) (x ∷ [])
+    (All-weaker (λ (j : Kind × Job). WritesWithin a j.1) (λ (j : Kind × Job). WritesWithin (bound a b) j.1) (λ j w p e. bound_first a b p (w p e)) (take i jobs) so_far)
+    (All-from_recursion (λ (j : Kind × Job). WritesWithin (bound a b) j.1) (x ∷ []) (own, tt))))
+  where
+    longer : take (i + 1) jobs ≡ take i jobs ++ x ∷ []
+    longer = (take_at_read jobs i x h).1 ∙ ap (λ (y : Kind × Job). take i jobs ++ y ∷ []) (sym at)
+
+    lone : (t : Bool) → (t || false) ≡ true → t ≡ true
+    lone true e = e
+    lone false e = e
+
+    own : WritesWithin (bound a b) x.1
+    own p e = bound_second a b p (lone (holds b p) (ap (λ (rects : List Area). any_holds rects p) (sym written) ∙ e))
+
+pub all_bound : (jobs : Jobs) (i : ℕ) (a : Area) → length jobs ≤ i → All (λ (j : Kind × Job). WritesWithin a j.1) (take i jobs) → All (λ (j : Kind × Job). WritesWithin a j.1) jobs
+all_bound jobs i a h so_far = subst (λ (js : Jobs). All (λ (j : Kind × Job). WritesWithin a j.1) js) (take_all i jobs h) so_far
+
+-- jobs of a run are point operations
+pub are_points : (jobs front : Jobs) (laid : Laid) (old new : Archive) → front ≡ take laid.count jobs → LaysRun jobs laid old new → All (λ (j : Kind × Job). is_point_op j.1 ≡ true) front
+are_points jobs front laid old new is run = subst (λ (js : Jobs). All (λ (j : Kind × Job). is_point_op j.1 ≡ true) js) (sym is) (All-weaker (λ (j : Kind × Job). IsPointJob laid.key j.1) (λ (j : Kind × Job). is_point_op j.1 ≡ true) (λ j point. point.point_op) (take laid.count jobs) run.each)
+
+pub front_some : (jobs front : Jobs) (laid : Laid) (old new : Archive) → front ≡ take laid.count jobs → LaysRun jobs laid old new → 1 ≤ length front
+front_some jobs front laid old new is run = omega (arith, run.some, run.few, ap length is, length-take laid.count jobs)
+
+-- ---- the front of a list
 
 module _ {A : Type 0} where
   front_there : (n : ℕ) (xs : List A) (i : ℕ) (x : A) → slice_get (take n xs) i ≡ Some x → (i < n) × (slice_get xs i ≡ Some x)

@@ -1,9 +1,12 @@
 -- Jobs that write within one tile alone, painted in place without tickets.
 use Rattle.std.specs.Prelude.{All, ◌≡◌, ◌≤◌, ◌<◌, ℕ, suc, zero, true, false, Some, List, [], ◌∷◌, take, length, slice_get}
 use Rattle.std.specs.Prelude.{Option}
+use Rattle.geom_core.specs.Areas.{Area, holds, Point}
 use Rattle.geom_core.specs.Grid.{Key, tile, IsWorldKey}
+use Rattle.geom_core.specs.Overlaps.{any_holds}
 use Rattle.doc_model.specs.declared.job.Job.{Job}
 use Rattle.doc_model.specs.declared.job.Kind.{Kind}
+use Rattle.doc_model.specs.Jobs.{writes}
 use Rattle.doc_model.specs.Strokes.{Jobs}
 use Rattle.job_core.specs.Points.{IsPointJob, is_within, spot}
 use Rattle.entry_queue.specs.declared.entry.Entry.{Entry}
@@ -22,12 +25,23 @@ abbrev pub small_events : ℕ → Key → ℕ → List Event
 small_events place key zero = []
 small_events place key (suc n) = Start place ∷ Publish place key ∷ End place ∷ small_events place key n
 
--- some jobs of the stroke at the head, the next one first, were painted so
-pub record PaintsSmall (old : State) (key : Key) (new : State) : Type 0 where
+-- each point that the job writes lies in the rectangle
+abbrev pub WritesWithin : Area → Job → Type 0
+WritesWithin bound job = (p : Point) → any_holds (writes job) p ≡ true → holds bound p ≡ true
+
+-- so it is of each job that starts in such a run
+abbrev pub StartsWithin : (bound : Area) (place : ℕ) (key : Key) (n : ℕ) (old new : State) → Run old (small_events place key n) new → Type 0
+StartsWithin bound place key zero old new run = Unit {0}
+StartsWithin bound place key (suc n) old new run = WritesWithin bound run.1.job.1 × StartsWithin bound place key n run.2.2.0 new run.2.2.2
+
+-- some jobs of the stroke at the head, the next one first, were painted so, and all that they write lies in the rectangle
+pub record PaintsSmall (old : State) (bound : Area) (new : State) : Type 0 where
   pub place : ℕ
+  pub key : Key
   pub count : ℕ
   pub some : 1 ≤ count
   pub run : Run old (small_events place key count) new
+  pub within : StartsWithin bound place key count old new run
 
 -- the next job may start, and no job is at work
 pub record IsAlone (s : State) : Type 0 where

@@ -10,6 +10,7 @@ ghost use Rattle.machine_model.specs.UnderWay.{IsOnWay};
 ghost use Rattle.desk_parts.specs.Choices.{IsHeadOf, IsChoice, Tells, acts_now, is_clean, clear_for, runs_at};
 
 use crate::machine::Machine;
+use crate::small_jobs::queued_jobs;
 use desk_parts::{Choice, HeadStroke};
 use desk_work::{is_blocked, some_painter, some_walker};
 use doc_model::{Command, Job, Kind};
@@ -238,11 +239,7 @@ impl Machine {
         ensures value { (t : Stroke) → head_stroke self.now ≡ Some t → result.now ≡ kept_jobs t }
         ensures checked { All (λ job. checks job.1 ≡ true) result.now }
     {
-        match self.queue.head() {
-            Some(Entry::Waiting(stroke)) => stroke.jobs(),
-            Some(Entry::Whole(stroke)) => stroke.jobs(),
-            Some(Entry::Other(_)) | None => &[],
-        }
+        queued_jobs(&self.queue)
     }
 
     /// Whether every entry has its outcome, and nothing is at work or waits.

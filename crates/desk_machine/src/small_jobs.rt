@@ -1,15 +1,15 @@
 //! Small jobs, painted without tickets.
 
-ghost use Rattle.std.specs.Prelude.{All, ◌≡◌, ◌≤◌, ◌<◌, ◌+◌, ℕ, suc, true, false, is_some, Ok, None, Some, IfOk, IfSome, OnErr, length, take, drop, slice_get};
-ghost use Rattle.geom_core.specs.Grid.{IsWorldKey};
+ghost use Rattle.std.specs.Prelude.{All, ◌≡◌, ◌≤◌, ◌<◌, ◌+◌, ◌∷◌, [], ℕ, suc, true, false, is_some, Ok, None, Some, IfOk, IfSome, OnErr, length, take, drop, slice_get};
 ghost use Rattle.doc_model.specs.declared.job.Job.{Job};
 ghost use Rattle.doc_model.specs.declared.job.Kind.{Kind};
-ghost use Rattle.doc_model.specs.Jobs.{checks};
+ghost use Rattle.doc_model.specs.Jobs.{checks, writes};
 ghost use Rattle.doc_model.specs.Lawful.{within_limits};
+ghost use Rattle.job_core.specs.Points.{is_point_op};
 ghost use Rattle.machine_model.specs.Effects.{updates_with_all, writes_of};
 ghost use Rattle.machine_model.specs.Guards.{is_bar as is_barrier};
 ghost use Rattle.update_queue.specs.Waiting.{waiting};
-ghost use Rattle.desk_machine.specs.SmallJobs.{PaintsSmall, IsAlone, NoBarBehind, LaysRun, jobs_in};
+ghost use Rattle.desk_machine.specs.SmallJobs.{PaintsSmall, IsAlone, NoBarBehind, LaysRun, WritesWithin, jobs_in};
 
 use crate::machine::Machine;
 use desk_parts::Choice;
@@ -17,10 +17,13 @@ use desk_steps::Store;
 use desk_work::widen_all;
 use doc_model::{Job, Kind};
 use entry_queue::{Entry, Queue};
-use geom_core::{NoMemory, TileKey};
-use job_core::PointWork;
+use geom_core::{NoMemory, Rect, TileKey};
+use job_core::{PointWork, point_rect};
 use std::alloc::Global;
 use update_queue::Updates;
+
+/// How many jobs are painted in one hold at most: so a hold stays short, and looking for a barrier too.
+const MOST: usize = 64;
 
 /// Jobs that were painted: how many, and in which tile.
 #[derive(Clone, Copy)]
@@ -30,16 +33,15 @@ pub(crate) struct Laid {
 }
 
 impl Machine {
-    /// Paints jobs of the stroke at the head in place, the next one first: as many in a row as write within
+    /// Paints jobs of the stroke at the head in place, the next one first: some in a row that write within
     /// one tile alone and needn't wait for what is to be composed. Each starts in a slot, publishes its tile
-    /// and ends. It tells the tile. None where a job is at work, or the next one mayn't start or is none of
-    /// these.
+    /// and ends. It tells a rectangle round all that they write. None where a job is at work, or the next one
+    /// mayn't start or is none of these.
     ///
     /// # Errors
     /// `NoMemory`; all is as it was.
-    pub fn paint_small(&mut self) -> Result<Option<TileKey>, NoMemory>
-        ensures some { IfOk result (λ o. IfSome o (λ key. PaintsSmall self.old key self.new)) }
-        ensures world { IfOk result (λ o. IfSome o IsWorldKey) }
+    pub fn paint_small(&mut self) -> Result<Option<Rect>, NoMemory>
+        ensures some { IfOk result (λ o. IfSome o (λ bound. PaintsSmall self.old bound self.new)) }
         ensures none { result ≡ Ok None → self.new ≡ self.old }
         ensures err { OnErr result (self.new ≡ self.old) }
     {
@@ -65,10 +67,9 @@ impl Machine {
     }
 
     /// Paints the next job and those behind it.
-    fn paint_run(&mut self) -> Result<Option<TileKey>, NoMemory>
+    fn paint_run(&mut self) -> Result<Option<Rect>, NoMemory>
         requires { IsAlone self.old }
-        ensures some { IfOk result (λ o. IfSome o (λ key. PaintsSmall self.old key self.new)) }
-        ensures world { IfOk result (λ o. IfSome o IsWorldKey) }
+        ensures some { IfOk result (λ o. IfSome o (λ bound. PaintsSmall self.old bound self.new)) }
         ensures none { result ≡ Ok None → self.new ≡ self.old }
         ensures err { OnErr result (self.new ≡ self.old) }
     {
@@ -81,7 +82,7 @@ impl Machine {
                 widen_jobs(&mut self.updates, group, front);
                 self.way = Some(started + laid.count as u32);
                 self.next += laid.count as u64;
-                Ok(Some(laid.key))
+                Ok(Some(bound_of(front)))
             }
             None => Ok(None),
         }
@@ -99,7 +100,8 @@ impl Machine {
     }
 }
 
-/// The jobs of the stroke at the head from an index on, before the first barrier behind the first of them.
+/// The jobs of the stroke at the head from an index on, before the first barrier behind the first of them,
+/// and not too many.
 fn next_jobs(queue: &Queue, from: usize) -> &[(Kind, Job)]
     requires { from ≤ length (jobs_in (slice_get queue.now.left 0)) }
     ensures front { result.now ≡ take (length result.now) (drop from (jobs_in (slice_get queue.now.left 0))) }
@@ -107,22 +109,22 @@ fn next_jobs(queue: &Queue, from: usize) -> &[(Kind, Job)]
     ensures checked { All (λ j. checks j.1 ≡ true) result.now }
     ensures few { from + length result.now ≤ 4096 }
 {
-    let (_, jobs) = kept_jobs(queue).split_at(from);
+    let (_, jobs) = queued_jobs(queue).split_at(from);
     before_bar(jobs)
 }
 
-/// The jobs before the first barrier behind the first of them.
+/// The jobs before the first barrier behind the first of them, and not too many.
 fn before_bar(jobs: &[(Kind, Job)]) -> &[(Kind, Job)]
     ensures front { result.now ≡ take (length result.now) jobs.now }
     ensures few { length result.now ≤ length jobs.now }
     ensures clear { NoBarBehind result.now }
 {
-    let (front, _) = jobs.split_at(first_bar(jobs));
+    let (front, _) = jobs.split_at(count_before_bar(jobs));
     front
 }
 
-/// The jobs of the stroke at the head, or none.
-fn kept_jobs(queue: &Queue) -> &[(Kind, Job)]
+/// The kept jobs of the stroke at the head, or none.
+pub(crate) fn queued_jobs(queue: &Queue) -> &[(Kind, Job)]
     ensures value { result.now ≡ jobs_in (slice_get queue.now.left 0) }
     ensures checked { All (λ j. checks j.1 ≡ true) result.now }
     ensures few { length result.now ≤ 4096 }
@@ -134,17 +136,18 @@ fn kept_jobs(queue: &Queue) -> &[(Kind, Job)]
     }
 }
 
-/// The index of the first barrier behind the first job, or the number of the jobs where none is.
-fn first_bar(jobs: &[(Kind, Job)]) -> usize
+/// How many of the jobs stand before the first barrier behind the first of them, of the first `MOST`.
+fn count_before_bar(jobs: &[(Kind, Job)]) -> usize
     ensures few { result ≤ length jobs.now }
     ensures clear { (i : ℕ) (j : Kind × Job) → suc i < result → slice_get jobs.now (suc i) ≡ Some j → is_barrier j.0 ≡ false }
 {
-    for i in 1..jobs.len() {
+    let most = jobs.len().min(MOST);
+    for i in 1..most {
         if is_bar(jobs[i].0) {
             return i;
         }
     }
-    jobs.len()
+    most
 }
 
 /// Whether the kind is a barrier.
@@ -190,4 +193,30 @@ fn widen_jobs(updates: &mut Updates, group: u16, jobs: &[(Kind, Job)])
     for entry in jobs {
         widen_all(updates, group, &entry.1);
     }
+}
+
+/// A rectangle round all that the jobs write.
+fn bound_of(jobs: &[(Kind, Job)]) -> Rect
+    requires some { 1 ≤ length jobs.now }
+    requires checked { All (λ j. checks j.1 ≡ true) jobs.now }
+    requires points { All (λ j. is_point_op j.1 ≡ true) jobs.now }
+    ensures { All (λ j. WritesWithin result j.1) jobs.now }
+{
+    let mut bound = written(&jobs[0].1);
+    for entry in jobs {
+        bound = bound.bound(&written(&entry.1));
+    }
+    bound
+}
+
+/// The rectangle that a point operation writes.
+fn written(job: &Job) -> Rect
+    requires checked { checks job.now ≡ true }
+    requires point_op { is_point_op job.now ≡ true }
+    ensures { writes job.now ≡ result ∷ [] }
+{
+    let Some(rect) = point_rect(job) else {
+        unreachable!()
+    };
+    rect
 }

@@ -8,7 +8,7 @@ use geom_core::NoMemory;
 use stamp_core::Naming;
 
 impl<J: Naming> StampedDesk<J> {
-    /// Paints jobs of the stroke at the head here, as `Desk::paint_small` does. False where it painted none.
+    /// Paints jobs of the stroke at the head in place, as `Desk::paint_small` does. False where it painted none.
     ///
     /// # Errors
     /// `NoMemory`; all is as it was.

@@ -3,7 +3,7 @@ use Rattle.std.specs.Prelude.{slice_get}
 use Rattle.doc_model.specs.declared.job.Job.{Job}
 use Rattle.doc_model.specs.declared.job.Kind.{Kind}
 use Rattle.machine_model.specs.Guards.{is_bar}
-use Rattle.desk_machine.proofs.small_jobs.first_bar.Given as goal
+use Rattle.desk_machine.proofs.small_jobs.count_before_bar.Given as goal
 
 -- so far none is a barrier
 abbrev pub invariant-loop-i : goal.invariant-loop-i
