@@ -48,7 +48,7 @@ pub(crate) fn take<J: Naming, L: Ledger>(
 pub(crate) fn paint_small<J: Naming>(desk: &mut StampedDesk<J>) -> Result<bool, NoMemory>
     ensures { KeepsFed desk.old desk.new }
 {
-    desk.paint_small()
+    Ok(desk.paint_small()?.is_some())
 }
 
 /// Publishes all tiles of a job, and ends it, in one hold of the lock.

@@ -67,10 +67,9 @@ impl Desk {
         ensures settled { result ≡ Ok false → IsSettled self.old × (self.new ≡ self.old) }
         ensures err { OnErr result (self.new ≡ self.old) }
     {
-        if self.paint_small()? {
-            Ok(true)
-        } else {
-            self.take_on(steps)
+        match self.paint_small()? {
+            Some(_bound) => Ok(true),
+            None => self.take_on(steps),
         }
     }
 

@@ -1,20 +1,21 @@
 //! Small jobs, painted without tickets.
 
-ghost use Rattle.std.specs.Prelude.{◌≡◌, true, false, Ok, OnErr};
-ghost use Rattle.desk_parts.specs.Settles.{GoesOn, Settles};
+ghost use Rattle.std.specs.Prelude.{◌≡◌, Ok, None, IfOk, IfSome, OnErr};
+ghost use Rattle.desk_machine.specs.SmallJobs.{PaintsSmall};
+ghost use Rattle.desk_parts.specs.Settles.{Settles};
 
 use crate::desk::StampedDesk;
-use geom_core::NoMemory;
+use geom_core::{NoMemory, Rect};
 use stamp_core::Naming;
 
 impl<J: Naming> StampedDesk<J> {
-    /// Paints jobs of the stroke at the head in place, as `Desk::paint_small` does. False where it painted none.
+    /// Paints jobs of the stroke at the head in place, as `Desk::paint_small` does. None where it painted none.
     ///
     /// # Errors
     /// `NoMemory`; all is as it was.
-    pub fn paint_small(&mut self) -> Result<bool, NoMemory>
-        ensures on { result ≡ Ok true → GoesOn self.old self.new }
-        ensures none { result ≡ Ok false → self.new ≡ self.old }
+    pub fn paint_small(&mut self) -> Result<Option<Rect>, NoMemory>
+        ensures some { IfOk result (λ o. IfSome o (λ bound. PaintsSmall self.old bound self.new)) }
+        ensures none { result ≡ Ok None → self.new ≡ self.old }
         ensures err { OnErr result (self.new ≡ self.old) }
         ensures runs { Settles self.old self.new }
         ensures canvas { self.new.canvas ≡ self.old.canvas }
