@@ -14,3 +14,5 @@ mod looks;
 mod meets;
 #[cfg(test)]
 mod painted;
+#[cfg(test)]
+mod small;
