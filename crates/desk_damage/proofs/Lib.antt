@@ -6,4 +6,4 @@ pub mod Tracking
 pub mod Telling
 pub mod Growing
 pub mod Forgetting
-pub mod SmallTiles
+mod SmallJobs

@@ -3,7 +3,7 @@ use Rattle.std.specs.Prelude.{IfSome}
 use Rattle.geom_core.specs.Overlaps.{any_holds}
 use Rattle.tile_core.specs.Damage.{is_damaged}
 use Rattle.desk_machine.specs.SmallJobs.{PaintsSmall}
-use Rattle.desk_damage.proofs.SmallTiles.{small_tracks}
+use Rattle.desk_damage.proofs.SmallJobs.{small_tracks}
 use Rattle.desk_damage.proofs.tracked.TrackedMachine.paint_small.Goals as goal
 
 pub invariant_of-self-in-Some : goal.invariant_of-self-in-Some
