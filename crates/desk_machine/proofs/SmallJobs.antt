@@ -334,7 +334,7 @@ one_desk d place key t n g j desk may = record {
     notes k = set.contains-insert key_cmp_total w.keys key k ∙ ap (λ b. same_key k key || b) (w.notes k) ∙ ap (λ b. b || noted (kept_jobs t) (state_of d).slots n k) (sym (own k))
 
 -- so many jobs in a row, which write within a rectangle alone
-abbrev RunWithin : Area → ℕ → Key → ℕ → State → State → Type 0
+abbrev pub RunWithin : Area → ℕ → Key → ℕ → State → State → Type 0
 RunWithin bound place key m old new = (run : Run old (small_events place key m) new) × StartsWithin bound place key m old new run
 
 more_within : (d : Parts) (place : ℕ) (key : Key) (t : Stroke) (n g : ℕ) (j : Kind × Job) (bound : Area) (m : ℕ) (new : State) → MayPaint d place key t n g j → WritesWithin bound j.1 → RunWithin bound place key m (ended d t place key n j) new → RunWithin bound place key (suc m) (state_of d) new
@@ -459,7 +459,7 @@ more_is d key t n g j jobs w = λ i. record d {
     more m l = omega arith
 
 -- the desk stays one by a run of such jobs
-record IsSmallRun (d new : Parts) (bound : Area) (place : ℕ) (key : Key) (m : ℕ) : Type 0 where
+pub record IsSmallRun (d new : Parts) (bound : Area) (place : ℕ) (key : Key) (m : ℕ) : Type 0 where
   pub desk : IsDesk new
   pub run : RunWithin bound place key m (state_of d) (state_of new)
 
