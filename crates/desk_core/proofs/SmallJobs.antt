@@ -1,12 +1,13 @@
 -- Small jobs that were painted are events other than feeding.
-use Rattle.std.proofs.Common.{◌≡◌, ℕ, suc, zero, ◌≤◌, true, List, length, refl, arith}
-use Rattle.std.specs.Prelude.{not}
+use Rattle.std.proofs.Common.{◌≡◌, ℕ, suc, zero, ◌≤◌, true, Option, Some, None, Result, Ok, Err, OnErr, List, length, refl, arith}
+use Rattle.std.specs.Prelude.{not, IfOk, IfSome}
 use Rattle.std.specs.List.{list_all}
 use Rattle.geom_core.specs.Areas.{Area}
 use Rattle.geom_core.specs.Grid.{Key}
 use Rattle.machine_model.specs.State.{State}
 use Rattle.machine_model.specs.MeaningLaws.{is_feed}
-use Rattle.desk_parts.specs.Settles.{GoesOn}
+use Rattle.desk_parts.specs.Settles.{GoesOn, Settles}
+use Rattle.desk_parts.proofs.SettlingRuns.{settles_none}
 use Rattle.desk_machine.specs.SmallJobs.{PaintsSmall, small_events}
 
 none_fed : (place : ℕ) (key : Key) (n : ℕ) → list_all (λ e. not (is_feed e)) (small_events place key n) ≡ true
@@ -22,3 +23,9 @@ small_goes old new bound small = record {
   settles = record { events = small_events small.place small.key small.count; no_feed = none_fed small.place small.key small.count; run = small.run };
   some = some_events small.place small.key small.count small.some;
 }
+
+-- or none were
+pub small_settles : {E : Type 0} (old new : State) (r : Result (Option Area) E) → IfOk r (λ o. IfSome o (λ bound. PaintsSmall old bound new)) → (r ≡ Ok None → new ≡ old) → OnErr r (new ≡ old) → Settles old new
+small_settles old new (Ok (Some bound)) some none err = (small_goes old new bound some).settles
+small_settles old new (Ok None) some none err = settles_none old new (none refl)
+small_settles old new (Err e) some none err = settles_none old new err

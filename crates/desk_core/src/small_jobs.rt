@@ -23,9 +23,6 @@ impl Desk {
         ensures canvas { self.new.canvas ≡ self.old.canvas }
         ensures fed { self.new.fed ≡ self.old.fed }
     {
-        match self.machine.paint_small()? {
-            Some(bound) => Ok(Some(bound)),
-            None => Ok(None),
-        }
+        self.machine.paint_small()
     }
 }
