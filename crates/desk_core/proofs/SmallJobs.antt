@@ -1,5 +1,5 @@
 -- Small jobs that were painted are events other than feeding.
-use Rattle.std.proofs.Common.{◌≡◌, ℕ, suc, zero, ◌≤◌, true, Option, Some, None, Result, Ok, Err, OnErr, List, length, refl, arith}
+use Rattle.std.proofs.Common.{◌≡◌, ℕ, suc, zero, ◌≤◌, true, Option, Some, None, Result, Ok, Err, OnErr, length, refl, arith}
 use Rattle.std.specs.Prelude.{not, IfOk, IfSome}
 use Rattle.std.specs.List.{list_all}
 use Rattle.geom_core.specs.Areas.{Area}

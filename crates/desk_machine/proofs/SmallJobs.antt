@@ -5,22 +5,20 @@ use Rattle.std.specs.Prelude.{All, IfSome, ℤ, pos, ◌+ℤ◌, ◌*ℤ◌, int
 use Rattle.std.proofs.lemmas.List.{length-take-le}
 use Rattle.std.proofs.lemmas.List.Elements.{All-from_recursion, recursion_from_All}
 use Rattle.std.specs.Option.{unwrap_or}
-use Rattle.std.specs.List.{list_any, list_all, AllByRecursion}
+use Rattle.std.specs.List.{list_any, AllByRecursion}
 use Rattle.std.specs.FinSet as set
 use Rattle.std.specs.FinSet.{FinSet}
 use Rattle.pixel_core.specs.Rgba.{clear}
 use Rattle.geom_core.specs.Areas.{Area, lies_in}
-use Rattle.geom_core.specs.Grid.{Key, key_cmp, key_cmp_total, key_cmp-IsAntisymmetric, key_of, same_key, tile, all_keys_of}
+use Rattle.geom_core.specs.Grid.{Key, key_cmp, key_cmp_total, key_cmp-IsAntisymmetric, same_key, tile, all_keys_of}
 use Rattle.geom_core.proofs.Tests.{and_left, and_right, not_true, or_left}
 use Rattle.geom_core.proofs.Tiles.{key_same, key_is}
-use Rattle.doc_model.specs.declared.canvas.Patch.{Patch}
 use Rattle.doc_model.specs.declared.job.Job.{Job}
 use Rattle.doc_model.specs.declared.job.Job.TheVariants.{Fill, Dab, Move, Blur, Track}
 use Rattle.doc_model.specs.declared.job.Kind.{Kind}
 use Rattle.doc_model.specs.Adjusting.{each, adjusted}
 use Rattle.doc_model.specs.Forest.{Forest, none, paint, group, content, with_content}
 use Rattle.doc_model.specs.Jobs.{reads, writes, square}
-use Rattle.doc_model.specs.Laws.{SameOn}
 use Rattle.doc_model.specs.Layers.{Layer, plain}
 use Rattle.doc_model.specs.Lawful.{within_limits}
 use Rattle.doc_model.specs.Picture.{Doc, canvas_area}
@@ -30,7 +28,7 @@ use Rattle.doc_model.specs.Strokes as strokes
 use Rattle.doc_model.specs.Strokes.{Jobs, Stroke, Fate, Open, Ended, Cancelled, Strokes, Changes, Undoes, Redoes, Purges, Exports}
 use Rattle.doc_model.proofs.Contents.{adjusted-with_content, content-with_content}
 use Rattle.doc_model.proofs.Shots.{shot_same}
-use Rattle.job_core.specs.Points.{is_point_op, is_within, painted_in, all_painted_in, spot, IsPointJob}
+use Rattle.job_core.specs.Points.{is_within, painted_in, all_painted_in, spot, IsPointJob}
 use Rattle.job_core.proofs.Values.{HasPoints, one_met, some_of_limits}
 use Rattle.job_core.proofs.Keys.{square_some}
 use Rattle.update_queue.specs.Waiting.{Waiting, waiting}

@@ -1,5 +1,5 @@
 -- Jobs that write within one tile alone, painted in place without tickets.
-use Rattle.std.specs.Prelude.{All, ◌≡◌, ◌≤◌, ◌<◌, ℕ, suc, zero, true, false, Some, List, [], ◌∷◌, take, length, slice_get}
+use Rattle.std.specs.Prelude.{All, ◌≡◌, ◌≤◌, ℕ, suc, zero, true, false, Some, List, [], ◌∷◌, take, length, slice_get}
 use Rattle.std.specs.Prelude.{Option}
 use Rattle.geom_core.specs.Areas.{Area, holds, Point}
 use Rattle.geom_core.specs.Grid.{Key, tile, IsWorldKey}

@@ -163,11 +163,7 @@ fn is_bar(kind: Kind) -> bool
 }
 
 /// Paints the jobs, from the first on, that write within one tile alone. None where the first doesn't.
-fn lay_run(
-    alloc: Global,
-    store: &mut Store,
-    jobs: &[(Kind, Job)],
-) -> Result<Option<Laid>, NoMemory>
+fn lay_run(alloc: Global, store: &mut Store, jobs: &[(Kind, Job)]) -> Result<Option<Laid>, NoMemory>
     requires checked { All (λ j. checks j.1 ≡ true) jobs.now }
     requires limits { All (λ j. within_limits j.1 ≡ true) jobs.now }
     requires under_way { is_some store.old.way ≡ true }
