@@ -33,7 +33,7 @@ use Rattle.script_text.specs.Script.{Contents}
 use Rattle.solo_run.specs.Told.{IsReady}
 use Rattle.solo_run.proofs.Stories.{as_stroke, told_laid, IsNext, next_entry, ready_next, holds_at, told_next, told_none, told_all_left}
 use Rattle.across.specs.declared.telling.Telling.{Telling}
-use Rattle.solo_run.specs.Painting.{jobs_only}
+use Rattle.in_place.specs.Painting.{jobs_only}
 use Rattle.across.specs.Steps.{job_sound}
 use Rattle.across.specs.Tellings.{GoesOn, Ends, HasCome, Tells, story_of}
 use Rattle.across.proofs.Filling.{Shape}

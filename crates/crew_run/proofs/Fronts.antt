@@ -9,7 +9,7 @@ use Rattle.doc_model.specs.Strokes.{Entry, fed, all_fed, entries}
 use Rattle.doc_model.specs.Lawful.{is_closed_entry, lawful_after, may_follow}
 use Rattle.script_text.specs.Script.{Contents}
 use Rattle.script_text.specs.Closed.{is_script}
-use Rattle.solo_run.proofs.Fronts.{take_more, take_all}
+use Rattle.in_place.proofs.Fronts.{take_more, take_all}
 use Rattle.solo_run.proofs.Scripts.{script_holds}
 
 -- a front and the next item

@@ -11,7 +11,7 @@ use Rattle.doc_model.specs.Lawful.{is_closed_entry, lawful, lawful_after, may_fo
 use Rattle.script_text.specs.Script.{Contents}
 use Rattle.script_text.specs.Closed.{is_script}
 use Rattle.solo_run.proofs.Scripts.{script_holds}
-use Rattle.solo_run.proofs.Fronts.{item_at}
+use Rattle.in_place.proofs.Fronts.{item_at}
 use Rattle.desk_work.proofs.KeyLists.{key_in_one}
 
 pub limits_of : (s : Contents) → is_script s ≡ true → IsOfLimits s.canvas

@@ -36,8 +36,8 @@ use Rattle.export_core.proofs.Staying.{picture_reached, picture_with}
 use Rattle.desk_steps.specs.declared.reach.Reach as told
 use Rattle.geom_core.specs.Touches.{HasTouched}
 use Rattle.desk_steps.specs.Archives.{Archive, IsArchive, IsUnderWay, Way, TellsReach, TellsFirst, undone, redone}
-use Rattle.solo_run.proofs.Fronts.{take_more}
-use Rattle.solo_run.specs.Painting.{jobs_only}
+use Rattle.in_place.proofs.Fronts.{take_more}
+use Rattle.in_place.specs.Painting.{jobs_only}
 use Rattle.solo_run.specs.Stale.{DamagesRects, DamagesReach, DamagesChanges, IsAll, if_any}
 
 never : true ≡ false → ⊥

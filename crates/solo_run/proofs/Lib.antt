@@ -1,11 +1,5 @@
 pub mod Fronts
 pub mod Damaged
 pub mod LooksAlike
-pub mod Once
-pub mod Published
-pub mod Points
-pub mod Circles
-pub mod Left
 pub mod Scripts
 pub mod Stories
-pub mod Runs

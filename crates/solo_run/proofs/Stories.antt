@@ -50,12 +50,12 @@ use Rattle.entry_queue.proofs.Standing.{lawful_split, leaves_closed}
 use Rattle.entry_queue.proofs.Taking.{Fits, kept_fit, lawful_fits}
 use Rattle.desk_steps.specs.Archives as archives
 use Rattle.desk_steps.specs.Archives.{Archive, IsArchive, finished, shape}
-use Rattle.solo_run.proofs.Fronts.{take_more}
+use Rattle.in_place.proofs.Fronts.{take_more}
 use Rattle.solo_run.proofs.Damaged.{all_damages, stroke_damages}
 use Rattle.solo_run.proofs.LooksAlike.{unseen_same, unseen_shape}
 use Rattle.solo_run.specs.Unseen.{is_unseen}
 use Rattle.solo_run.specs.declared.solo.Solo.{Solo}
-use Rattle.solo_run.specs.Painting.{Paints, PaintsOn, jobs_only}
+use Rattle.in_place.specs.Painting.{Paints, PaintsOn, jobs_only}
 use Rattle.script_text.specs.Script.{Contents}
 use Rattle.ppm_out.specs.Sides.{HasSides}
 use Rattle.solo_run.specs.Shows.{Shows}

@@ -1,8 +1,6 @@
 //! Painting a whole script on the caller's own thread.
 #![tactic(auto)]
 
-mod circle;
-mod one_tile;
 mod run;
 mod solo;
 mod steps;

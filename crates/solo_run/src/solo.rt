@@ -17,13 +17,14 @@ ghost use Rattle.entry_queue.specs.Pushed.{queued};
 ghost use Rattle.solo_run.specs.Told.{Ends, GoesOn, IsReady, Rests, story_of};
 
 use crate::steps;
-use crate::strokes::{damage_jobs, paint_jobs};
+use crate::strokes::damage_jobs;
 use crate::unseen::is_unseen;
 use desk_steps::{Begun, Store, TreeRefusal};
 use doc_model::{Canvas, Change, Command, Job, Kind, Outcome};
 use entry_queue::Entry;
 use export_core::{frame_after, frame_of};
 use geom_core::NoMemory;
+use in_place::paint_jobs;
 use std::alloc::Global;
 use stroke_core::ClosedStroke;
 use tile_core::{Damage, Film, Frame};

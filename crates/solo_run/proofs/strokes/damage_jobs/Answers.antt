@@ -1,7 +1,7 @@
 use Rattle.std.proofs.Common.{subst}
 use Rattle.machine_model.specs.Effects.{writes_of}
 use Rattle.solo_run.specs.Stale.{DamagesRects}
-use Rattle.solo_run.proofs.Fronts.{item_at, take_all}
+use Rattle.in_place.proofs.Fronts.{item_at, take_all}
 use Rattle.solo_run.proofs.Damaged.{damages_none, job_damaged}
 use Rattle.solo_run.proofs.strokes.damage_jobs.Goals as goal
 

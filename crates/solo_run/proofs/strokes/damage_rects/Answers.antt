@@ -1,6 +1,6 @@
 use Rattle.std.proofs.Common.{subst}
 use Rattle.solo_run.specs.Stale.{DamagesRects}
-use Rattle.solo_run.proofs.Fronts.{item_at, take_all}
+use Rattle.in_place.proofs.Fronts.{item_at, take_all}
 use Rattle.solo_run.proofs.Damaged.{damages_none, rect_damaged}
 use Rattle.solo_run.proofs.strokes.damage_rects.Goals as goal
 
