@@ -10,7 +10,7 @@ use Rattle.doc_model.specs.Lawful.{is_closed_entry, lawful_after, may_follow}
 use Rattle.script_text.specs.Script.{Contents}
 use Rattle.script_text.specs.Closed.{is_script}
 use Rattle.in_place.proofs.Fronts.{take_more, take_all}
-use Rattle.solo_run.proofs.Scripts.{script_holds}
+use Rattle.script_text.proofs.Scripts.{script_holds}
 
 -- a front and the next item
 pub one_more : {X : Type 0} (xs fed : List X) (i : ℕ) (x : X) → fed ≡ take i xs → slice_get xs i ≡ Some x → fed ++ x ∷ [] ≡ take (i + 1) xs

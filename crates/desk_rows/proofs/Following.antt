@@ -10,7 +10,7 @@ use Rattle.doc_model.specs.Strokes.{Entry, fed, all_fed, entries}
 use Rattle.doc_model.specs.Lawful.{is_closed_entry, lawful, lawful_after, may_follow}
 use Rattle.script_text.specs.Script.{Contents}
 use Rattle.script_text.specs.Closed.{is_script}
-use Rattle.solo_run.proofs.Scripts.{script_holds}
+use Rattle.script_text.proofs.Scripts.{script_holds}
 use Rattle.in_place.proofs.Fronts.{item_at}
 use Rattle.desk_work.proofs.KeyLists.{key_in_one}
 

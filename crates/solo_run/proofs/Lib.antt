@@ -1,5 +1,4 @@
 pub mod Fronts
 pub mod Damaged
 pub mod LooksAlike
-pub mod Scripts
 pub mod Stories

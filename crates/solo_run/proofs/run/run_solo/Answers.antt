@@ -6,7 +6,7 @@ use Rattle.entry_queue.specs.Pushed.{Pending}
 use Rattle.entry_queue.proofs.Taking.{takes_lawful}
 use Rattle.in_place.proofs.Fronts.{item_at, take_all, take_more}
 use Rattle.solo_run.proofs.Fronts.{lawful_next}
-use Rattle.solo_run.proofs.Scripts.{script_holds}
+use Rattle.script_text.proofs.Scripts.{script_holds}
 use Rattle.solo_run.proofs.Stories.{come_fed, come_none, come_shows}
 use Rattle.solo_run.specs.Shows.{Shows}
 use Rattle.solo_run.specs.Told.{HasCome}
