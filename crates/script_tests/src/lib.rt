@@ -9,8 +9,6 @@ mod fixtures;
 #[cfg(test)]
 mod generated;
 #[cfg(test)]
-mod painted;
-#[cfg(test)]
 mod pictures;
 #[cfg(test)]
 mod scripts;

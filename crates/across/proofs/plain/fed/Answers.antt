@@ -3,7 +3,7 @@ use Rattle.std.specs.Prelude.{slice_get}
 use Rattle.entry_queue.specs.Pushed.{Pending, StandsFor}
 use Rattle.entry_queue.proofs.Taking.{takes_lawful}
 use Rattle.in_place.proofs.Fronts.{item_at, take_more}
-use Rattle.solo_run.proofs.Fronts.{lawful_next}
+use Rattle.across.proofs.Fronts.{lawful_next}
 use Rattle.across.proofs.plain.fed.Goals as goal
 
 pub push-requires : goal.push-requires

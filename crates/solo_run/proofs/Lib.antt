@@ -1,4 +1,0 @@
-pub mod Fronts
-pub mod Damaged
-pub mod LooksAlike
-pub mod Stories
