@@ -36,9 +36,9 @@ impl Gate for Meet {
     }
 }
 
-/// A stroke of two concurrent fills, each of two tiles.
+/// A stroke of two concurrent fills, each of several tiles.
 const TWO_FILLS: &[u8] =
-    b"canvas 256 1\nlayer 1 0 0\nstroke 1 1\nfill 1 con 0 0 128 1 ff0000ff over 255\nfill 1 con 128 0 128 1 0000ffff over 255\nend 1\nexport\n";
+    b"canvas 64 1\nlayer 1 0 0\nstroke 1 1\nfill 1 con 0 0 200 200 ff0000ff over 255\nfill 1 con 200 0 200 200 0000ffff over 255\nend 1\nexport\n";
 
 /// Whether the second job was entered while the first was held, by these words.
 fn meets<R: Threads + Wait + Sync>(rt: &R, alloc: Global, words: &str) -> Result<bool, Fail> {
@@ -47,7 +47,7 @@ fn meets<R: Threads + Wait + Sync>(rt: &R, alloc: Global, words: &str) -> Result
         met: AtomicU64::new(0),
     };
     let source = source_of(alloc, TWO_FILLS)?;
-    let out = sink_of(alloc, 1024)?;
+    let out = sink_of(alloc, 256)?;
     let got = ran_at(rt, alloc, words, source, out, sink_of(alloc, 128)?, &gate)?;
     Ok(got.code == 0 && gate.met.load(Ordering::SeqCst) == 1)
 }
