@@ -30,13 +30,12 @@ use Rattle.entry_queue.specs.Pushed.{Pending, StandsFor, queued}
 use Rattle.desk_steps.specs.Archives.{shape}
 use Rattle.doc_model.proofs.SameTree.{has_each}
 use Rattle.script_text.specs.Script.{Contents}
-use Rattle.solo_run.specs.Told.{IsReady}
-use Rattle.solo_run.proofs.Stories.{as_stroke, told_laid, IsNext, next_entry, ready_next, holds_at, told_next, told_none, told_all_left}
 use Rattle.across.specs.declared.telling.Telling.{Telling}
-use Rattle.solo_run.specs.Painting.{jobs_only}
+use Rattle.in_place.specs.Painting.{jobs_only}
 use Rattle.across.specs.Steps.{job_sound}
-use Rattle.across.specs.Tellings.{GoesOn, Ends, HasCome, Tells, story_of}
+use Rattle.across.specs.Tellings.{GoesOn, Ends, HasCome, IsReady, Tells, story_of}
 use Rattle.across.proofs.Filling.{Shape}
+use Rattle.across.proofs.Queued.{as_stroke, told_laid, IsNext, next_entry, ready_next, holds_at, told_next, told_none, told_all_left}
 
 -- a stroke that was laid
 pub laid_ends : {E : Type 0} (old new : Telling) (e : doc.Entry) (c : Closed) (r : Result Outcome E) → queued e ≡ Whole c → c.stroke.overlap ≡ None → c.cancelled ≡ false

@@ -15,7 +15,7 @@ use Rattle.doc_model.specs.declared.tree.TreeFault.{TreeFault}
 use Rattle.machine_model.specs.Effects.{layer_in}
 use Rattle.desk_steps.proofs.Filled.{each_same, content_by, content_each, with_content_each, after, with_contents, changed_each}
 use Rattle.across.specs.declared.layer.Step.{Step}
-use Rattle.solo_run.specs.Painting.{jobs_only}
+use Rattle.in_place.specs.Painting.{jobs_only}
 use Rattle.across.specs.Steps.{layer_after}
 use Rattle.across.specs.Documents.{filled, with_fresh}
 use Rattle.across.proofs.Layered.{Laid}

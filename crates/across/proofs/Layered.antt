@@ -19,7 +19,7 @@ use Rattle.doc_model.specs.Strokes.{Jobs}
 use Rattle.across.specs.declared.layer.Step.{Step}
 use Rattle.across.specs.declared.layer.Deed.{Deed}
 use Rattle.across.specs.declared.layer.Deed.TheVariants.{Paint}
-use Rattle.solo_run.specs.Painting.{jobs_only}
+use Rattle.in_place.specs.Painting.{jobs_only}
 use Rattle.across.specs.Steps.{done, layer_after, is_sound, job_sound}
 
 apply_last : (js : List Job) (j : Job) (layer : Layer) → apply j (apply_all js layer) ≡ apply_all (js ++ j ∷ []) layer

@@ -1,6 +1,9 @@
 pub mod Points
 pub mod Layered
 pub mod Filling
+pub mod NextNodes
 pub mod Pictured
 pub mod Entries
 pub mod Dabbed
+pub mod Fronts
+pub mod Queued

@@ -13,10 +13,10 @@ use Rattle.doc_model.specs.Picture.{Doc, laid, picture}
 use Rattle.machine_model.specs.Groups.{nodes_in}
 use Rattle.machine_model.specs.Effects.{layer_in}
 use Rattle.desk_steps.specs.Archives.{shape}
-use Rattle.export_core.specs.Pieces.{node_pixel}
+use Rattle.across.specs.Pictures.{node_pixel}
 use Rattle.doc_model.proofs.SameTree.{child_each, child_count_each}
 use Rattle.doc_model.proofs.NextChildren.{none_next, upper_all}
-use Rattle.export_core.proofs.NextNodes.{IsNext}
+use Rattle.across.proofs.NextNodes.{IsNext}
 use Rattle.across.proofs.Filling.{Shape}
 
 -- where no child is read, none stands next

@@ -3,7 +3,7 @@ use Rattle.std.proofs.Common.{◌≡◌, ℕ, suc, zero, ◌+◌, ◌*◌, add-o
 use Rattle.std.specs.Prelude.{ℤ, pos, ◌+ℤ◌, slice_get}
 use borrow.Author.Differences.{ints}
 use Rattle.std.proofs.lemmas.List.{append_assoc, map-append, length-append}
-use Rattle.solo_run.proofs.Fronts.{take_more, take_all}
+use Rattle.in_place.proofs.Fronts.{take_more, take_all}
 use Rattle.geom_core.specs.Areas.{Area, row, rows, points_of, Point, point}
 use Rattle.across.specs.declared.spots.Spot.{Spot}
 use Rattle.across.specs.Steps.{point_of}

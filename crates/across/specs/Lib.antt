@@ -1,4 +1,5 @@
 pub mod Steps
 pub mod Means
 pub mod Documents
+pub mod Pictures
 pub mod Tellings

@@ -10,7 +10,7 @@ ghost use Rattle.doc_model.specs.Laws.{IsDocument};
 ghost use Rattle.machine_model.specs.Effects.{layer_in};
 ghost use Rattle.desk_steps.specs.Archives.{shape};
 ghost use Rattle.across.specs.Steps.{point_of, is_sound, job_sound, layer_after};
-ghost use Rattle.solo_run.specs.Painting.{jobs_only};
+ghost use Rattle.in_place.specs.Painting.{jobs_only};
 ghost use Rattle.across.specs.Documents.{with_fresh};
 
 use crate::layer::{Deed, Step, pixel_after, with_front, with_jobs};

@@ -10,7 +10,7 @@ ghost use Rattle.doc_model.specs.declared.job.Job.TheVariants.{Move, Blur};
 ghost use Rattle.doc_model.specs.Layers.{at};
 ghost use Rattle.doc_model.specs.Trails.{centres};
 ghost use Rattle.across.specs.Steps.{point_of, layer_after, is_sound, job_sound};
-ghost use Rattle.solo_run.specs.Painting.{jobs_only};
+ghost use Rattle.in_place.specs.Painting.{jobs_only};
 
 use crate::mean::mean_of;
 use crate::spots::{Spot, spots_of};

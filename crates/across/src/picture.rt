@@ -8,7 +8,7 @@ ghost use Rattle.doc_model.specs.Laws.{IsDocument};
 ghost use Rattle.doc_model.specs.Picture.{picture, laid, frame};
 ghost use Rattle.machine_model.specs.Groups.{nodes_in};
 ghost use Rattle.pixel_core.specs.Compose.{on_paper as on_paper_of};
-ghost use Rattle.export_core.specs.Pieces.{node_pixel};
+ghost use Rattle.across.specs.Pictures.{node_pixel};
 ghost use Rattle.across.specs.Steps.{point_of};
 
 use crate::document::Document;

@@ -9,8 +9,7 @@ ghost use Rattle.doc_model.specs.Meaning.{start, laid_stroke, advanced};
 ghost use Rattle.doc_model.specs.Strokes as doc;
 ghost use Rattle.entry_queue.specs.declared.entry.Entry.TheVariants.{Whole, Other};
 ghost use Rattle.entry_queue.specs.Pushed.{queued};
-ghost use Rattle.solo_run.specs.Told.{IsReady};
-ghost use Rattle.across.specs.Tellings.{Ends, GoesOn, story_of};
+ghost use Rattle.across.specs.Tellings.{Ends, GoesOn, IsReady, story_of};
 
 use crate::document::Document;
 use crate::picture::frame_of;

@@ -1,53 +1,72 @@
-//! Who paints: the crew that the words ask for, or the caller alone.
+//! Who paints: the workers that the words ask for, and the caller.
 
 use crate::runs::{ran_at, sink_of, source_of};
 use io_edge::Gate;
+use std::alloc::Global;
+use std::sync::Wait;
 use std::sync::atomic::{AtomicU64, Ordering};
 use std::test::*;
+use std::thread;
+use std::thread::Threads;
 
-/// Counts the jobs that enter it. The crew alone enters a gate.
+/// How many turns a held job waits at most.
+const TURNS: u32 = 4_000_000;
+
+/// Holds the first job until the second was entered, for so many turns at most.
 #[derive(Drop)]
-struct Counter {
+struct Meet {
     entered: AtomicU64,
+    met: AtomicU64,
 }
 
-impl Gate for Counter {
-    fn painting(&self, _stroke: u32, _job: u32) {
-        self.entered.fetch_add(1, Ordering::SeqCst);
+impl Gate for Meet {
+    fn painting(&self, _stroke: u32, job: u32) {
+        if job == 2 {
+            self.entered.store(1, Ordering::SeqCst);
+        }
+        if job == 1 {
+            for _ in 0..TURNS {
+                if self.entered.load(Ordering::SeqCst) == 1 {
+                    self.met.store(1, Ordering::SeqCst);
+                    return;
+                }
+                thread::yield_now();
+            }
+        }
     }
 }
 
-/// A done stroke of three jobs, two of them large, and one of a single job.
-const FOUR_JOBS: &[u8] =
-    b"canvas 64 1\nlayer 1 0 0\nstroke 1 1\nfill 1 con 0 0 200 200 ff0000ff over 255\nfill 1 con 200 0 200 200 0000ffff over 255\nblur 1 seq 0 0 8 1 1\nend 1\nstroke 2 1\nfill 2 con 0 0 1 1 00ff00ff over 255\nend 2\nexport\n";
+/// A stroke of two concurrent fills, each of several tiles.
+const TWO_FILLS: &[u8] =
+    b"canvas 64 1\nlayer 1 0 0\nstroke 1 1\nfill 1 con 0 0 200 200 ff0000ff over 255\nfill 1 con 200 0 200 200 0000ffff over 255\nend 1\nexport\n";
 
-/// The same of small jobs, which the caller paints alone.
-const SMALL_JOBS: &[u8] =
-    b"canvas 64 1\nlayer 1 0 0\nstroke 1 1\nfill 1 con 0 0 32 1 ff0000ff over 255\nfill 1 con 32 0 32 1 0000ffff over 255\nend 1\nexport\n";
+/// Whether the second job was entered while the first was held, by these words.
+fn meets<R: Threads + Wait + Sync>(rt: &R, alloc: Global, words: &str) -> Result<bool, Fail> {
+    let gate = Meet {
+        entered: AtomicU64::new(0),
+        met: AtomicU64::new(0),
+    };
+    let source = source_of(alloc, TWO_FILLS)?;
+    let out = sink_of(alloc, 256)?;
+    let got = ran_at(rt, alloc, words, source, out, sink_of(alloc, 128)?, &gate)?;
+    Ok(got.code == 0 && gate.met.load(Ordering::SeqCst) == 1)
+}
 
-/// How many jobs enter the gate by these words: where there are workers and large jobs, each does once.
+/// Two jobs of a run are painted side by side where there are workers, and one after another by the caller
+/// alone.
 #[test]
 fn the_workers_that_are_asked_for(rt: HostRuntime) -> Result<(), Fail> {
-    let alloc = rt.alloc();
-    for (words, script, jobs) in [
-        ("--workers 0", FOUR_JOBS, 0),
-        ("--workers 1", FOUR_JOBS, 4),
-        ("--workers 2", FOUR_JOBS, 4),
-        ("", FOUR_JOBS, 4),
-        ("--workers 16 --emit log", FOUR_JOBS, 4),
-        ("--workers 2 --emit live", FOUR_JOBS, 4),
-        ("--workers 4", SMALL_JOBS, 0),
-    ] {
-        let gate = Counter {
-            entered: AtomicU64::new(0),
-        };
-        let source = source_of(alloc, script)?;
-        let out = sink_of(alloc, 256)?;
-        let got = ran_at(&rt, alloc, words, source, out, sink_of(alloc, 128)?, &gate)?;
-        assert!(rt;
-            got.code == 0 && gate.entered.load(Ordering::SeqCst) == jobs,
-            "{words}"
-        );
+    for _ in 0..40 {
+        for words in [
+            "",
+            "--workers 1",
+            "--workers 2 --emit live",
+            "--workers 8",
+            "--workers 16 --emit log",
+        ] {
+            assert!(rt; meets(&rt, rt.alloc(), words)?, "{words}");
+        }
     }
+    assert!(rt; !meets(&rt, rt.alloc(), "--workers 0")?);
     Ok(())
 }

@@ -2,19 +2,19 @@
 use Rattle.std.proofs.Common.{◌≡◌, ℕ, suc, zero, ◌≤◌, List, [], ◌∷◌, ◌++◌, take, length, Some, true, ◌+◌, refl, ap, sym, ◌∙◌, subst}
 use Rattle.std.specs.Prelude.{slice_get}
 use Rattle.std.specs.List.{list_all}
-use Rattle.std.proofs.lemmas.List.{length-append}
+use Rattle.std.proofs.lemmas.List.{length-append, take_all, take_more}
+use Rattle.std.proofs.lemmas.Option.{get_or_from_slice_get, slice_get_within}
 use Rattle.geom_core.proofs.Tests.{and_left, and_right}
 use Rattle.doc_model.specs.declared.command.Command.{Command}
 use Rattle.doc_model.specs.Strokes.{Entry, fed, all_fed, entries}
 use Rattle.doc_model.specs.Lawful.{is_closed_entry, lawful_after, may_follow}
 use Rattle.script_text.specs.Script.{Contents}
 use Rattle.script_text.specs.Closed.{is_script}
-use Rattle.solo_run.proofs.Fronts.{take_more, take_all}
-use Rattle.solo_run.proofs.Scripts.{script_holds}
+use Rattle.script_text.proofs.Scripts.{script_holds}
 
 -- a front and the next item
 pub one_more : {X : Type 0} (xs fed : List X) (i : ℕ) (x : X) → fed ≡ take i xs → slice_get xs i ≡ Some x → fed ++ x ∷ [] ≡ take (i + 1) xs
-one_more xs fed i x same at = ap (λ zs. zs ++ x ∷ []) same ∙ sym (take_more xs i x at)
+one_more xs fed i x same at = ap (λ zs. zs ++ x ∷ []) same ∙ sym (take_more xs i x (slice_get_within xs i x at) ∙ ap (λ y. take i xs ++ y ∷ []) (get_or_from_slice_get xs i x x at))
 
 -- a front and the next item are a front
 pub front_more : {X : Type 0} (fed xs : List X) (x : X) → fed ≡ take (length fed) xs → slice_get xs (length fed) ≡ Some x → fed ++ x ∷ [] ≡ take (length (fed ++ x ∷ [])) xs
@@ -35,4 +35,4 @@ next_follows s front i c h same at =
 
 -- where all was fed, all strokes are closed
 pub all_fed_closed : (s : Contents) (front : List Command) (n : ℕ) → is_script s ≡ true → front ≡ take n s.commands → length s.commands ≤ n → list_all is_closed_entry (entries front) ≡ true
-all_fed_closed s front n h same all = subst (λ xs. list_all is_closed_entry (entries xs) ≡ true) (sym (same ∙ take_all s.commands n all)) (script_holds s h).closed
+all_fed_closed s front n h same all = subst (λ xs. list_all is_closed_entry (entries xs) ≡ true) (sym (same ∙ take_all n s.commands all)) (script_holds s h).closed

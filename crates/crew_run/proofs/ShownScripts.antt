@@ -11,7 +11,7 @@ use Rattle.ppm_out.specs.Sides.{HasSides}
 use Rattle.machine_model.specs.State.{State, story}
 use Rattle.machine_model.specs.MeaningLaws.{HasMeaning}
 use Rattle.script_text.specs.Script.{Contents, meaning_of}
-use Rattle.solo_run.specs.Shows.{Shows}
+use Rattle.crew_run.specs.Shows.{Shows}
 
 -- the frames and outcomes of a desk that has the script's canvas and commands, and what they mean
 pub shown_is : (d : State) (script : Contents) (scenes : List Scene) (outcomes : List Outcome) → HasMeaning d → d.canvas ≡ script.canvas → d.fed ≡ script.commands

@@ -49,7 +49,7 @@ pub(crate) fn feed_ahead<J: Naming>(desk: &mut StampedDesk<J>, script: &Script) 
 }
 
 /// Feeds what is left of a script, and does all of it on the caller's thread.
-#[tactic(auto, using(crate::proofs::Fronts::one_more, solo_run::proofs::Fronts::take_all, crate::proofs::Fronts::next_follows))]
+#[tactic(auto, using(crate::proofs::Fronts::one_more, std::proofs::lemmas::List::take_all, crate::proofs::Fronts::next_follows))]
 pub(crate) fn finish<L: Ledger>(
     desk: &mut Desk,
     script: &Script,

@@ -12,5 +12,5 @@ mod watching;
 mod work;
 
 pub use crew::{run_crew, run_watched};
-pub use shown::run_shown;
+pub use shown::{Shown, run_shown};
 pub use watching::Watching;

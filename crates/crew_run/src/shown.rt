@@ -1,17 +1,25 @@
 //! What a script shows that a crew has painted.
 
 ghost use Rattle.std.specs.Prelude.{◌≤◌, ◌-◌, ◌^◌, length, IfOk};
-ghost use Rattle.solo_run.specs.Shows.{Shows};
+ghost use Rattle.crew_run.specs.Shows.{Shows};
 
 use crate::crew::run_crew;
 use desk_core::settled_has_meaning;
+use doc_model::Outcome;
 use geom_core::NoMemory;
 use io_edge::Gate;
 use script_text::Script;
-use solo_run::Shown;
 use std::alloc::Global;
 use std::sync::Wait;
 use std::thread::Threads;
+use tile_core::Film;
+
+/// What a painted script gives: a frame for each export, and an outcome for each entry.
+#[derive(Drop)]
+pub struct Shown {
+    pub film: Film,
+    pub outcomes: Vec<Outcome>,
+}
 
 /// Paints a script by so many workers and the caller, and gives the frames and outcomes that it means.
 /// What is promised holds if it returns.

@@ -12,9 +12,11 @@ use io_edge::NoGate;
 use pixel_core::{Op, Pixel};
 use script_text::Script;
 use std::alloc::Global;
+use std::sync::Wait;
 use std::test::Fail;
+use std::thread::Threads;
 use tile_core::Frame;
-use worked_scripts::ROWS;
+use worked_scripts::{ROWS, Row, WIDE};
 
 /// How many drawn scripts are painted.
 const SEEDS: u64 = 60;
@@ -154,11 +156,14 @@ fn any_number_of_workers_paints_what_is_told(rt: HostRuntime) -> Result<(), Fail
     Ok(())
 }
 
-/// Whether the first rows of the frames have these colours, one after another.
-fn rows_show(frames: &[Frame], colours: &[[u8; 3]]) -> bool {
+/// Whether the first rows of the frames have these colours one after another, of each point in so many from
+/// the left.
+fn rows_show(frames: &[Frame], each: usize, colours: &[[u8; 3]]) -> bool
+    requires { 1 ≤ each }
+{
     let mut colours = colours.iter();
     for frame in frames {
-        for x in 0..frame.width() {
+        for x in (0..frame.width()).step_by(each) {
             if frame.height() == 0 || colours.next() != Some(&frame.at(x, 0)) {
                 return false;
             }
@@ -167,14 +172,31 @@ fn rows_show(frames: &[Frame], colours: &[[u8; 3]]) -> bool {
     colours.next().is_none()
 }
 
+/// Whether so many workers paint what the row has, of each point in so many from the left.
+fn is_painted<R: Threads + Wait + Sync>(
+    rt: &R,
+    alloc: Global,
+    row: &Row,
+    each: usize,
+    workers: u8,
+) -> Result<bool, Fail>
+    requires { 1 ≤ each }
+{
+    let script = script_of(alloc, row.script)?;
+    let desk = painted(rt, alloc, &script, workers, &NoGate)?;
+    Ok(desk.outcomes() == row.outcomes && rows_show(desk.frames(), each, row.colours))
+}
+
 #[test]
 fn worked_scripts(rt: HostRuntime) -> Result<(), Fail> {
-    for row in &ROWS {
-        let script = script_of(rt.alloc(), row.script)?;
-        for workers in [0, 1, 4] {
-            let desk = painted(&rt, rt.alloc(), &script, workers, &NoGate)?;
-            assert!(rt; desk.outcomes() == row.outcomes, "{workers} workers");
-            assert!(rt; rows_show(desk.frames(), row.colours), "{workers} workers");
+    for workers in [0, 1, 4] {
+        for row in &ROWS {
+            let shows = is_painted(&rt, rt.alloc(), row, 1, workers)?;
+            assert!(rt; shows, "{workers} workers");
+        }
+        for row in &WIDE {
+            let shows = is_painted(&rt, rt.alloc(), row, 64, workers)?;
+            assert!(rt; shows, "{workers} workers");
         }
     }
     Ok(())

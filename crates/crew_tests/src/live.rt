@@ -4,6 +4,7 @@ ghost use Rattle.live_view.specs.Views.{IsOnCanvas};
 
 use crate::painted::script_of;
 use across::drawn_script;
+use crew_run::Shown;
 use demo_gen::script_of as generated_script;
 use desk_core::Desk;
 use geom_core::TileKey;
@@ -12,7 +13,6 @@ use live_run::{run_live, run_live_shown};
 use live_view::{LiveReader, LiveWriter, open_live};
 use pixel_core::Pixel;
 use script_text::Script;
-use solo_run::Shown;
 use std::alloc::Global;
 use std::process::Abort;
 use std::sync::atomic::{AtomicU64, Ordering};

@@ -1,5 +1,6 @@
 -- Commands of scripts, and keys of rectangles.
-use Rattle.std.proofs.Common.{◌≡◌, ℕ, ◌<◌, get_or, length, true, List, [], ◌∷◌, ◌++◌, subst}
+use Rattle.std.proofs.Common.{◌≡◌, ℕ, ◌<◌, get_or, length, true, List, [], ◌∷◌, ◌++◌, refl, subst}
+use Rattle.std.proofs.lemmas.Option.{slice_get_read}
 use Rattle.std.specs.List.{list_any, list_all}
 use Rattle.geom_core.specs.Areas.{Area}
 use Rattle.geom_core.specs.Grid.{Key, same_key, keys_of, all_keys_of}
@@ -10,8 +11,7 @@ use Rattle.doc_model.specs.Strokes.{Entry, fed, all_fed, entries}
 use Rattle.doc_model.specs.Lawful.{is_closed_entry, lawful, lawful_after, may_follow}
 use Rattle.script_text.specs.Script.{Contents}
 use Rattle.script_text.specs.Closed.{is_script}
-use Rattle.solo_run.proofs.Scripts.{script_holds}
-use Rattle.solo_run.proofs.Fronts.{item_at}
+use Rattle.script_text.proofs.Scripts.{script_holds}
 use Rattle.desk_work.proofs.KeyLists.{key_in_one}
 
 pub limits_of : (s : Contents) → is_script s ≡ true → IsOfLimits s.canvas
@@ -31,4 +31,4 @@ follows s front rest c h same = follows_after [] front rest c (subst (λ cs. law
 
 -- a key of one of the rectangles
 pub key_at : (rects : List Area) (i : ℕ) (r : Area) (k : Key) → i < length rects → r ≡ get_or rects i r → list_any (same_key k) (keys_of r) ≡ true → list_any (same_key k) (all_keys_of rects) ≡ true
-key_at rects i r k below is met = key_in_one rects i r k (item_at rects i r below is) met
+key_at rects i r k below is met = key_in_one rects i r k (slice_get_read rects (length rects) i r refl below is) met

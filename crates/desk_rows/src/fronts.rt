@@ -2,12 +2,13 @@
 
 use crate::fixtures::made;
 use crate::mixed::add_last;
+use crate::scripts::settled;
+use desk_core::Desk;
 use doc_model::{Canvas, Command};
 use geom_core::NoMemory;
-use solo_run::{Shown, run_solo};
 use std::alloc::Global;
 
-/// A painted script whose one frame is the picture of a document after the first so many entries and the
+/// A settled desk whose one frame is the picture of a document after the first so many entries and the
 /// first so many jobs of the next one. None where that isn't a stroke with as many jobs.
 pub(crate) fn painted_front(
     alloc: Global,
@@ -15,10 +16,10 @@ pub(crate) fn painted_front(
     commands: &[Command],
     entries: usize,
     jobs: u32,
-) -> Result<Option<Shown>, NoMemory> {
+) -> Result<Option<Desk>, NoMemory> {
     let front = front(alloc, commands, entries, jobs)?;
     match made(alloc, canvas, front)? {
-        Some(script) => Ok(Some(run_solo(alloc, &script)?)),
+        Some(script) => settled(alloc, &script, 1),
         None => Ok(None),
     }
 }

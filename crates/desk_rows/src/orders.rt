@@ -14,7 +14,6 @@ use doc_model::Job;
 use geom_core::{NoMemory, Rect, TileKey, tile_of};
 use memento_core::Steps;
 use pixel_core::{Pixel, on_paper};
-use solo_run::Shown;
 use std::alloc::Global;
 use std::marker::Brand;
 use std::sync::ledger::{Blank, Ledger};
@@ -43,7 +42,7 @@ struct Laid {
 struct Picture {
     entries: usize,
     jobs: u32,
-    shown: Option<Shown>,
+    shown: Option<Desk>,
 }
 
 /// A desk, what was drawn for it, the tickets that are held, and what was published of jobs.
@@ -201,7 +200,7 @@ impl Driver {
                     shown: Some(shown),
                     ..
                 },
-            ) => is_at(shown.film.newest(), x, y, colours),
+            ) => is_at(shown.frames().last(), x, y, colours),
             _ => false,
         }
     }

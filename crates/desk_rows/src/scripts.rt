@@ -19,7 +19,7 @@ use tile_core::Frame;
 use worked_scripts::{DONE, REFUSED, ROWS, Row, WIDE};
 
 /// A desk with so many slots that was fed with all of the script and has settled. None where it hasn't.
-fn settled(alloc: Global, script: &Script, slots: u8) -> Result<Option<Desk>, NoMemory>
+pub(crate) fn settled(alloc: Global, script: &Script, slots: u8) -> Result<Option<Desk>, NoMemory>
     requires some { 1 ≤ slots }
     requires few { slots ≤ 17 }
 {

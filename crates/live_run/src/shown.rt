@@ -11,12 +11,12 @@ ghost use Rattle.live_run.specs.Showing.{ShowsRoot};
 
 use crate::frames::live_frame;
 use crate::run::run_live;
+use crew_run::Shown;
 use desk_core::{Desk, settled_has_meaning, settled_shows_picture};
 use geom_core::NoMemory;
 use io_edge::Gate;
 use live_view::{LiveWriter, open_live};
 use script_text::Script;
-use solo_run::Shown;
 use std::alloc::Global;
 use std::sync::Wait;
 use std::thread::Threads;

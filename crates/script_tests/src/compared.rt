@@ -1,18 +1,12 @@
-//! Scripts through several crates, against what is told of them plainly.
+//! Scripts through several crates: what a text that is cut off is read as, and strokes of generated scripts.
 
 use crate::fixtures::first_fault;
-use across::{drawn_script, plain_frames};
 use demo_gen::script_of;
 use doc_model::{Command, Job, Kind};
 use script_text::{Cause, read};
-use solo_run::run_solo;
 use std::alloc::Global;
 use std::test::Fail;
 use stroke_core::OpenStroke;
-use tile_core::Frame;
-
-/// How many drawn scripts are painted.
-const SEEDS: u64 = 60;
 
 /// A stroke painted, undone and redone, with an export after each.
 const THERE_AND_BACK: &[u8] =
@@ -75,45 +69,6 @@ fn no_stroke_of_a_generated_script_overlaps(rt: HostRuntime) -> Result<(), Fail>
             strokes_without_overlap(rt.alloc(), number)?,
             40,
             "number {number}"
-        );
-    }
-    Ok(())
-}
-
-/// Whether the frame has these colours, in row order.
-fn shows(frame: &Frame, colours: &[[u8; 3]]) -> bool {
-    let mut colours = colours.iter();
-    for y in 0..frame.height() {
-        for x in 0..frame.width() {
-            if colours.next() != Some(&frame.at(x, y)) {
-                return false;
-            }
-        }
-    }
-    colours.next().is_none()
-}
-
-/// Whether there is a frame for each, with its colours.
-fn all_show(frames: &[Frame], told: &[Vec<[u8; 3]>]) -> bool {
-    frames.len() == told.len()
-        && frames
-            .iter()
-            .zip(told)
-            .all(|(frame, colours)| shows(frame, colours))
-}
-
-#[test]
-fn the_engine_paints_what_is_told(rt: HostRuntime) -> Result<(), Fail> {
-    for seed in 0..SEEDS {
-        let Some(script) = drawn_script(rt.alloc(), seed)? else {
-            return Err("no script".into());
-        };
-        let shown = run_solo(rt.alloc(), &script)?;
-        let told = plain_frames(rt.alloc(), &script)?;
-        assert_eq!(rt; shown.outcomes, told.outcomes, "outcomes of seed {seed}");
-        assert!(rt;
-            all_show(shown.film.frames(), &told.frames),
-            "frames of seed {seed}"
         );
     }
     Ok(())

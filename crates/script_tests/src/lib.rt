@@ -1,5 +1,5 @@
-//! Tests of scripts, from their text to what they paint: texts and pictures worked out from
-//! outside. They stand above the crates that they test, so that each of those is proved once.
+//! Tests of scripts: what their texts are read as, how they are printed, generated ones, and the bytes of
+//! pictures. They stand above the crates that they test, so that each of those is proved once.
 #![tactic(auto)]
 
 #[cfg(test)]
@@ -8,8 +8,6 @@ mod compared;
 mod fixtures;
 #[cfg(test)]
 mod generated;
-#[cfg(test)]
-mod painted;
 #[cfg(test)]
 mod pictures;
 #[cfg(test)]

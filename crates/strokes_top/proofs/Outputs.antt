@@ -17,7 +17,7 @@ use Rattle.log_out.specs.Summary.{sheet_of}
 use Rattle.log_out.specs.Log.{log_text, Sheet, sum_text}
 use Rattle.script_text.specs.Script.{Contents, meaning_of}
 use Rattle.ppm_out.specs.Sides.{HasSides}
-use Rattle.solo_run.specs.Shows.{Shows}
+use Rattle.crew_run.specs.Shows.{Shows}
 use Rattle.strokes_top.specs.declared.choice.Emit.{Emit}
 use Rattle.strokes_top.specs.declared.choice.Emit.TheVariants as emit
 use Rattle.strokes_top.specs.Output.{HasRoom, ShowsFor}

@@ -3,7 +3,7 @@ use Rattle.std.specs.Prelude.{◌≤◌, ◌*◌, ℕ, List, length}
 use Rattle.tile_core.specs.Frames.{Scene}
 use Rattle.doc_model.specs.declared.command.Outcome.{Outcome}
 use Rattle.script_text.specs.Script.{Contents}
-use Rattle.solo_run.specs.Shows.{Shows}
+use Rattle.crew_run.specs.Shows.{Shows}
 use Rattle.live_run.specs.Last.{ShowsLast}
 use Rattle.doc_model.specs.declared.canvas.Canvas.{Canvas}
 use Rattle.strokes_top.specs.declared.choice.Emit.{Emit}

@@ -9,27 +9,23 @@ ghost use Rattle.strokes_top.specs.Run.{IsAnswered, IsFaulty, asks_for_demo, IsO
 ghost use Rattle.strokes_top.specs.Status.{is_done, may_write, told_by};
 ghost use Rattle.strokes_top.specs.Ends.{is_painted};
 ghost use Rattle.doc_model.specs.Meaning.{some_refused as said_refused};
-ghost use Rattle.solo_run.specs.Shows.{Shows};
-ghost use Rattle.live_run.specs.Last.{ShowsLast};
 ghost use Rattle.script_text.specs.Script.{meaning_of};
 ghost use Rattle.strokes_top.specs.Output.{ShowsFor};
 
 use crate::asked::Asked;
 use crate::choice::{ChoiceError, Emit, choice_of};
-use crate::size::is_for_many;
 use crate::source::take_script;
 use crate::status::Status;
 use crate::telling::report;
 use crate::transfer::{CHUNK, LIMIT};
 use crate::words::Words;
 use crate::writing::{room_for, write_output};
-use crew_run::run_shown;
+use crew_run::{Shown, run_shown};
 use doc_model::Outcome;
 use geom_core::NoMemory;
 use io_edge::{Failed, Gate, Sink, Source};
 use live_run::run_live_shown;
 use script_text::Script;
-use solo_run::{Shown, run_solo};
 use std::alloc::Global;
 use std::sync::Wait;
 use std::thread::Threads;
@@ -44,54 +40,11 @@ fn some_refused(outcomes: &[Outcome]) -> bool
 /// How many commands a desk takes at most.
 const MOST: usize = 4_294_967_295;
 
-/// How many workers are to paint the script beside the caller: none where its jobs are small, since the
-/// caller's own way is the quicker one then.
-fn workers_for(script: &Script, asked: u8) -> u8
-    requires { asked ≤ 16 }
-    ensures { result ≤ 16 }
-{
-    if is_for_many(script) { asked } else { 0 }
-}
-
-/// What the script's exports show, painted by so many workers and the caller.
-fn exported<R: Threads + Wait + Sync, G: Gate>(
-    rt: &R,
-    alloc: Global,
-    script: &Script,
-    workers: u8,
-    gate: &G,
-) -> Result<Shown, NoMemory>
-    requires workers { workers ≤ 16 }
-    ensures shows { IfOk result (λ s. Shows script.now s.film s.outcomes.items) }
-{
-    if workers == 0 || script.len() > MOST {
-        run_solo(alloc, script)
-    } else {
-        run_shown(rt, alloc, script, workers, gate)
-    }
-}
-
-/// What a live view shows at the end of the script, painted by so many workers and the caller.
+/// What is asked for of the script, painted by so many workers and the caller: what its exports show, or what
+/// a live view shows at its end.
 ///
 /// # Errors
 /// `NoMemory`, also where there are more commands than a desk takes.
-fn viewed<R: Threads + Wait + Sync, G: Gate>(
-    rt: &R,
-    alloc: Global,
-    script: &Script,
-    workers: u8,
-    gate: &G,
-) -> Result<Shown, NoMemory>
-    requires workers { workers ≤ 16 }
-    ensures shows { IfOk result (λ s. ShowsLast script.now s.film s.outcomes.items) }
-{
-    if script.len() > MOST {
-        return Err(NoMemory);
-    }
-    run_live_shown(rt, alloc, script, workers, gate)
-}
-
-/// What is asked for of the script, painted by as many workers as serve and the caller.
 fn painted<R: Threads + Wait + Sync, G: Gate>(
     rt: &R,
     alloc: Global,
@@ -102,10 +55,14 @@ fn painted<R: Threads + Wait + Sync, G: Gate>(
     ensures shows { IfOk result (λ s. ShowsFor asked.now.choice.emit script.now s.film s.outcomes.items) }
     ensures outcomes { IfOk result (λ s. s.outcomes.items ≡ (meaning_of script.now).outcomes) }
 {
-    let workers = workers_for(script, asked.workers);
+    if script.len() > MOST {
+        return Err(NoMemory);
+    }
     match asked.choice.emit {
-        Emit::Live => viewed(rt, alloc, script, workers, gate),
-        Emit::Picture | Emit::Log | Emit::Sum => exported(rt, alloc, script, workers, gate),
+        Emit::Live => run_live_shown(rt, alloc, script, asked.workers, gate),
+        Emit::Picture | Emit::Log | Emit::Sum => {
+            run_shown(rt, alloc, script, asked.workers, gate)
+        }
     }
 }
 

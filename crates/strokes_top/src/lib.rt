@@ -5,7 +5,6 @@ mod asked;
 mod choice;
 mod command;
 mod intake;
-mod size;
 mod source;
 mod status;
 mod telling;

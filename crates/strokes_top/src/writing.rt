@@ -8,12 +8,12 @@ ghost use Rattle.strokes_top.specs.Output.{HasRoom, ShowsFor};
 ghost use Rattle.strokes_top.specs.Run.{output};
 
 use crate::choice::Emit;
+use crew_run::Shown;
 use doc_model::Canvas;
 use io_edge::{Failed, Sink};
 use log_out::{write_log, write_sum};
 use ppm_out::write_frames;
 use script_text::Script;
-use solo_run::Shown;
 use std::alloc::{AllocError, Global};
 
 /// Room for what has to be kept while the output is written: for pictures, the colours of one frame.

@@ -2,7 +2,7 @@ use Rattle.std.proofs.Common.{◌≡◌, ◌∷◌, ◌+◌, ◌∙◌, sym, ap,
 use Rattle.std.specs.Prelude.{slice_get}
 use Rattle.std.specs.List.{list_all}
 use Rattle.geom_core.proofs.Tests.{both_true}
-use Rattle.solo_run.proofs.Fronts.{item_at, take_more}
+use Rattle.in_place.proofs.Fronts.{item_at, take_more}
 use Rattle.across.specs.Steps.{is_sound}
 use Rattle.doc_model.specs.declared.job.Job.{Job}
 use Rattle.across.specs.declared.layer.Step.{Step}

@@ -1,6 +1,6 @@
 use Rattle.std.proofs.Common.{◌≡◌, ◌∙◌, sym, ap, take, Some}
 use Rattle.std.specs.Prelude.{slice_get}
-use Rattle.solo_run.proofs.Fronts.{item_at, take_more}
+use Rattle.in_place.proofs.Fronts.{item_at, take_more}
 use Rattle.across.specs.Means.{sums_of}
 use Rattle.across.proofs.mean.sums_over.Goals as goal
 

@@ -5,8 +5,7 @@ use Rattle.doc_model.specs.Changes.{takes}
 use Rattle.doc_model.specs.Layers.{at}
 use Rattle.machine_model.specs.Groups.{nodes_in}
 use Rattle.machine_model.specs.Effects.{layer_in}
-use Rattle.export_core.proofs.GroupSteps.{takes_read, next_read, has_look}
-use Rattle.export_core.proofs.NextNodes.{IsNext}
+use Rattle.across.proofs.NextNodes.{IsNext, takes_read, next_read, has_look}
 use Rattle.across.specs.Steps.{point_of}
 use Rattle.across.proofs.Pictured.{none_told, hidden_told, child_told, group_told, layer_told, not_false}
 use Rattle.across.proofs.picture.+nodes.Goals as goal

@@ -2,7 +2,8 @@ use Rattle.std.proofs.Common.{◌≡◌, Some, take, sym, ap, ◌∙◌, subst}
 use Rattle.std.specs.Prelude.{slice_get}
 use Rattle.entry_queue.specs.Pushed.{Pending, StandsFor}
 use Rattle.entry_queue.proofs.Taking.{takes_lawful}
-use Rattle.solo_run.proofs.Fronts.{item_at, lawful_next, take_more}
+use Rattle.in_place.proofs.Fronts.{item_at, take_more}
+use Rattle.across.proofs.Fronts.{lawful_next}
 use Rattle.across.proofs.plain.fed.Goals as goal
 
 pub push-requires : goal.push-requires

@@ -2,11 +2,10 @@ use Rattle.std.proofs.Common.{◌≡◌, List, ℕ, [], refl, sym, ap, ◌∙◌
 use Rattle.std.specs.Global.{Vec}
 use Rattle.doc_model.specs.Canvases.{IsOfLimits}
 use Rattle.doc_model.specs.Lawful.{lawful}
-use Rattle.solo_run.proofs.Scripts.{HoldsOfScript, script_holds}
-use Rattle.solo_run.specs.Told.{IsReady}
-use Rattle.solo_run.proofs.Stories.{shorter, ready_leaves}
-use Rattle.across.specs.Tellings.{Ends, HasCome, Tells}
+use Rattle.script_text.proofs.Scripts.{HoldsOfScript, script_holds}
+use Rattle.across.specs.Tellings.{Ends, HasCome, IsReady, Tells}
 use Rattle.across.proofs.Entries.{come_further, come_none, come_tells, next_ready}
+use Rattle.across.proofs.Queued.{shorter, ready_leaves}
 use Rattle.across.proofs.plain.plain_frames.Goals as goal
 
 pub fed-requires : goal.fed-requires

@@ -1,6 +1,6 @@
 use Rattle.std.proofs.Common.{sym, subst}
 use Rattle.doc_model.specs.Canvases.{IsOfLimits}
-use Rattle.solo_run.proofs.Scripts.{script_holds}
+use Rattle.script_text.proofs.Scripts.{script_holds}
 use Rattle.crew_run.proofs.crew.new_desk.Goals as goal
 
 pub new-requires-clause-canvas : goal.new-requires-clause-canvas

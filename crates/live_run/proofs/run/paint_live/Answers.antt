@@ -1,6 +1,6 @@
 use Rattle.std.proofs.Common.{sym, subst}
 use Rattle.doc_model.specs.Canvases.{IsOfLimits}
-use Rattle.solo_run.proofs.Scripts.{script_holds}
+use Rattle.script_text.proofs.Scripts.{script_holds}
 use Rattle.live_view.specs.Shown.{updates_of}
 use Rattle.live_view.specs.Views.{published}
 use Rattle.live_run.proofs.RootTiles.{picture_shown}

@@ -2,7 +2,7 @@ use Rattle.std.proofs.Common.{◌≡◌, [], ◌∷◌, ◌++◌, Some, None, sy
 use Rattle.tile_core.specs.Films.{newest}
 use Rattle.tile_core.specs.Frames.{Scene}
 use Rattle.doc_model.specs.Canvases.{IsOfLimits}
-use Rattle.solo_run.proofs.Scripts.{script_holds}
+use Rattle.script_text.proofs.Scripts.{script_holds}
 use Rattle.live_run.specs.Last.{ShowsLast}
 use Rattle.live_run.proofs.LastPictures.{last_is}
 use Rattle.live_run.proofs.shown.last_shown.Goals as goal

@@ -4,4 +4,4 @@ use Rattle.strokes_top.proofs.command.painted.Goals as goal
 
 -- the live view is that of a reader
 pub returns-in-Live-clause-shows : goal.returns-in-Live-clause-shows
-returns-in-Live-clause-shows g c = subst (λ e. IfOk c.viewed.result (λ s. ShowsFor e c.args.script.now s.film s.outcomes.items)) (sym c.in-Live.is) c.viewed.ensures.shows
+returns-in-Live-clause-shows g c = subst (λ e. IfOk c.run_live_shown.result (λ s. ShowsFor e c.args.script.now s.film s.outcomes.items)) (sym c.in-Live.is) c.run_live_shown.ensures

@@ -1,6 +1,6 @@
 use Rattle.std.proofs.Common.{sym, subst}
 use Rattle.doc_model.specs.Canvases.{IsOfLimits}
-use Rattle.solo_run.proofs.Scripts.{script_holds}
+use Rattle.script_text.proofs.Scripts.{script_holds}
 use Rattle.wet_paint.proofs.paint.paint.Goals as goal
 
 pub live_frame-requires-clause-limits : goal.live_frame-requires-clause-limits

@@ -1,3 +1,0 @@
-pub mod Exports
-pub mod Pieces
-pub mod Spots

@@ -1,0 +1,7 @@
+pub mod Fronts
+pub mod Once
+pub mod Published
+pub mod Points
+pub mod Circles
+pub mod Left
+pub mod Runs

@@ -1,0 +1,4 @@
+pub mod Painting
+pub mod Once
+pub mod Left
+pub mod Circles
