@@ -129,7 +129,7 @@ ready_there s k = go (fin.contains_key s.tiles k) refl
     go true e = e
     go false e = ap is_some (fin.get-insert key_cmp_total s.tiles k None k ∙ taken (same_key k k) (Some None) _ (key_is k k refl))
 
-ready_default : (s : Sheet) (k : Key) → (readied s k).default_pixel ≡ s.default_pixel
+pub ready_default : (s : Sheet) (k : Key) → (readied s k).default_pixel ≡ s.default_pixel
 ready_default s k = go (fin.contains_key s.tiles k)
   where
     go : (b : Bool) → (cond b s (with_under s k None)).default_pixel ≡ s.default_pixel
@@ -152,6 +152,16 @@ with_readied s k t = go (fin.contains_key s.tiles k)
     go true = refl
     go false = ap (sheet s.default_pixel) (fin.same_map key_cmp_total key_cmp-IsAntisymmetric _ _ (λ q.
         fin.get-insert key_cmp_total (fin.insert s.tiles k None) k t q ∙ ap (cond (same_key q k) (Some t)) (fin.get-insert key_cmp_total s.tiles k None q) ∙ again q (same_key q k) ∙ sym (fin.get-insert key_cmp_total s.tiles k t q)))
+
+-- where no tile stands, a plain one adds nothing
+pub plain_adds_nothing : (s : Sheet) (k : Key) (t : Pixels) → tile_under s.tiles k ≡ None → t ≡ replicate 4096 s.default_pixel → layer_of (with_under s k (Some t)) ≡ layer_of s
+plain_adds_nothing s k t none plain = layer_ext _ _
+    (default-layer_of (with_under s k (Some t)) ∙ sym (default-layer_of s))
+    (λ p. at-layer_of (with_under s k (Some t)) p ∙ seen_after_exchange s k (Some t) p ∙ go p (in_tile k p) refl ∙ sym (at-layer_of s p))
+  where
+    go : (p : Point) (b : Bool) → in_tile k p ≡ b → cond (in_tile k p) (pixel_at t p) (sheet_at s p) ≡ sheet_at s p
+    go p true h = taken (in_tile k p) _ _ h ∙ ap (λ (u : Pixels). pixel_at u p) plain ∙ plain_at s k p h none
+    go p false h = kept (in_tile k p) _ _ h
 
 -- with that tile the layer has what was painted
 pub laid_layer : (job : Job) (shot : Layer) (k : Key) (s : Sheet) (t : Pixels) → IsLaid job shot k s t → layer_of (with_under s k (Some t)) ≡ published job shot k (layer_of s)

@@ -19,13 +19,13 @@ use Rattle.paint_device.specs.Sheets.{Sheet, sheet_at, with_under, readied}
 use Rattle.paint_device.specs.InPlace.{LaysUnder}
 use Rattle.paint_device.specs.Seen.{layer_of}
 use Rattle.paint_device.proofs.Shown.{at-layer_of, default-layer_of}
-use Rattle.paint_device.proofs.Writes.{seen_after_exchange}
+use Rattle.paint_device.proofs.Writes.{ready_keeps_pixels, seen_after_exchange}
 use Rattle.memento_core.specs.Revisions.{keys_in, noted_under}
 use Rattle.memento_core.proofs.Exchanging.{contains-keys_in, has-insert}
 use Rattle.memento_core.proofs.Booked.{exchange_keys}
 use Rattle.desk_steps.specs.Founds.{ExchangesTiles, GivesBack, StandIn, patched}
 use Rattle.memento_core.proofs.Sets.{same_bools}
-use Rattle.desk_steps.proofs.Lain.{ready_layer}
+use Rattle.desk_steps.proofs.Lain.{ready_default, ready_layer}
 
 holds_tile : (k : Key) (p : Point) → holds (tile k) p ≡ same_key (key_of p) k
 holds_tile k p = same_bools _ _ (λ h. key_is (key_of p) k (key_of_holder k p h)) (λ h. subst (λ m. holds (tile m) p ≡ true) (key_same (key_of p) k h) (own_tile p))
@@ -97,56 +97,71 @@ module _ (found : Keyed Pixels) (k : Key) (t : Option Pixels) where
   keys_in-noted_under = set.same_set key_cmp_total key_cmp-IsAntisymmetric _ _ (λ q. contains-keys_in (noted_under found k t) q ∙ has-noted_under q
       ∙ ap (λ b. same_key q k || b) (sym (contains-keys_in found q)) ∙ sym (set.contains-insert key_cmp_total (keys_in found) k q))
 
--- a tile goes under a key, and what stood there is noted where nothing was: that gives back the same layer
-module _ (found : Keyed Pixels) (s : Sheet) (k : Key) (t : Pixels) where
-  seen_same : (p : Point) → seen (noted_under found k (tile_under s.tiles k)) s.default_pixel p (sheet_at (with_under s k (Some t)) p) ≡ seen found s.default_pixel p (sheet_at s p)
-  seen_same p = ap (seen (noted_under found k (tile_under s.tiles k)) s.default_pixel p) (seen_after_exchange s k (Some t) p) ∙ go (fin.contains_key found k) refl (same_key (key_of p) k) refl
+-- what stands under a key is noted where nothing was, and only what stands there changes: that gives back the same layer
+module _ (found : Keyed Pixels) (s new : Sheet) (k : Key) (default_is : new.default_pixel ≡ s.default_pixel) (others : (p : Point) → same_key (key_of p) k ≡ false → sheet_at new p ≡ sheet_at s p) where
+  seen_same : (p : Point) → seen (noted_under found k (tile_under s.tiles k)) s.default_pixel p (sheet_at new p) ≡ seen found s.default_pixel p (sheet_at s p)
+  seen_same p = go (fin.contains_key found k) refl (same_key (key_of p) k) refl
     where
       go : (b : Bool) → fin.contains_key found k ≡ b → (c : Bool) → same_key (key_of p) k ≡ c
-          → seen (cond b found (fin.insert found k (tile_under s.tiles k))) s.default_pixel p (cond c (pixel_or (Some t) s.default_pixel p) (sheet_at s p)) ≡ seen found s.default_pixel p (sheet_at s p)
+          → seen (cond b found (fin.insert found k (tile_under s.tiles k))) s.default_pixel p (sheet_at new p) ≡ seen found s.default_pixel p (sheet_at s p)
       go true h true e =
           let there : fin.contains_key found (key_of p) ≡ true = ap (fin.contains_key found) (key_same (key_of p) k e) ∙ h in
           taken (fin.contains_key found (key_of p)) _ _ there ∙ sym (taken (fin.contains_key found (key_of p)) _ _ there)
-      go true h false e = refl
+      go true h false e = ap (seen found s.default_pixel p) (others p e)
       go false h true e =
-          let new : fin.get (fin.insert found k (tile_under s.tiles k)) (key_of p) ≡ Some (tile_under s.tiles k) = fin.get-insert key_cmp_total found k (tile_under s.tiles k) (key_of p) ∙ taken (same_key (key_of p) k) _ _ e in
+          let now : fin.get (fin.insert found k (tile_under s.tiles k)) (key_of p) ≡ Some (tile_under s.tiles k) = fin.get-insert key_cmp_total found k (tile_under s.tiles k) (key_of p) ∙ taken (same_key (key_of p) k) _ _ e in
           let none : fin.contains_key found (key_of p) ≡ false = ap (fin.contains_key found) (key_same (key_of p) k e) ∙ h in
-          ap (λ o. cond (is_some o) (pixel_or (unwrap_or o None) s.default_pixel p) (pixel_or (Some t) s.default_pixel p)) new
+          ap (λ o. cond (is_some o) (pixel_or (unwrap_or o None) s.default_pixel p) (sheet_at new p)) now
           ∙ ap (λ q. pixel_or (tile_under s.tiles q) s.default_pixel p) (sym (key_same (key_of p) k e)) ∙ sym (kept (fin.contains_key found (key_of p)) _ _ none)
       go false h false e =
           let same : fin.get (fin.insert found k (tile_under s.tiles k)) (key_of p) ≡ fin.get found (key_of p) = fin.get-insert key_cmp_total found k (tile_under s.tiles k) (key_of p) ∙ kept (same_key (key_of p) k) _ _ e in
-          ap (λ o. cond (is_some o) (pixel_or (unwrap_or o None) s.default_pixel p) (sheet_at s p)) same
+          ap (λ o. cond (is_some o) (pixel_or (unwrap_or o None) s.default_pixel p) (sheet_at new p)) same ∙ ap (seen found s.default_pixel p) (others p e)
 
-  patched_same : patched (noted_under found k (tile_under s.tiles k)) (layer_of (with_under s k (Some t))) ≡ patched found (layer_of s)
+  patched_same : patched (noted_under found k (tile_under s.tiles k)) (layer_of new) ≡ patched found (layer_of s)
   patched_same = layer_ext _ _
-      (default-patched-layer_of (noted_under found k (tile_under s.tiles k)) (with_under s k (Some t)) ∙ sym (default-patched-layer_of found s))
-      (λ p. at-patched-layer_of (noted_under found k (tile_under s.tiles k)) (with_under s k (Some t)) p ∙ seen_same p ∙ sym (at-patched-layer_of found s p))
+      (default-patched-layer_of (noted_under found k (tile_under s.tiles k)) new ∙ default_is ∙ sym (default-patched-layer_of found s))
+      (λ p. at-patched-layer_of (noted_under found k (tile_under s.tiles k)) new p
+      ∙ ap (λ c. seen (noted_under found k (tile_under s.tiles k)) c p (sheet_at new p)) default_is ∙ seen_same p ∙ sym (at-patched-layer_of found s p))
 
-  pub put_back : (after : Keyed Pixels) (new : Sheet) → StandIn found (Some s) → new ≡ with_under s k (Some t) → after ≡ noted_under found k (tile_under s.tiles k) → GivesBack found after s new
-  put_back after new stand is more = record {
-    same = (λ i. patched (more i) (layer_of (is i))) ∙ patched_same;
-    keys = λ q h. ap (λ (s : Sheet). fin.contains_key s.tiles q) is ∙ has-insert s.tiles k (Some t) q ∙ or_right (same_key q k) _ h;
-    stand = λ q h. ap (λ (s : Sheet). fin.contains_key s.tiles q) is ∙ has-insert s.tiles k (Some t) q ∙ either (same_key q k) _ _ (stand q) (sym (has-noted_under found k (tile_under s.tiles k) q) ∙ ap (λ f. fin.contains_key f q) (sym more) ∙ h);
+  noted_back : (after : Keyed Pixels) → StandIn found (Some s) → ((q : Key) → fin.contains_key new.tiles q ≡ (same_key q k || fin.contains_key s.tiles q)) → after ≡ noted_under found k (tile_under s.tiles k) → GivesBack found after s new
+  noted_back after stand there more = record {
+    same = ap (λ f. patched f (layer_of new)) more ∙ patched_same;
+    keys = λ q h. there q ∙ or_right (same_key q k) _ h;
+    stand = λ q h. there q ∙ either (same_key q k) _ _ (stand q) (sym (has-noted_under found k (tile_under s.tiles k) q) ∙ ap (λ f. fin.contains_key f q) (sym more) ∙ h);
   }
     where
       either : (a b c : Bool) → (b ≡ true → c ≡ true) → (a || b) ≡ true → (a || c) ≡ true
       either true b c f h = refl
       either false b c f h = f h
 
+-- a tile goes under the key
+pub put_back : (found : Keyed Pixels) (s : Sheet) (k : Key) (t : Pixels) (after : Keyed Pixels) (new : Sheet) → StandIn found (Some s) → new ≡ with_under s k (Some t) → after ≡ noted_under found k (tile_under s.tiles k) → GivesBack found after s new
+put_back found s k t after new stand is more = noted_back found s new k
+    (ap (λ (s : Sheet). s.default_pixel) is)
+    (λ p e. ap (λ (s : Sheet). sheet_at s p) is ∙ seen_after_exchange s k (Some t) p ∙ kept (same_key (key_of p) k) _ _ e)
+    after stand (λ q. ap (λ (s : Sheet). fin.contains_key s.tiles q) is ∙ has-insert s.tiles k (Some t) q) more
+
 -- no pixel changes, and nothing is noted
 pub same_back : (found : Keyed Pixels) (old new : Sheet) → StandIn found (Some old) → layer_of new ≡ layer_of old → ((k : Key) → fin.contains_key old.tiles k ≡ true → fin.contains_key new.tiles k ≡ true) → GivesBack found found old new
 same_back found old new stand e keys = record { same = ap (patched found) e; keys = keys; stand = λ k h. keys k (stand k h) }
 
-has-readied : (s : Sheet) (k q : Key) → fin.contains_key s.tiles q ≡ true → fin.contains_key (readied s k).tiles q ≡ true
-has-readied s k q h = go (fin.contains_key s.tiles k)
+has-readied : (s : Sheet) (k q : Key) → fin.contains_key (readied s k).tiles q ≡ (same_key q k || fin.contains_key s.tiles q)
+has-readied s k q = go (fin.contains_key s.tiles k) ∙ has-noted_under s.tiles k None q
   where
-    go : (b : Bool) → fin.contains_key (cond b s (with_under s k None)).tiles q ≡ true
-    go true = h
-    go false = has-insert s.tiles k None q ∙ or_right (same_key q k) _ h
+    go : (b : Bool) → fin.contains_key (cond b s (with_under s k None)).tiles q ≡ fin.contains_key (cond b s.tiles (fin.insert s.tiles k None)) q
+    go true = refl
+    go false = refl
 
 -- a key comes in
 pub ready_back : (found : Keyed Pixels) (s new : Sheet) (k : Key) → StandIn found (Some s) → new ≡ readied s k → GivesBack found found s new
-ready_back found s new k stand is = same_back found s new stand (ap layer_of is ∙ ready_layer s k) (λ q h. ap (λ (s : Sheet). fin.contains_key s.tiles q) is ∙ has-readied s k q h)
+ready_back found s new k stand is = same_back found s new stand (ap layer_of is ∙ ready_layer s k) (λ q h. ap (λ (s : Sheet). fin.contains_key s.tiles q) is ∙ has-readied s k q ∙ or_right (same_key q k) _ h)
+
+-- a key comes in, and what stands under it is noted
+pub note_back : (found : Keyed Pixels) (s : Sheet) (k : Key) (after : Keyed Pixels) (new : Sheet) → StandIn found (Some s) → new ≡ readied s k → after ≡ noted_under found k (tile_under s.tiles k) → GivesBack found after s new
+note_back found s k after new stand is more = noted_back found s new k
+    (ap (λ (s : Sheet). s.default_pixel) is ∙ ready_default s k)
+    (λ p _. ap (λ (s : Sheet). sheet_at s p) is ∙ ready_keeps_pixels s k p)
+    after stand (λ q. ap (λ (s : Sheet). fin.contains_key s.tiles q) is ∙ has-readied s k q) more
 
 -- what stands under it stays
 pub tile-readied : (s : Sheet) (k : Key) → tile_under (readied s k).tiles k ≡ tile_under s.tiles k

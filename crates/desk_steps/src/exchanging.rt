@@ -15,7 +15,7 @@ ghost use Rattle.memento_core.specs.Revisions.{keys_in};
 ghost use Rattle.desk_steps.specs.Founds.{GivesBack, StandIn};
 ghost use Rattle.desk_steps.specs.Tiles.{HasBase, IsWholeOn};
 
-use crate::laying::{set_under, tile_under};
+use crate::laying::{show_under, tile_under};
 use geom_core::{NoMemory, Rect, TileKey};
 use memento_core::Revision;
 use paint_device::Device;
@@ -42,7 +42,7 @@ pub fn put_whole(
     ensures no_note { OnErr result (found.new ≡ found.old) }
 {
     let tile = tile_with(alloc, device, whole, known)?;
-    set_under(device, found, whole.key(), tile)
+    show_under(device, found, whole.key(), tile)
 }
 
 /// The tile that is to stand under the key: the new one itself, shared, where the device has still the

@@ -11,7 +11,7 @@ ghost use Rattle.job_core.specs.Paints as paints;
 ghost use Rattle.job_core.specs.Paints.{Paint, Makes};
 ghost use Rattle.paint_device.specs.InPlace.{LaysUnder};
 ghost use Rattle.paint_device.specs.Seen.{layer_of};
-ghost use Rattle.paint_device.specs.Sheets.{sheet_at, with_under};
+ghost use Rattle.paint_device.specs.Sheets.{readied, sheet_at, with_under};
 ghost use Rattle.memento_core.specs.Planes.{tile_under};
 ghost use Rattle.memento_core.specs.Revisions.{keys_in, noted_under};
 ghost use Rattle.desk_steps.specs.Founds.{GivesBack, StandIn};
@@ -43,7 +43,7 @@ pub fn lay(
         return Ok(());
     }
     let tile = laid(alloc, device, made)?;
-    set_under(device, found, made.key(), tile)
+    show_under(device, found, made.key(), tile)
 }
 
 /// Lays one block in place, where something was noted of its tile and nobody shares it. It tells
@@ -83,6 +83,41 @@ pub fn changed_in_place<L: Lays>(
     }
 }
 
+/// The tile's pixels come under a key of the world, and what stood there before the stroke is noted.
+/// Where no tile stands and this one has nothing but the ground, none stands afterwards: so what moves
+/// or blurs clear pixels takes no tile. Where there is no memory no pixel has changed, and nothing was
+/// noted.
+pub fn show_under(
+    device: &mut Device,
+    found: &mut Revision<Tile>,
+    key: TileKey,
+    tile: Tile,
+) -> Result<(), NoMemory>
+    requires world { IsWorldKey key }
+    requires there { StandIn found.old (Some device.old) }
+    ensures ok { OnOk result (layer_of device.new ≡ layer_of (with_under device.old key (Some tile))) }
+    ensures keys { OnOk result (keys_in found.new ≡ set.insert (keys_in found.old) key) }
+    ensures back { GivesBack found.old found.new device.old device.new }
+    ensures err { OnErr result (layer_of device.new ≡ layer_of device.old) }
+    ensures no_note { OnErr result (found.new ≡ found.old) }
+{
+    if adds_nothing(device, key, &tile) {
+        note_under(device, found, key)
+    } else {
+        set_under(device, found, key, tile)
+    }
+}
+
+/// Whether no tile stands under the key, and this one has nothing but the ground.
+fn adds_nothing(device: &Device, key: TileKey, tile: &Tile) -> bool
+    ensures { result ≡ true → layer_of (with_under device.now key (Some tile.now)) ≡ layer_of device.now }
+{
+    match device.tile(key) {
+        Some(_) => false,
+        None => tile.is_plain(device.ground()),
+    }
+}
+
 /// The tile stands under a key of the world, and what stood there before the stroke is noted. Where
 /// there is no memory no pixel has changed, and nothing was noted.
 pub fn set_under(
@@ -99,9 +134,24 @@ pub fn set_under(
     ensures err { OnErr result (layer_of device.new ≡ layer_of device.old) }
     ensures no_note { OnErr result (found.new ≡ found.old) }
 {
+    note_under(device, found, key)?;
+    device.set_tile(key, tile);
+    Ok(())
+}
+
+/// A key of the world is there, and what stood under it before the stroke is noted. No pixel changes.
+fn note_under(device: &mut Device, found: &mut Revision<Tile>, key: TileKey) -> Result<(), NoMemory>
+    requires world { IsWorldKey key }
+    requires there { StandIn found.old (Some device.old) }
+    ensures ok { OnOk result (device.new ≡ readied device.old key) }
+    ensures noted { OnOk result (found.new ≡ noted_under found.old key (tile_under device.old.tiles key)) }
+    ensures keys { OnOk result (keys_in found.new ≡ set.insert (keys_in found.old) key) }
+    ensures back { GivesBack found.old found.new device.old device.new }
+    ensures same { layer_of device.new ≡ layer_of device.old }
+    ensures no_note { OnErr result (found.new ≡ found.old) }
+{
     device.ready(key)?;
     note(found, device, key)?;
-    device.set_tile(key, tile);
     Ok(())
 }
 

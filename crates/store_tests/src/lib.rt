@@ -8,6 +8,8 @@ mod books;
 #[cfg(test)]
 mod caches;
 #[cfg(test)]
+mod clear_moves;
+#[cfg(test)]
 mod devices;
 #[cfg(test)]
 mod fixtures;

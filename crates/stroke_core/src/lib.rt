@@ -4,6 +4,7 @@
 
 mod bound;
 mod footprint;
+mod last_run;
 mod stroke;
 
 pub use stroke::{AddFault, ClosedStroke, OpenStroke};

@@ -6,7 +6,8 @@ ghost use Rattle.doc_model.specs.Strokes.{Jobs, first_conflicting, runs};
 ghost use Rattle.stroke_core.specs.Fed.{found, plus, StandsFor};
 ghost use Rattle.stroke_core.specs.Marks.{marks_in_run};
 
-use crate::footprint::{Footprint, Footprints, push_reserved};
+use crate::footprint::{Footprint, push_reserved};
+use crate::last_run::LastRun;
 use doc_model::{Job, Kind};
 use std::alloc::{AllocError, AllocFailed, Global};
 use std::marker::Model;
@@ -55,7 +56,7 @@ pub struct OpenStroke {
     exclusive: bool,
     jobs: Vec<(Kind, Job)>,
     /// Those of the last run.
-    footprints: Footprints,
+    footprints: LastRun,
     start: usize,
     overlap: Option<(u32, u32)>,
 }
@@ -87,7 +88,7 @@ impl OpenStroke {
             layer,
             exclusive,
             jobs: Vec::new(alloc),
-            footprints: Footprints::new(alloc),
+            footprints: LastRun::new(alloc),
             start: 0,
             overlap: None,
         }

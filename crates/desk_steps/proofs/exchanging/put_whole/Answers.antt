@@ -9,15 +9,15 @@ use Rattle.desk_steps.proofs.Lain.{laid_layer}
 use Rattle.desk_steps.proofs.WholeTiles.{whole_laid}
 use Rattle.desk_steps.proofs.exchanging.put_whole.Goals as goal
 
-pub set_under-requires-clause-world : goal.set_under-requires-clause-world
-set_under-requires-clause-world c = subst IsWorldKey (sym c.key.ensures.value) c.key.ensures.known.world
+pub show_under-requires-clause-world : goal.show_under-requires-clause-world
+show_under-requires-clause-world c = subst IsWorldKey (sym c.key.ensures.value) c.key.ensures.known.world
 
 pub returns-clause-ok : goal.returns-clause-ok
 returns-clause-ok c shot shows =
     let x = c.args.whole.now in
     let s = c.args.device.now in
     let t = c.in_ok-tile.tile in
-    more_ok c.set_under.result (λ e. ap layer_of (e ∙ ap (λ k. with_under s k (Some t)) c.key.ensures.value) ∙ laid_layer x.job shot x.key s t (whole_laid x shot s t c.key.ensures.known shows c.in_ok-tile.ensures)) c.set_under.ensures.ok
+    more_ok c.show_under.result (λ e. e ∙ ap (λ k. layer_of (with_under s k (Some t))) c.key.ensures.value ∙ laid_layer x.job shot x.key s t (whole_laid x shot s t c.key.ensures.known shows c.in_ok-tile.ensures)) c.show_under.ensures.ok
 
 pub returns-clause-keys : goal.returns-clause-keys
-returns-clause-keys c = more_ok c.set_under.result (λ e. e ∙ ap (set.insert (keys_in c.args.found.now)) c.key.ensures.value) c.set_under.ensures.keys
+returns-clause-keys c = more_ok c.show_under.result (λ e. e ∙ ap (set.insert (keys_in c.args.found.now)) c.key.ensures.value) c.show_under.ensures.keys
