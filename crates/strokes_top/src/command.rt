@@ -14,6 +14,7 @@ ghost use Rattle.strokes_top.specs.Output.{ShowsFor};
 
 use crate::asked::Asked;
 use crate::choice::{ChoiceError, Emit, choice_of};
+use crate::size::is_for_many;
 use crate::source::take_script;
 use crate::status::Status;
 use crate::telling::report;
@@ -40,6 +41,15 @@ fn some_refused(outcomes: &[Outcome]) -> bool
 /// How many commands a desk takes at most.
 const MOST: usize = 4_294_967_295;
 
+/// How many workers are to paint the script beside the caller: none where its jobs are small, since the
+/// caller alone is quicker then.
+fn workers_for(script: &Script, asked: u8) -> u8
+    requires { asked ≤ 16 }
+    ensures { result ≤ 16 }
+{
+    if is_for_many(script) { asked } else { 0 }
+}
+
 /// What is asked for of the script, painted by so many workers and the caller: what its exports show, or what
 /// a live view shows at its end.
 ///
@@ -58,11 +68,10 @@ fn painted<R: Threads + Wait + Sync, G: Gate>(
     if script.len() > MOST {
         return Err(NoMemory);
     }
+    let workers = workers_for(script, asked.workers);
     match asked.choice.emit {
-        Emit::Live => run_live_shown(rt, alloc, script, asked.workers, gate),
-        Emit::Picture | Emit::Log | Emit::Sum => {
-            run_shown(rt, alloc, script, asked.workers, gate)
-        }
+        Emit::Live => run_live_shown(rt, alloc, script, workers, gate),
+        Emit::Picture | Emit::Log | Emit::Sum => run_shown(rt, alloc, script, workers, gate),
     }
 }
 

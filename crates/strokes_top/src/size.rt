@@ -1,0 +1,54 @@
+//! How much a script asks for.
+
+use doc_model::{Change, Command, Job, Track};
+use geom_core::Rect;
+use script_text::Script;
+
+/// With how many points to paint and to compose each job has to come, on average, so that several threads are
+/// quicker than one.
+const POINTS: u64 = 8_000;
+
+/// Whether several threads are probably quicker than one. Nothing but speed hangs on it.
+pub(crate) fn is_for_many(script: &Script) -> bool {
+    let mut jobs = 0u64;
+    let mut points = 0u64;
+    let shown = script.canvas();
+    let canvas = u64::from(shown.w).saturating_mul(u64::from(shown.h));
+    for command in script.commands() {
+        match command {
+            Command::Add { job, .. } => {
+                jobs = jobs.saturating_add(1);
+                points = points.saturating_add(size(job));
+            }
+            Command::Change(Change::Layer { .. }) => points = points.saturating_add(canvas),
+            _ => {}
+        }
+    }
+    points >= jobs.saturating_mul(POINTS)
+}
+
+/// How many points a job writes, or some more.
+fn size(job: &Job) -> u64 {
+    match job {
+        Job::Fill { rect, .. } => area(rect),
+        Job::Dab { r, .. } => {
+            let side = 2 * u64::from(*r) + 1;
+            side * side
+        }
+        Job::Move { rect, .. } => area(rect).saturating_mul(2),
+        Job::Blur { rect, .. } => area(rect),
+        Job::Track { track, .. } => track_size(track),
+    }
+}
+
+/// How many points the dabs of a track paint in one tile, if it goes straight through it.
+fn track_size(track: &Track) -> u64 {
+    let side = 2 * u64::from(track.stamp().r) + 1;
+    let dabs = (64 + side) / u64::from(track.gap()).max(1) + 1;
+    (side * side).min(4096) * dabs
+}
+
+/// How many points a rectangle has.
+fn area(rect: &Rect) -> u64 {
+    u64::from(rect.w()).saturating_mul(u64::from(rect.h()))
+}
