@@ -23,6 +23,7 @@ use Rattle.doc_model.specs.Meaning.{Story, start, told, laid_stroke, advanced, m
 use Rattle.doc_model.specs.Strokes as doc
 use Rattle.doc_model.specs.Strokes.{Stroke, Jobs, entries}
 use Rattle.machine_model.specs.Effects.{layer_in}
+use Rattle.machine_model.specs.UnderWay.{jobs_only}
 use Rattle.stroke_core.specs.Fed.{Closed}
 use Rattle.entry_queue.specs.declared.entry.Entry.{Entry}
 use Rattle.entry_queue.specs.declared.entry.Entry.TheVariants.{Whole}
@@ -31,7 +32,6 @@ use Rattle.desk_steps.specs.Archives.{shape}
 use Rattle.doc_model.proofs.SameTree.{has_each}
 use Rattle.script_text.specs.Script.{Contents}
 use Rattle.across.specs.declared.telling.Telling.{Telling}
-use Rattle.in_place.specs.Painting.{jobs_only}
 use Rattle.across.specs.Steps.{job_sound}
 use Rattle.across.specs.Tellings.{GoesOn, Ends, HasCome, IsReady, Tells, story_of}
 use Rattle.across.proofs.Filling.{Shape}

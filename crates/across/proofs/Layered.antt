@@ -16,10 +16,10 @@ use Rattle.doc_model.proofs.JobLaws.{at-apply}
 use Rattle.doc_model.specs.Layers.{Layer, at, plain}
 use Rattle.doc_model.specs.Jobs.{apply, apply_all, grown, square, value, writes, checks}
 use Rattle.doc_model.specs.Strokes.{Jobs}
+use Rattle.machine_model.specs.UnderWay.{jobs_only}
 use Rattle.across.specs.declared.layer.Step.{Step}
 use Rattle.across.specs.declared.layer.Deed.{Deed}
 use Rattle.across.specs.declared.layer.Deed.TheVariants.{Paint}
-use Rattle.in_place.specs.Painting.{jobs_only}
 use Rattle.across.specs.Steps.{done, layer_after, is_sound, job_sound}
 
 apply_last : (js : List Job) (j : Job) (layer : Layer) → apply j (apply_all js layer) ≡ apply_all (js ++ j ∷ []) layer

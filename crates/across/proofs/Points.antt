@@ -2,11 +2,11 @@
 use Rattle.std.proofs.Common.{◌≡◌, ℕ, suc, zero, ◌+◌, ◌*◌, add-one, List, [], ◌∷◌, ◌++◌, map, length, take, Some, ◌≤◌, refl, sym, ap, ◌∙◌, arith, append-nil}
 use Rattle.std.specs.Prelude.{ℤ, pos, ◌+ℤ◌, slice_get}
 use borrow.Author.Differences.{ints}
-use Rattle.std.proofs.lemmas.List.{append_assoc, map-append, length-append}
-use Rattle.in_place.proofs.Fronts.{take_more, take_all}
+use Rattle.std.proofs.lemmas.List.{append_assoc, map-append, length-append, take_all}
 use Rattle.geom_core.specs.Areas.{Area, row, rows, points_of, Point, point}
 use Rattle.across.specs.declared.spots.Spot.{Spot}
 use Rattle.across.specs.Steps.{point_of}
+use Rattle.across.proofs.Fronts.{item_more}
 
 none_more : (x : ℤ) → x ≡ (x +ℤ pos 0)
 none_more x = omega (arith, ints)
@@ -60,8 +60,8 @@ pub mapped_more : {B : Type 0} (f : Point → B) (spots : List Spot) (i : ℕ) (
     → new ≡ map f (map point_of (take (i + 1) spots))
 mapped_more f spots i s done new b at so e eb = e ∙ (λ j. so j ++ eb j ∷ [])
     ∙ sym (map-append f (map point_of (take i spots)) (point_of s ∷ []))
-    ∙ ap (map f) (sym (map-append point_of (take i spots) (s ∷ [])) ∙ ap (map point_of) (sym (take_more spots i s at)))
+    ∙ ap (map f) (sym (map-append point_of (take i spots) (s ∷ [])) ∙ ap (map point_of) (sym (item_more spots i s at)))
 
 -- and all of them
 pub mapped_all : {B : Type 0} (f : Point → B) (spots : List Spot) (i : ℕ) (done : List B) (a : Area) → length spots ≤ i → done ≡ map f (map point_of (take i spots)) → map point_of spots ≡ points_of a → done ≡ map f (points_of a)
-mapped_all f spots i done a h so e = so ∙ ap (λ ss. map f (map point_of ss)) (take_all spots i h) ∙ ap (map f) e
+mapped_all f spots i done a h so e = so ∙ ap (λ ss. map f (map point_of ss)) (take_all i spots h) ∙ ap (map f) e

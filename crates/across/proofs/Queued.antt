@@ -18,8 +18,8 @@ use Rattle.entry_queue.specs.declared.entry.Entry.{Entry}
 use Rattle.entry_queue.specs.declared.entry.Entry.TheVariants.{Waiting, Whole, Other}
 use Rattle.entry_queue.specs.Pushed.{Pending, StandsFor, kept_of, may_leave, queued, stroke_of}
 use Rattle.entry_queue.proofs.Taking.{Fits, kept_fit, lawful_fits}
-use Rattle.in_place.proofs.Fronts.{take_more}
 use Rattle.across.specs.Tellings.{IsReady, fits}
+use Rattle.across.proofs.Fronts.{item_more}
 
 abbrev pub fate_of : Bool → Fate
 fate_of true = Cancelled
@@ -140,7 +140,7 @@ pub told_next : (canvas now : Canvas) (es : List doc.Entry) (e : doc.Entry) (out
     → told canvas (meaning canvas (take (length outcomes) es)) e ≡ meaning now (take (length more) es)
 told_next canvas now es e outcomes more o at is same =
     sym (told_all-last canvas start (take (length outcomes) es) e)
-    ∙ ap (told_all canvas start) (sym (take_more es (length outcomes) e at) ∙ ap (λ n. take n es) (sym (ap length is ∙ length-append outcomes (o ∷ []))))
+    ∙ ap (told_all canvas start) (sym (item_more es (length outcomes) e at) ∙ ap (λ n. take n es) (sym (ap length is ∙ length-append outcomes (o ∷ []))))
     ∙ ap (λ c. meaning c (take (length more) es)) (sym same)
 
 none_left_over : (n : ℕ) (es : List doc.Entry) → map queued (drop n es) ≡ [] → take n es ≡ es

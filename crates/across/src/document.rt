@@ -8,9 +8,9 @@ ghost use Rattle.doc_model.specs.Forest.{none, content, with_content};
 ghost use Rattle.doc_model.specs.Changes.{changed};
 ghost use Rattle.doc_model.specs.Laws.{IsDocument};
 ghost use Rattle.machine_model.specs.Effects.{layer_in};
+ghost use Rattle.machine_model.specs.UnderWay.{jobs_only};
 ghost use Rattle.desk_steps.specs.Archives.{shape};
 ghost use Rattle.across.specs.Steps.{point_of, is_sound, job_sound, layer_after};
-ghost use Rattle.in_place.specs.Painting.{jobs_only};
 ghost use Rattle.across.specs.Documents.{with_fresh};
 
 use crate::layer::{Deed, Step, pixel_after, with_front, with_jobs};

@@ -9,8 +9,8 @@ ghost use Rattle.doc_model.specs.Jobs.{writes, apply, apply_all, value, square, 
 ghost use Rattle.doc_model.specs.declared.job.Job.TheVariants.{Move, Blur};
 ghost use Rattle.doc_model.specs.Layers.{at};
 ghost use Rattle.doc_model.specs.Trails.{centres};
+ghost use Rattle.machine_model.specs.UnderWay.{jobs_only};
 ghost use Rattle.across.specs.Steps.{point_of, layer_after, is_sound, job_sound};
-ghost use Rattle.in_place.specs.Painting.{jobs_only};
 
 use crate::mean::mean_of;
 use crate::spots::{Spot, spots_of};

@@ -1,7 +1,6 @@
-use Rattle.std.proofs.Common.{◌≡◌, true, sym, ap, ◌∙◌, subst, to_z, of_z, w32, arith}
+use Rattle.std.proofs.Common.{◌≡◌, ◌∙◌, to_z, of_z, w32, arith}
 use borrow.Author.Differences.{ints}
 use Rattle.geom_core.specs.Areas.{lies_in, point, world}
-use Rattle.doc_model.specs.declared.track.Stamp.{Stamp}
 use Rattle.doc_model.specs.Jobs.{square}
 use Rattle.brush_path.proofs.Squares.{get_square, passes_at}
 use Rattle.across.specs.Steps.{point_of}

@@ -1,4 +1,0 @@
-pub mod Painting
-pub mod Once
-pub mod Left
-pub mod Circles
