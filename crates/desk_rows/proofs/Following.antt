@@ -1,14 +1,13 @@
 -- Commands of scripts, and keys of rectangles.
-use Rattle.std.proofs.Common.{◌≡◌, ℕ, ◌<◌, get_or, length, true, List, [], ◌∷◌, ◌++◌, refl, subst}
+use Rattle.std.proofs.Common.{◌≡◌, ℕ, ◌<◌, get_or, length, true, List, refl, subst}
 use Rattle.std.proofs.lemmas.Option.{slice_get_read}
 use Rattle.std.specs.List.{list_any, list_all}
 use Rattle.geom_core.specs.Areas.{Area}
 use Rattle.geom_core.specs.Grid.{Key, same_key, keys_of, all_keys_of}
-use Rattle.geom_core.proofs.Tests.{and_left, and_right}
 use Rattle.doc_model.specs.Canvases.{IsOfLimits}
 use Rattle.doc_model.specs.declared.command.Command.{Command}
-use Rattle.doc_model.specs.Strokes.{Entry, fed, all_fed, entries}
-use Rattle.doc_model.specs.Lawful.{is_closed_entry, lawful, lawful_after, may_follow}
+use Rattle.doc_model.specs.Strokes.{entries}
+use Rattle.doc_model.specs.Lawful.{is_closed_entry}
 use Rattle.script_text.specs.Script.{Contents}
 use Rattle.script_text.specs.Closed.{is_script}
 use Rattle.script_text.proofs.Scripts.{script_holds}
@@ -20,14 +19,6 @@ limits_of s h = (script_holds s h).canvas
 -- all strokes are closed
 pub closed_of : (s : Contents) (commands : List Command) → is_script s ≡ true → s.commands ≡ commands → list_all is_closed_entry (entries commands) ≡ true
 closed_of s commands h same = subst (λ cs. list_all is_closed_entry (entries cs) ≡ true) same (script_holds s h).closed
-
-follows_after : (es : List Entry) (front rest : List Command) (c : Command) → lawful_after es (front ++ c ∷ rest) ≡ true → may_follow (all_fed es front) c ≡ true
-follows_after es [] rest c h = and_left (may_follow es c) _ h
-follows_after es (d ∷ front) rest c h = follows_after (fed es d) front rest c (and_right (may_follow es d) _ h)
-
--- a command may follow those before it
-pub follows : (s : Contents) (front rest : List Command) (c : Command) → is_script s ≡ true → s.commands ≡ front ++ c ∷ rest → may_follow (entries front) c ≡ true
-follows s front rest c h same = follows_after [] front rest c (subst (λ cs. lawful cs ≡ true) same (script_holds s h).follows)
 
 -- a key of one of the rectangles
 pub key_at : (rects : List Area) (i : ℕ) (r : Area) (k : Key) → i < length rects → r ≡ get_or rects i r → list_any (same_key k) (keys_of r) ≡ true → list_any (same_key k) (all_keys_of rects) ≡ true

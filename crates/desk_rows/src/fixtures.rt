@@ -1,8 +1,8 @@
 //! Desks that are fed with scripts.
 
-ghost use Rattle.std.specs.Prelude.{◌≡◌, ◌≤◌, ◌++◌, true, IfOk, IfSome};
+ghost use Rattle.std.specs.Prelude.{◌≡◌, ◌≤◌, true, IfOk, IfSome};
 ghost use Rattle.std.specs.List.{list_all};
-ghost use Rattle.doc_model.specs.Lawful.{is_closed_entry, may_follow};
+ghost use Rattle.doc_model.specs.Lawful.{is_closed_entry};
 ghost use Rattle.doc_model.specs.Strokes.{entries};
 ghost use Rattle.script_text.specs.Closed.{is_script};
 ghost use Rattle.script_text.specs.Script.{contents};
@@ -53,58 +53,24 @@ pub(crate) fn desk_for(alloc: Global, script: &Script, slots: u8) -> Result<Desk
     Desk::new(alloc, script.canvas(), slots)
 }
 
-/// The commands of two lists, one behind the other.
-fn joined(alloc: Global, front: &[Command], rest: &[Command]) -> Result<Vec<Command>, NoMemory>
-    ensures { IfOk result (λ all. all.items ≡ front.now ++ rest.now) }
-{
-    let mut all = Vec::from_slice(alloc, front)?;
-    all.extend_from_slice(rest)?;
-    Ok(all)
-}
-
-/// The next command of a desk's script. None where all are fed.
-#[tactic(auto, using(crate::proofs::Following::follows))]
-fn next_command(alloc: Global, desk: &Desk, script: &Script) -> Result<Option<Command>, NoMemory>
-    ensures { IfOk result (λ next. IfSome next (λ c. may_follow (entries desk.now.fed) c ≡ true)) }
-{
-    let count = desk.fed().len();
-    if count >= script.len() {
-        return Ok(None);
-    }
-    let (_, rest) = script.commands().split_at(count);
-    let Some((next, _)) = rest.split_first() else {
-        return Ok(None);
-    };
-    let all = joined(alloc, desk.fed(), rest)?;
-    match made(alloc, script.canvas(), all)? {
-        Some(_) => Ok(Some(*next)),
-        None => Ok(None),
-    }
-}
-
 /// Feeds the next command of a desk's script. False where all are fed.
-pub(crate) fn feed_next(alloc: Global, desk: &mut Desk, script: &Script) -> Result<bool, NoMemory> {
-    if desk.fed().len() > 4_000_000 {
+pub(crate) fn feed_next(desk: &mut Desk, script: &Script) -> Result<bool, NoMemory> {
+    let count = desk.fed().len();
+    if count >= script.len() || count > 4_000_000 {
         return Ok(false);
     }
-    match next_command(alloc, desk, script)? {
-        Some(next) => {
-            desk.feed(&next)?;
-            Ok(true)
-        }
-        None => Ok(false),
+    let command = script.command(count);
+    if !desk.lawful(command) {
+        return Ok(false);
     }
+    desk.feed(command)?;
+    Ok(true)
 }
 
 /// Feeds the next commands, so many or as many as there are.
-pub(crate) fn feed(
-    alloc: Global,
-    desk: &mut Desk,
-    script: &Script,
-    count: usize,
-) -> Result<(), NoMemory> {
+pub(crate) fn feed(desk: &mut Desk, script: &Script, count: usize) -> Result<(), NoMemory> {
     for _ in 0..count {
-        let _more = feed_next(alloc, desk, script)?;
+        let _more = feed_next(desk, script)?;
     }
     Ok(())
 }
@@ -142,7 +108,7 @@ fn settle_once<L: Ledger>(
     script: &Script,
     steps: &mut Steps<L>,
 ) -> Result<bool, NoMemory> {
-    feed(alloc, desk, script, script.len())?;
+    feed(desk, script, script.len())?;
     if !is_fed(alloc, desk, script)? {
         return Ok(false);
     }

@@ -93,7 +93,7 @@ impl Driver {
     fn act<L: Ledger>(&mut self, steps: &mut Steps<L>) -> Result<(), NoMemory> {
         let drawn = self.draws.below(24);
         if drawn < self.eager {
-            let _more = feed_next(self.alloc, &mut self.desk, &self.mixed.script)?;
+            let _more = feed_next(&mut self.desk, &self.mixed.script)?;
             Ok(())
         } else if drawn < 13 {
             self.take(steps)

@@ -116,7 +116,7 @@ fn is_answered<L: Ledger>(
 ) -> Result<bool, NoMemory> {
     match call {
         Call::Feed(count) => {
-            feed(alloc, desk, script, count)?;
+            feed(desk, script, count)?;
             Ok(true)
         }
         Call::Settle => settle(alloc, desk, script, steps),
