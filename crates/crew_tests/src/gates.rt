@@ -1,8 +1,49 @@
-//! A gate that holds threads up, and counts.
+//! Gates that hold threads up, and count.
 
 use io_edge::Gate;
 use std::sync::atomic::{AtomicU64, Ordering};
 use std::thread;
+
+/// How many turns a held job waits at most.
+const TURNS: u32 = 4_000_000;
+
+/// Holds the first job of the first stroke until the second was entered, for so many turns at most.
+#[derive(Drop)]
+pub(crate) struct Meet {
+    entered: AtomicU64,
+    met: AtomicU64,
+}
+
+impl Meet {
+    pub(crate) fn new() -> Meet {
+        Meet {
+            entered: AtomicU64::new(0),
+            met: AtomicU64::new(0),
+        }
+    }
+
+    /// Whether the second job was entered while the first was held.
+    pub(crate) fn was_met(&self) -> bool {
+        self.met.load(Ordering::SeqCst) == 1
+    }
+}
+
+impl Gate for Meet {
+    fn painting(&self, stroke: u32, job: u32) {
+        if stroke == 1 && job == 2 {
+            self.entered.store(1, Ordering::SeqCst);
+        }
+        if stroke == 1 && job == 1 {
+            for _ in 0..TURNS {
+                if self.entered.load(Ordering::SeqCst) == 1 {
+                    self.met.store(1, Ordering::SeqCst);
+                    return;
+                }
+                thread::yield_now();
+            }
+        }
+    }
+}
 
 /// Yields a number of times that is drawn from a seed, and counts the jobs, with the sum of their numbers.
 #[derive(Drop)]

@@ -1,5 +1,5 @@
-//! Tests of the crew: what it paints by any number of workers. And of the live view: what readers see, also of
-//! a script while it is painted.
+//! Tests of the crew: what it paints by any number of workers, and that they paint side by side. And of the live
+//! view: what readers see, also of a script while it is painted.
 #![tactic(auto)]
 
 #[cfg(test)]
@@ -10,6 +10,8 @@ mod gates;
 mod live;
 #[cfg(test)]
 mod looks;
+#[cfg(test)]
+mod meets;
 #[cfg(test)]
 mod painted;
 #[cfg(test)]
