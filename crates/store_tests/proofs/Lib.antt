@@ -1,2 +1,3 @@
 pub mod Groups
 mod Noted
+mod Puts
