@@ -14,5 +14,3 @@ mod looks;
 mod meets;
 #[cfg(test)]
 mod painted;
-#[cfg(test)]
-mod small;
