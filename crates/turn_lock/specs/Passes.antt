@@ -24,11 +24,19 @@ pub record Known (E : Type 0) : Type 0 where
 abbrev pub IsOwn : ℕ → List ℕ → Type 0
 IsOwn k numbers = (rest : List ℕ) × (numbers ≡ k ∷ rest)
 
+abbrev pub first_of : List ℕ → ℕ
+first_of [] = 0
+first_of (k ∷ rest) = k
+
 -- the longer of two lists
 abbrev pub longer : {A : Type 0} → List A → List A → List A
 longer xs ys = if nat_lt (length xs) (length ys) then ys else xs
 
 module _ {E : Type 0} where
+  -- the number of the pass's own artist
+  abbrev pub own : Known E → ℕ
+  own p = first_of p.numbers
+
   -- a pass that has seen and made nothing
   abbrev pub fresh : TableId → ℕ → Known E
   fresh id k = record { lock = id; numbers = k ∷ []; made = []; seen = []; calls = 0 }
