@@ -23,6 +23,10 @@ made_of s = s.pass.made
 abbrev pub is_done : Sender → Bool
 is_done s = s.done
 
+-- a sender with one number, which took in none
+abbrev pub IsOne : TableId → Sender → Type 0
+IsOne id s = (s.pass.lock ≡ id) × (length s.pass.numbers ≡ 1)
+
 -- a sender whose pass took in those of all these
 pub record IsAll (id : TableId) (senders : List Sender) (s : Sender) : Type 0 where
   pub studio : s.pass.lock ≡ id
