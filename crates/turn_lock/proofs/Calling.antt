@@ -61,7 +61,7 @@ module _ {S E F : Type 0} (history_of : S → List E) (fixed_of : S → F) where
   -- no other seat has a turn beside a seat that has one, and the slot is with that
   alone : (h : List E) (fixed : F) (word : ℕ) (homes : List (maybe.Option (Option S))) (views : List (View E F)) (k : ℕ) (v : View E F) (t : List E × F) → Place history_of fixed_of h fixed word homes views → SeatHas views k v → v.turn ≡ Some t
       → (homes ≡ none ∷ []) × (t ≡ (h, fixed)) × ((i : ℕ) (u : View E F) → i ≢ k → SeatHas views i u → u.turn ≡ None)
-  alone h fixed word homes views k v t (free x zero home hist fix idle) at up = absurd (cc (up, idle k v at))
+  alone h fixed word homes views k v t (free x is_free home hist fix idle) at up = absurd (cc (up, idle k v at))
   alone h fixed word homes views k v t (taken j u held home there some_kept turn idle) at up = go (ℕ_discrete k j)
     where
       go : Dec (k ≡ j) → (homes ≡ none ∷ []) × (t ≡ (h, fixed)) × ((i : ℕ) (u : View E F) → i ≢ k → SeatHas views i u → u.turn ≡ None)
@@ -154,8 +154,8 @@ module _ {S E F : Type 0} (artist : E → ℕ) (lawful : List E → E → Bool) 
   begins_by : (f : ℕ → ℕ) → ((n : ℕ) → 0 < f n) → (k : ℕ) (me : Me (Option S) (View E F)) (st : Step (Option S)) (s : State (Option S) (View E F)) (h : Rule s) → SeatHas s.views k me.0 → 0 < kept_count me.0
       → (found : ℕ) → slice_index s.words 0 ≡ found → Place history_of fixed_of h.history terms.fixed h.word s.homes s.views
       → (w : View E F) × (a : Act (Option S)) × Valid s.homes me.1 a × Rule (stepped s 0 (f found) k me.1 w a) × Begins artist lawful history_of fixed_of st me found (w, carried_after me.1 a)
-  begins_by f held k me st s h at keeps_some found word (free x zero home hist fix idle) =
-      let is : found ≡ 0 = sym word ∙ (ap (λ (l : List ℕ). slice_index l 0) h.words ∙ zero) in
+  begins_by f held k me st s h at keeps_some found word (free x is_free home hist fix idle) =
+      let is : found ≡ 0 = sym word ∙ (ap (λ (l : List ℕ). slice_index l 0) h.words ∙ is_free) in
       let test : eqb found 0 ≡ true = eq-eqb found 0 is in
       let w = begun me.0 (history_of x) (fixed_of x) in
       let fit = h.known.fits k me.0 at in (

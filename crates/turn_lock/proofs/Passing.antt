@@ -20,12 +20,15 @@ use Rattle.turn_lock.specs.Turns.{kept_count, keeps, made_count, SeatHas, IsCoun
 use Rattle.turn_lock.proofs.Seats.{sum_set, sum_at, sum_two, sum_only, each_set, each_snoc, get_other, one_view}
 use Rattle.turn_lock.proofs.Entries.{prefix_self, prefix_shorter, made_append, made_longer, made_all, made_none}
 
+abbrev bit : Bool → ℕ
+bit b = cond b 1 0
+
 -- how often a number stands in a list with one more in front
-times_cons : (k n : ℕ) (ns : List ℕ) → times k (n ∷ ns) ≡ cond (eqb n k) 1 0 + times k ns
-times_cons k n ns = sum_by-cons (λ (x : ℕ). cond (eqb x k) 1 0) n ns
+times_cons : (k n : ℕ) (ns : List ℕ) → times k (n ∷ ns) ≡ bit (eqb n k) + times k ns
+times_cons k n ns = sum_by-cons (λ (x : ℕ). bit (eqb x k)) n ns
 
 times_append : (k : ℕ) (xs ys : List ℕ) → times k (xs ++ ys) ≡ times k xs + times k ys
-times_append k xs ys = sum_by-append (λ (x : ℕ). cond (eqb x k) 1 0) xs ys
+times_append k xs ys = sum_by-append (λ (x : ℕ). bit (eqb x k)) xs ys
 
 times_few : (k : ℕ) (xs : List ℕ) → times k xs ≤ length xs
 times_few k xs = count_by-le-length (λ (x : ℕ). eqb x k) xs
@@ -33,20 +36,20 @@ times_few k xs = count_by-le-length (λ (x : ℕ). eqb x k) xs
 times_above : (k n more : ℕ) → k < n → times k (range_with_len n more) ≡ 0
 times_above k n zero lt = refl
 times_above k n (suc more) lt =
-    let other : cond (eqb n k) 1 0 ≡ 0 = rw (ne_eqb n k (λ e. omega (arith, e, lt))) refl in
+    let other : bit (eqb n k) ≡ 0 = ap bit (ne_eqb n k (λ e. omega (arith, e, lt))) in
     omega (arith, times_cons k n (range_with_len (n + 1) more), other, times_above k (n + 1) more (omega (arith, lt)))
 
 times_once : (k n more : ℕ) → times k (range_with_len n more) ≤ 1
 times_once k n zero = omega arith
-times_once k n (suc more) = go (ℕ_discrete n k)
+times_once k n (suc more) = go (ℕ_discrete n k) (times_once k (n + 1) more)
   where
-    go : Dec (n ≡ k) → times k (range_with_len n (suc more)) ≤ 1
-    go (yes same) =
-        let one : cond (eqb n k) 1 0 ≡ 1 = rw (eq-eqb n k same) refl in
+    go : Dec (n ≡ k) → times k (range_with_len (n + 1) more) ≤ 1 → times k (range_with_len n (suc more)) ≤ 1
+    go (yes same) few =
+        let one : bit (eqb n k) ≡ 1 = ap bit (eq-eqb n k same) in
         omega (arith, times_cons k n (range_with_len (n + 1) more), one, times_above k (n + 1) more (omega (arith, same)))
-    go (no other) =
-        let none' : cond (eqb n k) 1 0 ≡ 0 = rw (ne_eqb n k other) refl in
-        omega (arith, times_cons k n (range_with_len (n + 1) more), none', times_once k (n + 1) more)
+    go (no other) few =
+        let none' : bit (eqb n k) ≡ 0 = ap bit (ne_eqb n k other) in
+        omega (arith, times_cons k n (range_with_len (n + 1) more), none', few)
 
 -- the first number and the others
 cut_length : (l : List ℕ) → length (drop 1 l) + length (take 1 l) ≡ length l
@@ -179,7 +182,7 @@ module _ {S E F : Type 0} (artist : E → ℕ) (lawful : List E → E → Bool) 
 
   splits_place : (h : List E) (fixed : F) (word : ℕ) (homes : List (maybe.Option (Option S))) (views : List (View E F)) (k : ℕ) (v : View E F) → Place history_of fixed_of h fixed word homes views → SeatHas views k v → v.turn ≡ None
       → Place history_of fixed_of h fixed word homes (set views k (left_view v) ++ right_view v ∷ [])
-  splits_place h fixed word homes views k v (free x zero home hist fix idle) at rests = free x zero home hist fix
+  splits_place h fixed word homes views k v (free x is_free home hist fix idle) at rests = free x is_free home hist fix
       (each_snoc (λ (u : View E F). u.turn ≡ None) (set views k (left_view v)) (right_view v) refl (each_set (λ (j : ℕ) (u : View E F). u.turn ≡ None) views k (left_view v) rests (λ j u other. idle j u)))
   splits_place h fixed word homes views k v (taken j u held out there some_kept turn idle) at rests =
       let l = left_view v in
@@ -187,14 +190,14 @@ module _ {S E F : Type 0} (artist : E → ℕ) (lawful : List E → E → Bool) 
       let other : j ≢ k = apart_from views j k u v (h, fixed) there at turn rests in
       let still : (i : ℕ) (w : View E F) → SeatHas front i w → i ≢ j → w.turn ≡ None = each_set (λ (i : ℕ) (w : View E F). i ≢ j → w.turn ≡ None) views k l (λ away. rests) (λ i w more at' away. idle i w away at') in
       taken j u held out (at_longer front (right_view v ∷ []) j u (get_other views k j l u other there)) some_kept turn
-          (λ i w away at'. ⊎_elim
-          (λ (y : SeatHas front i w). still i w y away)
-          (λ (y : right_view v ≡ w). ap (λ (z : View E F). z.turn) (sym y))
-          (at_snoc front (right_view v) w i at'))
+      (λ i w away at'. ⊎_elim
+      (λ (y : SeatHas front i w). still i w y away)
+      (λ (y : right_view v ≡ w). ap (λ (z : View E F). z.turn) (sym y))
+      (at_snoc front (right_view v) w i at'))
 
   joins_place : (h : List E) (fixed : F) (word : ℕ) (homes : List (maybe.Option (Option S))) (views : List (View E F)) (k : ℕ) (v : View E F) (o : ℕ) (w : View E F) → Place history_of fixed_of h fixed word homes views → SeatHas views k v → v.turn ≡ None → o ≢ k → SeatHas (set views k (joined_view v w)) o w → w.turn ≡ None
       → Place history_of fixed_of h fixed word homes (set (set views k (joined_view v w)) o spent_view)
-  joins_place h fixed word homes views k v o w (free x zero home hist fix idle) at rests apart at' rests' = free x zero home hist fix
+  joins_place h fixed word homes views k v o w (free x is_free home hist fix idle) at rests apart at' rests' = free x is_free home hist fix
       (each_set (λ (j : ℕ) (u : View E F). u.turn ≡ None) (set views k (joined_view v w)) o spent_view refl (λ j u other. each_set (λ (j : ℕ) (u : View E F). u.turn ≡ None) views k (joined_view v w) rests (λ j u other. idle j u) j u))
   joins_place h fixed word homes views k v o w (taken j u held out there some_kept turn idle) at rests apart at' rests' =
       let b = joined_view v w in
@@ -226,23 +229,23 @@ module _ {S E F : Type 0} (artist : E → ℕ) (lawful : List E → E → Bool) 
 
   pub opens : (x : S) → history_of x ≡ [] → fixed_of x ≡ terms.fixed → terms.artists ≤ 16 → Rule (opening (0 ∷ []) (Some x ∷ []) (first_view terms))
   opens x hist fix few = record {
-      word = 0;
-      history = [];
-      words = refl;
-      counted = record {
-        numbers = omega (arith, length-range_with_len 0 terms.artists);
-        most = few;
-        entries = refl;
-        few = one_seat (λ (u : View E F). made_count u ≤ kept_count u * 1048576) (first_view terms) (omega arith);
-      };
-      known = record {
-        legal = refl;
-        fits = one_seat (λ (u : View E F). Fits artist [] u) (first_view terms) (record { begins = ([], refl); own = λ i e. (refl, refl); no_other = λ i zeros. refl });
-        once = λ i. omega (arith, times_once i 0 terms.artists);
-        others = λ i zeros. refl;
-      };
-      place = free x refl refl hist fix (one_seat (λ (u : View E F). u.turn ≡ None) (first_view terms) refl);
-    }
+    word = 0;
+    history = [];
+    words = refl;
+    counted = record {
+      numbers = omega (arith, length-range_with_len 0 terms.artists);
+      most = few;
+      entries = refl;
+      few = one_seat (λ (u : View E F). made_count u ≤ kept_count u * 1048576) (first_view terms) (omega arith);
+    };
+    known = record {
+      legal = refl;
+      fits = one_seat (λ (u : View E F). Fits artist [] u) (first_view terms) (record { begins = ([], refl); own = λ i e. (refl, refl); no_other = λ i zeros. refl });
+      once = λ i. omega (arith, times_once i 0 terms.artists);
+      others = λ i zeros. refl;
+    };
+    place = free x refl refl hist fix (one_seat (λ (u : View E F). u.turn ≡ None) (first_view terms) refl);
+  }
     where
       one_seat : (P : View E F → Type 0) (w : View E F) → P w → (j : ℕ) (u : View E F) → SeatHas (w ∷ []) j u → P u
       one_seat P w p zero u at = subst P (some-injective _ _ at) p
@@ -273,14 +276,17 @@ module _ {S E F : Type 0} (artist : E → ℕ) (lawful : List E → E → Bool) 
       made_of i (suc n) is = ((h.known.fits k v at).own i (mine i n is)).1
 
       go : Place history_of fixed_of h.history terms.fixed h.word s.homes s.views → (x : S) × (s.homes ≡ some (Some x) ∷ []) × Closes v x
-      go (free x zero home hist fix idle) =
-          let whole : h.history ≡ v.seen = made_all artist v.seen h.history (h.known.fits k v at).begins (λ i. all_of i (sum_by (keeps i) s.views) refl) in
-          (x, home, record {
-            whole = hist ∙ whole;
-            fix = fix;
-            made = λ i. made_of i (sum_by (keeps i) s.views) refl;
-            legal = subst (λ (l : List E). IsLegal lawful l) whole h.known.legal;
-          })
+      go (free x is_free home hist fix idle) =
+          let whole : h.history ≡ v.seen = made_all artist v.seen h.history (h.known.fits k v at).begins (λ i. all_of i (sum_by (keeps i) s.views) refl) in (
+            x,
+            home,
+            record {
+              whole = hist ∙ whole;
+              fix = fix;
+              made = λ i. made_of i (sum_by (keeps i) s.views) refl;
+              legal = subst (λ (l : List E). IsLegal lawful l) whole h.known.legal;
+            },
+          )
       go (taken j u held out there some_kept turn idle) =
           let z = no_number j u (apart_from s.views j k u v (h.history, terms.fixed) there at turn rests) there in
           absurd (omega (arith, z, some_kept))

@@ -6,6 +6,9 @@ use mathlib.Core.Option.{some, some-ne-none, some-injective}
 use lib.ListN.{get_elem?}
 use Rattle.atomic_table.proofs.Lists.{at_set, at_snoc, set_else}
 
+both_few : (a b c d m n k : ℕ) → a ≤ c * k → b ≤ d * k → m ≡ a + b → n ≡ c + d → m ≤ n * k
+both_few a b c d m n k h i e f = let p : a + b ≤ (c + d) * k = grind arith in rw (e, f) p
+
 module _ {A : Type 0} where
   -- the sum after a change of one
   pub sum_set : (f : A → ℕ) (views : List A) (j : ℕ) (v w : A) → get_elem? views j ≡ some v → sum_by f (set views j w) + f v ≡ sum_by f views + f w
@@ -31,7 +34,7 @@ module _ {A : Type 0} where
 
   pub sum_few : (f g : A → ℕ) (k : ℕ) (views : List A) → ((j : ℕ) (v : A) → get_elem? views j ≡ some v → f v ≤ g v * k) → sum_by f views ≤ sum_by g views * k
   sum_few f g k [] h = omega arith
-  sum_few f g k (v ∷ vs) h = let a = h 0 v refl in let b = sum_few f g k vs (λ j u at. h (suc j) u at) in let c = sum_by-cons f v vs in let d = sum_by-cons g v vs in grind arith
+  sum_few f g k (v ∷ vs) h = both_few (f v) (sum_by f vs) (g v) (sum_by g vs) (sum_by f (v ∷ vs)) (sum_by g (v ∷ vs)) k (h 0 v refl) (sum_few f g k vs (λ j u at. h (suc j) u at)) (sum_by-cons f v vs) (sum_by-cons g v vs)
 
   sum_none : (f : A → ℕ) (views : List A) → ((j : ℕ) (u : A) → get_elem? views j ≡ some u → f u ≡ 0) → sum_by f views ≡ 0
   sum_none f [] zeros = refl

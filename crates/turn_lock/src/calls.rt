@@ -13,11 +13,7 @@ use geom_core::NoMemory;
 use std::sync::Wait;
 
 /// Waits until nobody has the turn.
-fn queue<E, F, D: Board<E, F>, R: Wait>(
-    rt: &R,
-    table: &Steps<E, F, D>,
-    seat: &mut Place<E, F, D>,
-)
+fn queue<E, F, D: Board<E, F>, R: Wait>(rt: &R, table: &Steps<E, F, D>, seat: &mut Place<E, F, D>)
     requires table { (seat.old.table_id ≡ table.now.table_id) × (0 < table.now.table_id.words) }
     requires number { 0 < kept_count seat.old.me.0 }
     ensures table { seat.new.table_id ≡ seat.old.table_id }

@@ -27,8 +27,7 @@ impl<E, F, D: Board<E, F>> TableRule<Option<D>, View<E, F>, Terms<F>> for Law<D>
     ghost first = { first_view };
 }
 
-pub type Table<E, F, D> =
-    atomic_table::Table<Option<D>, View<E, F>, Terms<F>, Law<D>, Global>;
+pub type Table<E, F, D> = atomic_table::Table<Option<D>, View<E, F>, Terms<F>, Law<D>, Global>;
 
 /// A seat takes the turn, if nobody has it.
 pub struct Begin<D> {

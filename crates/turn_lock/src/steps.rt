@@ -13,10 +13,7 @@ pub(crate) type Steps<E, F, D> = Shared<Option<D>, View<E, F>, Terms<F>, Law<D>>
 pub(crate) type Place<E, F, D> = Seat<Option<D>, View<E, F>>;
 
 /// Takes the turn where nobody has it, which a 0 tells.
-pub(crate) fn begin<E, F, D: Board<E, F>>(
-    table: &Steps<E, F, D>,
-    seat: &mut Place<E, F, D>,
-) -> u64
+pub(crate) fn begin<E, F, D: Board<E, F>>(table: &Steps<E, F, D>, seat: &mut Place<E, F, D>) -> u64
     requires table { (seat.old.table_id ≡ table.now.table_id) × (0 < table.now.table_id.words) }
     requires number { 0 < kept_count seat.old.me.0 }
     ensures table { seat.new.table_id ≡ seat.old.table_id }
