@@ -1,16 +1,39 @@
 -- A legal history's commands are lawful.
-use Rattle.std.proofs.Common.{◌≡◌, Bool, true, false, ◌&&◌, List, [], ◌∷◌, ◌++◌, refl, sym, subst, append_assoc, append-nil}
+use Rattle.std.proofs.Common.{◌≡◌, ℕ, Bool, true, false, ◌&&◌, List, [], ◌∷◌, ◌++◌, length, refl, sym, ap, subst, append_assoc, append-nil, arith}
 use Rattle.std.proofs.lemmas.List.{map-append}
 use Rattle.std.specs.Prelude.{Result, Ok, Err}
 use Rattle.doc_model.specs.declared.command.Command.{Command}
-use Rattle.doc_model.specs.Lawful.{lawful}
+use Rattle.doc_model.specs.Lawful.{lawful, may_follow}
+use Rattle.doc_model.specs.Strokes.{entries}
 use Rattle.doc_model.proofs.Feeding.{lawful_last}
 use Rattle.turn_lock.specs.declared.sent.Sent.{Sent}
 use Rattle.turn_lock.specs.declared.sent.Sent.TheVariants.{Accepted, Unlawful}
 use Rattle.turn_lock.specs.History.{is_legal_after, IsLegal}
 use Rattle.turn_lock.specs.Answers.{Answers}
 use Rattle.studio.specs.declared.signed.Signed.{Signed}
-use Rattle.studio.specs.Histories.{may_be_next, commands_of}
+use Rattle.studio.specs.Histories.{signed, signed_all, may_be_next, commands_of}
+
+pub all_last : (ks : List ℕ) (cs : List Command) (k : ℕ) (c : Command) → length ks ≡ length cs → signed_all (ks ++ k ∷ []) (cs ++ c ∷ []) ≡ signed_all ks cs ++ signed k c ∷ []
+all_last [] [] k c e = refl
+all_last [] (d ∷ cs) k c e = absurd (omega arith)
+all_last (j ∷ ks) [] k c e = absurd (omega arith)
+all_last (j ∷ ks) (d ∷ cs) k c e = ap (λ l. signed j d ∷ l) (all_last ks cs k c (omega (arith, e)))
+
+pub all_commands : (ks : List ℕ) (cs : List Command) → length ks ≡ length cs → commands_of (signed_all ks cs) ≡ cs
+all_commands [] [] e = refl
+all_commands [] (d ∷ cs) e = absurd (omega arith)
+all_commands (j ∷ ks) [] e = absurd (omega arith)
+all_commands (j ∷ ks) (d ∷ cs) e = ap (λ l. d ∷ l) (all_commands ks cs (omega (arith, e)))
+
+pub all_length : (ks : List ℕ) (cs : List Command) → length ks ≡ length cs → length (signed_all ks cs) ≡ length cs
+all_length [] [] e = refl
+all_length [] (d ∷ cs) e = absurd (omega arith)
+all_length (j ∷ ks) [] e = absurd (omega arith)
+all_length (j ∷ ks) (d ∷ cs) e = let h = all_length ks cs (omega (arith, e)) in omega (arith, h)
+
+-- what may follow the history may follow the desk's commands
+pub next_of : (ks : List ℕ) (cs : List Command) (s : Signed) → length ks ≡ length cs → may_be_next (signed_all ks cs) s ≡ may_follow (entries cs) s.command
+next_of ks cs s e = ap (λ l. may_follow (entries l) s.command) (all_commands ks cs e)
 
 one_more : (before : List Signed) (x : Signed) → lawful (commands_of before) ≡ true → may_be_next before x ≡ true → lawful (commands_of (before ++ x ∷ [])) ≡ true
 one_more before x ok may = subst (λ (cs : List Command). lawful cs ≡ true) (sym (map-append (λ (s : Signed). s.command) before (x ∷ []))) (lawful_last (commands_of before) x.command ok may)

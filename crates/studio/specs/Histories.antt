@@ -1,5 +1,5 @@
 -- Histories of commands, each signed by an artist's number.
-use Rattle.std.specs.Prelude.{ℕ, Bool, List, map}
+use Rattle.std.specs.Prelude.{ℕ, Bool, List, [], ◌∷◌, map}
 use Rattle.atomic_table.specs.Seated.{TableId}
 use Rattle.doc_model.specs.declared.canvas.Canvas.{Canvas}
 use Rattle.doc_model.specs.declared.command.Command.{Command}
@@ -18,6 +18,11 @@ signed k c = record { artist = k; command = c }
 
 abbrev pub signer : Signed → ℕ
 signer s = s.artist
+
+-- commands, each with the number at its place
+abbrev pub signed_all : List ℕ → List Command → List Signed
+signed_all (k ∷ ks) (c ∷ cs) = signed k c ∷ signed_all ks cs
+signed_all ks cs = []
 
 abbrev pub commands_of : List Signed → List Command
 commands_of history = map (λ (s : Signed). s.command) history

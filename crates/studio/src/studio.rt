@@ -5,7 +5,7 @@ ghost use Rattle.doc_model.specs.Lawful.{lawful};
 ghost use Rattle.turn_lock.specs.History.{made_by};
 ghost use Rattle.turn_lock.specs.Answers.{added};
 ghost use Rattle.turn_lock.specs.Passes.{all_fresh, called, joined, own, HasTurn};
-ghost use Rattle.studio.specs.Histories.{signed, signer, commands_of, may_be_next};
+ghost use Rattle.studio.specs.Histories.{signed, signed_all, signer, commands_of, may_be_next};
 
 use crate::signed::Signed;
 use crate::stage::Stage;
@@ -36,11 +36,12 @@ impl Model for Studio {
     ghost view = { λ s. record { id = s.lock.id; artists = s.lock.artists; canvas = s.lock.fixed } };
 }
 
-/// The desk of a studio that was closed, and the commands that it was fed, each with its artist.
+/// The desk of a studio that was closed, and of each command that it was fed, in that order, the artist's
+/// number: the history is both.
 #[derive(Drop)]
 pub struct Closed {
     pub desk: Desk,
-    pub history: Vec<Signed>,
+    pub signers: Vec<u32>,
 }
 
 impl Studio {
@@ -65,7 +66,7 @@ impl Studio {
     {
         let stage = Stage {
             desk: Desk::new(alloc, canvas, slots)?,
-            history: Vec::new(alloc),
+            signers: Vec::new(alloc),
         };
         let (lock, passes) = TurnLock::new(alloc, artists, canvas, stage)?;
         Ok((Studio { lock }, passes))
@@ -107,14 +108,14 @@ impl Studio {
     pub fn close(self, pass: Pass) -> Closed
         requires studio { pass.lock ≡ self.id }
         requires all { length pass.numbers ≡ self.artists }
-        ensures seen { result.history.items ≡ pass.seen }
-        ensures made { (k : ℕ) → made_by signer k result.history.items ≡ made_by signer k pass.made }
-        ensures fed { result.desk.fed ≡ commands_of result.history.items }
+        ensures seen { signed_all result.signers.items result.desk.fed ≡ pass.seen }
+        ensures fed { result.desk.fed ≡ commands_of pass.seen }
+        ensures made { (k : ℕ) → made_by signer k pass.seen ≡ made_by signer k pass.made }
         ensures canvas { result.desk.canvas ≡ self.canvas }
         ensures lawful { lawful result.desk.fed ≡ true }
     {
         let Studio { lock } = self;
-        let Stage { desk, history } = lock.close(pass);
-        Closed { desk, history }
+        let Stage { desk, signers } = lock.close(pass);
+        Closed { desk, signers }
     }
 }
