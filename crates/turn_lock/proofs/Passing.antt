@@ -1,7 +1,7 @@
 -- The rule holds at the start, where a seat is cut in two, and where two are joined; and what it says at the end.
 use Rattle.std.proofs.Common.{◌≡◌, ◌≢◌, ℕ, zero, suc, ◌+◌, ◌*◌, ◌<◌, ◌≤◌, ◌⊎◌, List, [], ◌∷◌, ◌++◌, length, length-append, append-nil, take, drop, set, eqb, ne_eqb, eq-eqb, Some, None, Bool, true, false, refl, sym, ap, ◌∙◌, subst, inl, inr, ⊎_elim, arith, cond, ltb}
 use Rattle.std.specs.Prelude.{Option}
-use Rattle.std.specs.List.{sum_by, count_by, range_with_len}
+use Rattle.std.specs.List.{sum_by, range_with_len}
 use Rattle.std.proofs.lemmas.Bool.Decides.{nat_tests}
 use Rattle.std.proofs.lemmas.List.Sums.{sum_by-cons, sum_by_push, sum_by-append, count_by-le-length}
 use Rattle.std.proofs.lemmas.List.FromFn.{length-range_with_len}

@@ -1,5 +1,5 @@
 -- What is answered where an entry is offered at a history.
-use Rattle.std.specs.Prelude.{◌≡◌, ℕ, Bool, true, false, List, [], ◌∷◌, ◌++◌, length, Result, Ok, Err}
+use Rattle.std.specs.Prelude.{◌≡◌, Bool, true, false, List, [], ◌∷◌, ◌++◌, length, Result, Ok, Err}
 use Rattle.turn_lock.specs.declared.sent.Sent.{Sent}
 use Rattle.turn_lock.specs.declared.sent.Sent.TheVariants.{Accepted, Unlawful}
 

@@ -1,6 +1,6 @@
 use Rattle.std.proofs.Common.{◌≡◌, ℕ, sym, ap, subst}
 use Rattle.turn_lock.specs.Answers.{added}
-use Rattle.turn_lock.specs.Passes.{called, first_of, own, HasTurn}
+use Rattle.turn_lock.specs.Passes.{called, first_of, HasTurn}
 use Rattle.studio.specs.Histories.{signed, signer, may_be_next}
 use Rattle.studio.proofs.Signing.{answered_lawful}
 use Rattle.studio.proofs.studio.Studio.send.Goals as goal

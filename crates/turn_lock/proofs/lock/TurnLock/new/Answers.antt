@@ -1,4 +1,3 @@
-use Rattle.std.proofs.Common.{refl}
 use Rattle.turn_lock.proofs.Passing.{opens}
 use Rattle.turn_lock.proofs.lock.TurnLock.new.Goals as goal
 
