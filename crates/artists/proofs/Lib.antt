@@ -1,2 +1,2 @@
 mod Sharing
-mod Sending
+mod Whole

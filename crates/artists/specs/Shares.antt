@@ -8,10 +8,10 @@ use Rattle.studio.specs.Histories.{signed}
 
 -- the number of the stroke that the command is of, or else 0
 abbrev pub stroke_no : Command → ℕ
-stroke_no (command.Stroke no layer exclusive) = no
-stroke_no (command.Add no kind job) = no
-stroke_no (command.End no) = no
-stroke_no (command.Cancel no) = no
+stroke_no (command.Stroke n layer exclusive) = n
+stroke_no (command.Add n kind job) = n
+stroke_no (command.End n) = n
+stroke_no (command.Cancel n) = n
 stroke_no c = 0
 
 -- of n artists, the one who sends the command: those of stroke S are of artist S mod n, all others of artist 0
