@@ -135,6 +135,7 @@ impl Front {
         requires { IsSome self.old.room }
         ensures { IfSome self.old.room (λ c. self.new.items ≡ self.old.items ++ c ∷ []) }
     {
+        let _list = self.list.as_slice();
         self.len += 1;
     }
 }
