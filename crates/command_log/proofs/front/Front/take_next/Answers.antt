@@ -9,7 +9,7 @@ pub overflow_add-self : goal.overflow_add-self
 overflow_add-self c =
     let some : is_some c.args.self.now.room ≡ true = c.requires in
     let next : c.self.inside.len < length (all c.self.inside.list) = next_within (all c.self.inside.list) c.self.inside.len (subst (λ (l : Log). is_some l.room ≡ true) (sym c.self.view_is) some) in
-    let long : length c.as_slice.result.now ≡ length (all c.self.inside.list) = ap length c.as_slice.ensures in
+    let long : length c.as_slice-list.result.now ≡ length (all c.self.inside.list) = ap length c.as_slice-list.ensures in
     omega arith
 
 pub invariant_of-self : goal.invariant_of-self
