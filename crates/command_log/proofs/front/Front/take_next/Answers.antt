@@ -1,4 +1,4 @@
-use Rattle.std.proofs.Common.{◌≡◌, ◌<◌, ◌+◌, ◌++◌, ◌∷◌, [], true, take, length, ap, sym, ◌∙◌, subst, arith}
+use Rattle.std.proofs.Common.{◌≡◌, ◌<◌, ◌+◌, ◌++◌, ◌∷◌, [], true, take, length, ap, sym, subst, arith}
 use Rattle.std.specs.Prelude.{is_some, IfSome}
 use Rattle.command_log.specs.Log.{Log}
 use Rattle.command_log.specs.Fronts.{all}
