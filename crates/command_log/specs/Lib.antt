@@ -2,3 +2,4 @@ pub mod Log
 pub mod Misfits
 pub mod Table
 pub mod Told
+pub mod Fronts

@@ -1,6 +1,6 @@
 //! Commands in order, and what has to be known of them to take one more.
 
-ghost use Rattle.std.specs.Prelude.{◌≡◌, [], ◌∷◌, ◌++◌, ◌&&◌, Err, IfOk, OnOk, OnErr, ◌<◌, ◌≤◌, true, false, vec_len, vec_capacity};
+ghost use Rattle.std.specs.Prelude.{◌≡◌, [], ◌∷◌, ◌++◌, ◌&&◌, Err, Some, IfOk, OnOk, OnErr, ◌≤◌, true};
 ghost use Rattle.std.specs.List.{list_any};
 ghost use Rattle.doc_model.specs.Strokes.{entries, is_open_stroke, has_room};
 ghost use Rattle.doc_model.specs.Lawful.{may_follow};
@@ -9,7 +9,9 @@ ghost use Rattle.command_log.specs.Misfits.{misfit_of, jobs_misfit};
 ghost use Rattle.command_log.specs.Log.{Refuses};
 ghost use Rattle.command_log.specs.Table.{Tells, export_misfit as said_export, exports_after as count_after};
 
+use crate::front::Front;
 use crate::refusal::{Misfit, Refusal};
+use crate::shared::Commands;
 use crate::table::{Fed, Table};
 use doc_model::Command;
 use geom_core::NoMemory;
@@ -23,13 +25,13 @@ const MOST_EXPORTS: u32 = 64;
 /// follow takes one look-up.
 #[derive(Drop)]
 pub struct CommandLog {
-    commands: Vec<Command>,
+    commands: Front,
     strokes: Table,
     exports: u32,
 }
 
 impl Model for CommandLog {
-    ghost use Rattle.std.specs.Prelude.{◌&&◌, not, nat_lt, is_some, vec_len, vec_capacity};
+    ghost use Rattle.std.specs.Prelude.{None, is_some, if◌then◌else◌};
     ghost use Rattle.command_log.specs.Log.{Log, log, log_code};
 
     ghost Value = { Log };
@@ -38,7 +40,7 @@ impl Model for CommandLog {
 
     ghost use Rattle.command_log.specs.Told.{IsTold};
 
-    ghost view = { λ l. log l.commands.items (nat_lt (vec_len l.commands) (vec_capacity l.commands) && not (is_some l.strokes.newest)) };
+    ghost view = { λ l. log l.commands.items (if is_some l.strokes.newest then None else l.commands.room) };
 
     ghost invariant = { IsTold };
 }
@@ -70,7 +72,7 @@ impl CommandLog {
         ensures { result.items ≡ [] }
     {
         CommandLog {
-            commands: Vec::new(alloc),
+            commands: Front::own(alloc, Vec::new(alloc)),
             strokes: Table::new(alloc),
             exports: 0,
         }
@@ -81,7 +83,19 @@ impl CommandLog {
         ensures { IfOk result (λ l. l.items ≡ []) }
     {
         Ok(CommandLog {
-            commands: Vec::with_capacity(alloc, capacity)?,
+            commands: Front::own(alloc, Vec::with_capacity(alloc, capacity)?),
+            strokes: Table::new(alloc),
+            exports: 0,
+        })
+    }
+
+    /// No commands. As long as each that is taken is the next one of the list, they aren't kept once
+    /// more. `NoMemory` only where the list's count of references is full.
+    pub fn following(alloc: Global, list: &Commands) -> Result<Self, NoMemory>
+        ensures { IfOk result (λ l. l.items ≡ []) }
+    {
+        Ok(CommandLog {
+            commands: Front::following(alloc, list.share()?),
             strokes: Table::new(alloc),
             exports: 0,
         })
@@ -91,14 +105,14 @@ impl CommandLog {
     pub fn commands(&self) -> &[Command]
         ensures { result.now ≡ self.now.items }
     {
-        &self.commands
+        self.commands.as_slice()
     }
 
-    /// The commands, and no more.
-    pub fn into_commands(self) -> Vec<Command>
-        ensures { result.items ≡ self.items }
+    /// The commands, and no more, as a list that may be shared.
+    pub fn into_commands(self) -> Result<Commands, NoMemory>
+        ensures { IfOk result (λ c. c ≡ self.items) }
     {
-        self.commands
+        self.commands.into_commands()
     }
 
     /// What is kept of the stroke with that number.
@@ -155,21 +169,22 @@ impl CommandLog {
         }
     }
 
-    /// Makes room for one more command.
+    /// Makes room for the command. None is wanted where it is the next one of a list that is followed,
+    /// and no stroke was started.
     ///
     /// # Errors
     /// `NoMemory`; the commands stay.
-    pub fn make_room(&mut self) -> Result<(), NoMemory>
+    pub fn make_room(&mut self, command: &Command) -> Result<(), NoMemory>
         ensures items { self.new.items ≡ self.old.items }
-        ensures room { OnOk result (self.new.room ≡ true) }
+        ensures room { OnOk result (self.new.room ≡ Some command.now) }
     {
-        self.commands.reserve(1)?;
+        self.commands.make_room(command)?;
         self.strokes.put_back()
     }
 
     /// Takes a command that may follow, where there is room for it.
     pub fn push(&mut self, command: Command)
-        requires room { self.old.room ≡ true }
+        requires room { self.old.room ≡ Some command }
         requires lawful { may_follow (entries self.old.items) command ≡ true }
         ensures { self.new.items ≡ self.old.items ++ command ∷ [] }
     {
@@ -182,29 +197,21 @@ impl CommandLog {
     /// Takes a command, unless it may not follow for another cause than its job's own limits.
     ///
     /// # Errors
-    /// `Misfit` where it may not follow; `NoMemory` where there was no room. The commands stay.
+    /// `Misfit` where it may not follow; `NoMemory` where there was no room for it. The commands stay.
     #[inline(always)]
     pub fn add(&mut self, command: Command) -> Result<(), Refusal>
         ensures refused { Refuses result (misfit_of (entries self.old.items) command) }
         ensures taken { OnOk result (self.new.items ≡ self.old.items ++ command ∷ []) }
         ensures same { OnErr result (self.new.items ≡ self.old.items) }
-        ensures full { result ≡ Err refusal.NoMemory → self.old.room ≡ false }
+        ensures full { result ≡ Err refusal.NoMemory → self.old.room ≡ Some command → ⊥ }
     {
         if let Some(misfit) = export_misfit(self.exports, &command) {
             return Err(Refusal::Misfit(misfit));
         }
-        self.commands.reserve(1)?;
+        self.commands.make_room(&command)?;
         self.strokes.take(&command)?;
         self.exports = exports_after(self.exports, &command);
-        put_last(&mut self.commands, command);
+        self.commands.take_next();
         Ok(())
     }
-}
-
-/// Adds an item at the end, where there is room for it.
-fn put_last<T: Copy>(items: &mut Vec<T>, item: T)
-    requires { vec_len items.old < vec_capacity items.old }
-    ensures { items.new.items ≡ items.old.items ++ item ∷ [] }
-{
-    items.push_reserved(item);
 }

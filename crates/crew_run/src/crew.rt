@@ -352,7 +352,7 @@ fn run_on<L: Ledger, R: Threads + Wait + Sync, G: Gate, W: Watching>(
     Ok(desk)
 }
 
-/// A desk for a script.
+/// A desk for a script, which keeps the script's commands no second time.
 fn new_desk(alloc: Global, script: &Script, slots: u8) -> Result<Desk, NoMemory>
     requires some { 1 ≤ slots }
     requires few { slots ≤ 17 }
@@ -360,5 +360,5 @@ fn new_desk(alloc: Global, script: &Script, slots: u8) -> Result<Desk, NoMemory>
     ensures front { IfOk result (λ d. IsFront d.fed script.now.commands) }
 {
     let _commands = script.commands();
-    Desk::new(alloc, script.canvas(), slots)
+    Desk::following(alloc, script.canvas(), slots, script.list())
 }

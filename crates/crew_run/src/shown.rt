@@ -39,9 +39,6 @@ pub fn run_shown<R: Threads + Wait + Sync, G: Gate>(
 {
     let desk = run_crew(rt, alloc, script, workers, gate)?;
     settled_has_meaning(&desk);
-    let outcomes = Vec::from_slice(alloc, desk.outcomes())?;
-    Ok(Shown {
-        film: desk.into_film(),
-        outcomes,
-    })
+    let (film, outcomes) = desk.into_results();
+    Ok(Shown { film, outcomes })
 }

@@ -12,6 +12,7 @@ ghost use Rattle.desk_core.specs.declared.answers.Ended.TheVariants as ended;
 ghost use Rattle.desk_parts.specs.Enabled.{Takes, IsEnd, MayEnd};
 
 use crate::answers::{Ended, Published};
+use command_log::Commands;
 use desk_damage::TrackedMachine;
 use desk_machine::SlotId;
 use doc_model::{Canvas, Command};
@@ -47,6 +48,23 @@ impl Desk {
         ensures { IfOk result (λ d. d ≡ new_state canvas slots) }
     {
         let machine = TrackedMachine::new(alloc, canvas, slots)?;
+        Ok(Desk { machine })
+    }
+
+    /// The same. As long as each command that is fed is the next one of the list, what was fed isn't
+    /// kept once more.
+    pub fn following(
+        alloc: Global,
+        canvas: Canvas,
+        slots: u8,
+        list: &Commands,
+    ) -> Result<Desk, NoMemory>
+        requires canvas { IsOfLimits canvas }
+        requires some { 1 ≤ slots }
+        requires few { slots ≤ 17 }
+        ensures { IfOk result (λ d. d ≡ new_state canvas slots) }
+    {
+        let machine = TrackedMachine::following(alloc, canvas, slots, list)?;
         Ok(Desk { machine })
     }
 

@@ -63,6 +63,16 @@ impl Desk {
         machine.into_film()
     }
 
+    /// The film of the frames, as `into_film` gives it, and the outcomes so far, in order.
+    pub fn into_results(self) -> (Film, Vec<Outcome>)
+        ensures frames { map colours_of result.0 ≡ self.frames }
+        ensures sides { All (HasSides self.canvas) result.0 }
+        ensures outcomes { result.1.items ≡ self.outcomes }
+    {
+        let Desk { machine } = self;
+        machine.into_results()
+    }
+
     /// The outcomes so far, in order.
     pub fn outcomes(&self) -> &[Outcome]
         ensures { result.now ≡ self.now.outcomes }

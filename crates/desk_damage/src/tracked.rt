@@ -3,9 +3,11 @@
 ghost use Rattle.std.specs.Prelude.{◌≡◌, ◌≤◌, IfOk};
 ghost use Rattle.doc_model.specs.Canvases.{IsOfLimits};
 ghost use Rattle.machine_model.specs.State.{new_state};
+ghost use Rattle.machine_model.specs.SoundnessLaws.{IsNew};
 
 use crate::changes::begin_anew;
 use crate::spread::Spread;
+use command_log::Commands;
 use desk_machine::Machine;
 use doc_model::Canvas;
 use geom_core::NoMemory;
@@ -49,6 +51,31 @@ impl TrackedMachine {
         ensures { IfOk result (λ d. d ≡ new_state canvas slots) }
     {
         let machine = Machine::new(alloc, canvas, slots)?;
+        TrackedMachine::of_new(alloc, machine)
+    }
+
+    /// The same. As long as each command that is fed is the next one of the list, what was fed isn't
+    /// kept once more.
+    pub fn following(
+        alloc: Global,
+        canvas: Canvas,
+        slots: u8,
+        list: &Commands,
+    ) -> Result<TrackedMachine, NoMemory>
+        requires canvas { IsOfLimits canvas }
+        requires some { 1 ≤ slots }
+        requires few { slots ≤ 17 }
+        ensures { IfOk result (λ d. d ≡ new_state canvas slots) }
+    {
+        let machine = Machine::following(alloc, canvas, slots, list)?;
+        TrackedMachine::of_new(alloc, machine)
+    }
+
+    /// A machine on which nothing was done so far.
+    fn of_new(alloc: Global, machine: Machine) -> Result<TrackedMachine, NoMemory>
+        requires { IsNew machine }
+        ensures { IfOk result (λ d. d ≡ machine) }
+    {
         let mut damage = Box::new(alloc, Spread::none())?;
         begin_anew(&machine, &mut damage);
         Ok(TrackedMachine {

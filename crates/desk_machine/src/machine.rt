@@ -1,6 +1,6 @@
 //! What a desk keeps, seen as a state of the machine.
 
-ghost use Rattle.std.specs.Prelude.{◌≡◌, ◌≤◌, ◌<◌, ◌-◌, ◌^◌, true, OnOk, OnErr, IfOk, length};
+ghost use Rattle.std.specs.Prelude.{◌≡◌, ◌≤◌, ◌<◌, ◌-◌, ◌^◌, [], true, OnOk, OnErr, IfOk, length};
 ghost use Rattle.doc_model.specs.Canvases.{IsOfLimits};
 ghost use Rattle.doc_model.specs.Lawful.{may_follow};
 ghost use Rattle.doc_model.specs.Strokes.{entries};
@@ -8,7 +8,7 @@ ghost use Rattle.machine_model.specs.State.{new_state};
 ghost use Rattle.machine_model.specs.Event.{Feed};
 ghost use Rattle.machine_model.specs.Step.{Step};
 
-use command_log::CommandLog;
+use command_log::{CommandLog, Commands};
 use desk_parts::Work;
 use desk_steps::Store;
 use desk_work::FilmedCaches;
@@ -62,13 +62,46 @@ impl Machine {
         requires few { slots ≤ 17 }
         ensures { IfOk result (λ d. d ≡ new_state canvas slots) }
     {
+        Machine::with_log(alloc, canvas, slots, CommandLog::new(alloc))
+    }
+
+    /// The same. As long as each command that is fed is the next one of the list, what was fed isn't
+    /// kept once more.
+    pub fn following(
+        alloc: Global,
+        canvas: Canvas,
+        slots: u8,
+        list: &Commands,
+    ) -> Result<Machine, NoMemory>
+        requires canvas { IsOfLimits canvas }
+        requires some { 1 ≤ slots }
+        requires few { slots ≤ 17 }
+        ensures { IfOk result (λ d. d ≡ new_state canvas slots) }
+    {
+        let fed = CommandLog::following(alloc, list)?;
+        Machine::with_log(alloc, canvas, slots, fed)
+    }
+
+    /// A desk with that many slots, and a log in which nothing stands.
+    fn with_log(
+        alloc: Global,
+        canvas: Canvas,
+        slots: u8,
+        fed: CommandLog,
+    ) -> Result<Machine, NoMemory>
+        requires nothing { fed.items ≡ [] }
+        requires canvas { IsOfLimits canvas }
+        requires some { 1 ≤ slots }
+        requires few { slots ≤ 17 }
+        ensures { IfOk result (λ d. d ≡ new_state canvas slots) }
+    {
         let store = Store::new(alloc)?;
         let filmed = FilmedCaches::new(alloc)?;
         let free = Slots::new(alloc, slots)?;
         Ok(Machine {
             alloc,
             canvas,
-            fed: CommandLog::new(alloc),
+            fed,
             queue: Queue::new(alloc),
             store,
             filmed,
@@ -89,7 +122,7 @@ impl Machine {
         ensures ok { OnOk result (Step self.old (Feed command.now) self.new) }
         ensures err { OnErr result (self.new ≡ self.old) }
     {
-        self.fed.make_room()?;
+        self.fed.make_room(command)?;
         self.queue.push(command)?;
         self.fed.push(*command);
         Ok(())

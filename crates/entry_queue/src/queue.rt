@@ -127,6 +127,14 @@ impl Queue {
         self.outcomes.as_slice()
     }
 
+    /// The outcomes so far, in order, and no more.
+    pub fn into_outcomes(self) -> Vec<Outcome>
+        ensures { result.items ≡ self.outcomes }
+    {
+        let Queue { outcomes, .. } = self;
+        outcomes
+    }
+
     /// A new waiting stroke.
     fn open(&mut self, no: u32, layer: u16, exclusive: bool) -> Result<(), NoMemory>
         requires { list_any (is_numbered no) self.old.left ≡ false }

@@ -5,13 +5,16 @@ ghost use Rattle.std.specs.FinMap as map;
 ghost use Rattle.tile_core.specs.Frames.{Scene, scene};
 
 use crate::fixtures::opaque;
-use geom_core::NoMemory;
+use geom_core::{NoMemory, TileKey};
 use io_edge::{Failed, MemSink};
 use pixel_core::Pixel;
 use ppm_out::{write_frame, write_frames};
 use std::alloc::Global;
 use std::test::Fail;
-use tile_core::{Damage, Film, Frame};
+use tile_core::{Film, Frame, Marks};
+
+/// The tile that the one point is in.
+const CORNER: TileKey = TileKey { row: 0, col: 0 };
 
 #[test]
 fn one_point_of_paper(rt: HostRuntime) -> Result<(), Fail> {
@@ -32,7 +35,9 @@ fn push_point(alloc: Global, film: &mut Film, paper: Pixel) -> Result<(), NoMemo
     requires opaque { paper.a ≡ 255 }
     ensures { OnOk result (film.new ≡ film.old ++ scene 1 1 paper map.empty ∷ []) }
 {
-    film.push(Frame::new(alloc, 1, 1, paper)?, Damage::all().tiles())
+    let mut fresh = Marks::none();
+    fresh.mark(CORNER);
+    film.push(Frame::new(alloc, 1, 1, paper)?, fresh)
 }
 
 /// Two frames of one point, of one paper and then of another.

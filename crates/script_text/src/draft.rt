@@ -13,7 +13,7 @@ ghost use Rattle.script_text.specs.Read.{IsRefused};
 ghost use Rattle.script_text.specs.Reading.{cause_of as said_cause, misfit as said_misfit};
 
 use crate::script::{ReadRefusal, at};
-use command_log::{CommandLog, Misfit, Refusal};
+use command_log::{CommandLog, Commands, Misfit, Refusal};
 use doc_model::{Command, Job, Kind};
 use geom_core::NoMemory;
 use script_lines::Cause;
@@ -116,8 +116,8 @@ impl Draft {
     }
 
     /// The commands, and no more.
-    pub(crate) fn into_commands(self) -> Vec<Command>
-        ensures items { result.items ≡ self }
+    pub(crate) fn into_commands(self) -> Result<Commands, NoMemory>
+        ensures items { IfOk result (λ c. c ≡ self) }
         ensures ranges { list_all in_range self ≡ true }
         ensures lawful { lawful self ≡ true }
     {

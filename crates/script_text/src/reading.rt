@@ -242,7 +242,7 @@ impl Reading {
         };
         match left {
             Some(line) => Err(at(line, Cause::StrokeLeft)),
-            None => Ok(Script::from_parts(canvas, draft.into_commands())),
+            None => Ok(Script::from_parts(canvas, draft.into_commands()?)),
         }
     }
 }

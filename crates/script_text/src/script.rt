@@ -6,6 +6,7 @@ ghost use Rattle.script_text.specs.Closed.{is_script};
 ghost use Rattle.script_text.specs.Read.{refusal};
 ghost use Rattle.script_text.specs.declared.script.ReadRefusal.TheVariants.{NoMemory};
 
+use command_log::Commands;
 use doc_model::{Canvas, Command};
 use geom_core::NoMemory;
 use script_lines::Cause;
@@ -44,7 +45,7 @@ pub enum MakeRefusal {
 #[derive(Drop)]
 pub struct Script {
     canvas: Canvas,
-    commands: Vec<Command>,
+    commands: Commands,
 }
 
 impl Model for Script {
@@ -56,16 +57,16 @@ impl Model for Script {
 
     ghost coded = { contents_code };
 
-    ghost view = { λ s. contents s.canvas s.commands.items };
+    ghost view = { λ s. contents s.canvas s.commands };
 
-    ghost invariant = { λ s. is_script (contents s.canvas s.commands.items) ≡ true };
+    ghost invariant = { λ s. is_script (contents s.canvas s.commands) ≡ true };
 }
 
 impl Script {
     /// A canvas and commands that are a script.
-    pub(crate) fn from_parts(canvas: Canvas, commands: Vec<Command>) -> Script
-        requires { is_script (contents canvas commands.items) ≡ true }
-        ensures { result ≡ contents canvas commands.items }
+    pub(crate) fn from_parts(canvas: Canvas, commands: Commands) -> Script
+        requires { is_script (contents canvas commands) ≡ true }
+        ensures { result ≡ contents canvas commands }
     {
         Script { canvas, commands }
     }
@@ -81,14 +82,14 @@ impl Script {
     pub fn len(&self) -> usize
         ensures { result ≡ length self.now.commands }
     {
-        self.commands.len()
+        self.commands().len()
     }
 
     /// Whether there are no commands.
     pub fn is_empty(&self) -> bool
         ensures { result ≡ (length self.now.commands == 0) }
     {
-        self.commands.is_empty()
+        self.commands().is_empty()
     }
 
     /// The command at place `i`, from 0 on.
@@ -96,13 +97,20 @@ impl Script {
         requires { i < length self.now.commands }
         ensures { slice_get self.now.commands i ≡ Some result.now }
     {
-        &self.commands[i]
+        &self.commands()[i]
     }
 
     /// All commands, in order.
     pub fn commands(&self) -> &[Command]
         ensures value { result.now ≡ self.now.commands }
         ensures script { is_script self.now ≡ true }
+    {
+        self.commands.as_slice()
+    }
+
+    /// The same, as a list that may be shared.
+    pub fn list(&self) -> &Commands
+        ensures { result.now ≡ self.now.commands }
     {
         &self.commands
     }

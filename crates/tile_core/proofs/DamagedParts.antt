@@ -1,10 +1,10 @@
 -- Damaged parts of tiles, before and after a rectangle is added.
-use Rattle.std.proofs.Common.{◌≡◌, ℕ, ◌+◌, ◌≤◌, ◌<◌, Bool, true, false, ◌&&◌, ◌||◌, cond, List, length, take, Option, Some, None, is_some, refl, ap, sym, ◌∙◌, arith, set, get_or, ltb, replicate, ◌⊎◌, inl, inr, subst}
+use Rattle.std.proofs.Common.{◌≡◌, ℕ, ◌+◌, ◌≤◌, ◌<◌, Bool, true, false, ◌&&◌, ◌||◌, cond, List, length, take, Option, Some, None, is_some, refl, ap, sym, ◌∙◌, arith, set, get_or, ltb, replicate, subst}
 use Rattle.std.specs.Prelude.{ℤ, pos, negsuc, ◌+ℤ◌, ◌-ℤ◌, ◌*ℤ◌, int_le, int_lt, ◌≤ℤ◌, ◌<ℤ◌, nat_abs, slice_get}
 use Rattle.std.specs.Int.{int_max, int_min}
 use Rattle.std.specs.List.{list_any}
 use Rattle.std.proofs.lemmas.List.Folds.{list_any_more}
-use Rattle.std.proofs.lemmas.List.{take_all, get_or-replicate, get_or_past, length-replicate, get_or-set_same, get_or-set_other, length-set}
+use Rattle.std.proofs.lemmas.List.{take_all, get_or-replicate, get_or_past, length-replicate, get_or-set_same, get_or-set_other}
 use Rattle.std.proofs.lemmas.Option.{slice_get_within, get_or_from_slice_get}
 use borrow.Author.Differences.{ints}
 use Rattle.geom_core.specs.Areas.{Area, area, right, bottom, meets, lies_in, point}
@@ -14,7 +14,7 @@ use Rattle.geom_core.proofs.Tests.{and_left, and_right, both_true, taken}
 use Rattle.geom_core.proofs.Tiles.{own_tile, key_same, key_is}
 use Rattle.geom_core.proofs.Keys.{any_key_in_rows, any_count}
 use Rattle.geom_core.proofs.Lying.{bound_lies, common_lies_left, common_lies_right, lies_trans}
-use Rattle.tile_core.specs.Marks.{Grid, place_at, mark_at, has_mark, on_canvas, no_marks}
+use Rattle.tile_core.specs.Marks.{place_at, on_canvas}
 use Rattle.tile_core.specs.Damage.{Parts, part_in, part_at, grown, has_all, intact, FitTiles}
 use Rattle.tile_core.specs.Piece.{IsPiece}
 
@@ -339,49 +339,6 @@ nothing_added old m a h k = go (same_key k m) refl (on_canvas k)
 pub nothing_added_to : (old parts : Parts) (m : Key) (place : ℕ) (a : Area) → parts ≡ old → Some place ≡ place_at m.col m.row → has_all (get_or parts place None) a ≡ true
     → (k : Key) → part_at old k ≡ cond (same_key k m && on_canvas k) (grown (part_at old k) (clipped a (tile k))) (part_at old k)
 nothing_added_to old parts m place a v e h = nothing_added old m a (ap (λ g. has_all (part_at g m) a) (sym v) ∙ ap (λ o. has_all o a) (part_there parts m place e) ∙ h)
-
--- the tiles that have a part, place by place
-pub record MarksParts (parts : Parts) (n : ℕ) (g : Grid) : Type 0 where
-  pub size : length g ≡ 1024
-  pub marked : (j : ℕ) → j < n → get_or g j false ≡ is_some (get_or parts j None)
-  pub unmarked : (j : ℕ) → n ≤ j → get_or g j false ≡ false
-
-pub marks_none : (parts : Parts) (g : Grid) → g ≡ no_marks → MarksParts parts 0 g
-marks_none parts g e = subst (MarksParts parts 0) (sym e) (record { size = length-replicate 1024 false; marked = λ j h. absurd (omega (arith, h)); unmarked = λ j h. same_kept 1024 j false })
-
--- the place n too, where the tile there is marked, or has no part
-before_next : (n j : ℕ) → j < n + 1 → (j < n) ⊎ (j ≡ n)
-before_next n j h = go (ltb j n) refl
-  where
-    go : (b : Bool) → ltb j n ≡ b → (j < n) ⊎ (j ≡ n)
-    go true e = inl (before_end n j e)
-    go false e = inr (omega (arith, past_end n j e, h))
-
-pub marks_part : (parts : Parts) (n : ℕ) (g : Grid) → n < 1024 → is_some (get_or parts n None) ≡ true → MarksParts parts n g → MarksParts parts (n + 1) (set g n true)
-marks_part parts n g l e m = record {
-  size = length-set g n true ∙ m.size;
-  marked = λ j h. elim (before_next n j h) [ inl k ↦ get_or-set_other g n j true false (omega (arith, k)) ∙ m.marked j k | inr k ↦ rw k (get_or-set_same g n true false (rw m.size l) ∙ sym e) ];
-  unmarked = λ j h. get_or-set_other g n j true false (omega (arith, h)) ∙ m.unmarked j (omega (arith, h));
-}
-
-pub passes_part : (parts : Parts) (n : ℕ) (g : Grid) → is_some (get_or parts n None) ≡ false → MarksParts parts n g → MarksParts parts (n + 1) g
-passes_part parts n g e m = record {
-  size = m.size;
-  marked = λ j h. elim (before_next n j h) [ inl k ↦ m.marked j k | inr k ↦ rw k (m.unmarked n (omega arith) ∙ sym e) ];
-  unmarked = λ j h. m.unmarked j (omega (arith, h));
-}
-
-place_small : (c r : ℤ) (i : ℕ) → place_at c r ≡ Some i → i < 1024
-place_small (pos c) (pos r) i e = grind arith
-place_small (pos c) (negsuc r) i e = cc
-place_small (negsuc c) r i e = cc
-
-pub parts_marked : (parts : Parts) (n : ℕ) (g : Grid) → 1024 ≤ n → MarksParts parts n g → (k : Key) → has_mark g k ≡ is_some (part_at parts k)
-parts_marked parts n g l m k = go (place_at k.col k.row) refl
-  where
-    go : (p : Option ℕ) → place_at k.col k.row ≡ p → mark_at g p ≡ is_some (part_in parts p)
-    go None e = refl
-    go (Some i) e = m.marked i (omega (arith, l, place_small k.col k.row i e))
 
 pub grown_as : (r o o' c c' : Option Area) → r ≡ grown o c → o ≡ o' → c ≡ c' → r ≡ grown o' c'
 grown_as r o o' c c' e f g = e ∙ (λ i. grown (f i) (g i))

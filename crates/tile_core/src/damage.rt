@@ -1,13 +1,12 @@
 //! Damaged parts of the tiles of a canvas.
 
-ghost use Rattle.std.specs.Prelude.{◌≡◌, ◌&&◌, pos, if◌then◌else◌, Some, None, is_some, IfSome};
+ghost use Rattle.std.specs.Prelude.{◌≡◌, ◌&&◌, pos, if◌then◌else◌, Some, None, IfSome};
 ghost use Rattle.geom_core.specs.Areas.{area};
 ghost use Rattle.geom_core.specs.Overlaps.{clipped, IsWithin};
 ghost use Rattle.geom_core.specs.Grid.{Key, same_key, tile, IsWorldKey};
-ghost use Rattle.tile_core.specs.Marks.{has_mark, on_canvas};
+ghost use Rattle.tile_core.specs.Marks.{on_canvas};
 ghost use Rattle.tile_core.specs.Damage.{part_at, grown, has_all, intact};
 
-use crate::Marks;
 use crate::marks::place_of;
 use crate::piece::{Piece, piece_of, rect_of};
 use geom_core::{Rect, TileKey};
@@ -82,19 +81,6 @@ impl Damage {
                 self.parts[place] = piece_of(&grown(part, rect.clip(&key.rect())));
             }
         }
-    }
-
-    /// The tiles that have a damaged part.
-    pub fn tiles(&self) -> Marks
-        ensures { (k : Key) → has_mark result k ≡ is_some (part_at self.now k) }
-    {
-        let mut marks = Marks::none();
-        for place in 0..1024 {
-            if self.parts[place].is_some() {
-                marks.mark_place(place);
-            }
-        }
-        marks
     }
 }
 

@@ -1,7 +1,6 @@
 //! Frames of one canvas, one after another.
 
 ghost use Rattle.std.specs.Prelude.{◌≡◌, ◌∷◌, ◌++◌, [], ℕ, ◌+◌, ◌-◌, ◌*◌, ◌<◌, ◌≤◌, Some, OnOk, OnErr, length, drop, slice_get};
-ghost use Rattle.std.specs.Option.{option_copied};
 ghost use Rattle.tile_core.specs.Films.{Renews, newest};
 ghost use Rattle.tile_core.specs.Frames.{Scene, Shows};
 
@@ -49,13 +48,6 @@ impl Film {
         ensures { result.now ≡ self.now }
     {
         self.frames.as_slice()
-    }
-
-    /// The newest frame. None where there is none.
-    pub fn newest(&self) -> Option<&Frame>
-        ensures { option_copied result ≡ newest self.now }
-    {
-        self.frames.last()
     }
 
     /// Adds a frame at the end. The tiles on which it may show other pixels than the newest frame so

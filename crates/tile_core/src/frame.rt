@@ -2,13 +2,12 @@
 
 ghost use Rattle.std.specs.Prelude.{◌≡◌, ◌*◌, ◌<◌, ◌≤◌, ◌++◌, IfOk, OnOk, OnErr, length, ◌-◌, pos, drop, min};
 ghost use Rattle.std.specs.FinMap as map;
-ghost use Rattle.std.specs.Option.{option_copied};
 ghost use Rattle.geom_core.specs.Areas.{row as points, point};
 ghost use Rattle.tile_core.specs.Frames.{IsScene, scene, colours_at, row_colours, with_put, LaysPoints};
 
 use crate::Tile;
 use crate::colours::{lay_colours, lay_paper};
-use crate::keyed::{pixel_under, put_under, tile_under};
+use crate::keyed::{pixel_under, put_under};
 use geom_core::{NoMemory, TileKey, tile_of};
 use pixel_core::{Pixel, on_paper};
 use std::alloc::Global;
@@ -75,13 +74,6 @@ impl Frame {
         ensures opaque { result.a ≡ 255 }
     {
         self.paper
-    }
-
-    /// The tile that was put under the key. Where there is none, the key's points are the paper.
-    pub fn tile(&self, key: TileKey) -> Option<&Tile>
-        ensures { option_copied result ≡ map.get self.now.tiles key }
-    {
-        tile_under(&self.tiles, key)
     }
 
     /// The points of the key become the tile's pixels on the paper. The tile is shared, not copied.

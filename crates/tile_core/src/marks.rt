@@ -1,6 +1,6 @@
 //! Marked tiles of a canvas.
 
-ghost use Rattle.std.specs.Prelude.{◌≡◌, ◌<◌, ◌&&◌, ◌||◌, true, pos, slice_set, IfSome};
+ghost use Rattle.std.specs.Prelude.{◌≡◌, ◌<◌, ◌&&◌, ◌||◌, true, pos, IfSome};
 ghost use Rattle.geom_core.specs.Grid.{Key, same_key};
 ghost use Rattle.tile_core.specs.Marks.{place_at, mark_at, has_mark, on_canvas, no_marks};
 
@@ -67,14 +67,6 @@ impl Marks {
         if let Some(place) = place_of(key) {
             self.tiles[place] = true;
         }
-    }
-
-    /// Marks the tile at that place of the largest canvas, in row order.
-    pub(crate) fn mark_place(&mut self, i: usize)
-        requires { i < 1024 }
-        ensures { self.new ≡ slice_set self.old i true }
-    {
-        self.tiles[i] = true;
     }
 }
 

@@ -1,4 +1,5 @@
 use Rattle.std.proofs.Common.{ℕ, ◌≡◌, ◌∙◌, sym, ap, subst, ◌++◌, ◌∷◌, [], length, rules, Some, None, ◌≤◌}
+use Rattle.std.specs.Prelude.{IfSome}
 use Rattle.std.specs.List.{filter}
 use Rattle.doc_model.specs.Strokes.{entries, fed, is_export}
 use Rattle.doc_model.proofs.Feeding.{entries_last}
@@ -13,11 +14,11 @@ invariant_of-self-2 c =
     let d = c.self.inside in
     let cs = d.commands.items in
     let es = entries cs in
-    let more : c.put_last.new.items.items ≡ cs ++ c.args.command ∷ [] = search rules in
+    let more : c.take_next.new.self.items ≡ cs ++ c.args.command ∷ [] = one_more ∙ ap (λ l. l ++ c.args.command ∷ []) c.make_room.ensures.items in
     let room : export_misfit d.exports c.args.command ≡ None = search rules in
     let taken : stroke_misfit (kept d.strokes) c.args.command ≡ None = search rules in
     let fits : misfit_of es c.args.command ≡ None = misfit_of_strokes es c.args.command (kept d.strokes) d.exports c.self.invariant.tells c.self.invariant.exports room ∙ taken in
-    let now : entries c.put_last.new.items.items ≡ fed es c.args.command = ap entries more ∙ entries_last cs c.args.command in
+    let now : entries c.take_next.new.self.items ≡ fed es c.args.command = ap entries more ∙ entries_last cs c.args.command in
     record {
       tells = λ m. subst (λ l. Tells l m (kept c.take.new.self m)) (sym now)
           (subst (λ f. Tells (fed es c.args.command) m f) (sym (kept_then m))
@@ -26,6 +27,9 @@ invariant_of-self-2 c =
       few = subst (λ n. n ≤ 64) (sym c.exports_after-self-inside.ensures) (exports_few es c.args.command d.exports c.self.invariant.exports c.self.invariant.few fits);
     }
   where
+    one_more : c.take_next.new.self.items ≡ c.make_room.new.self.items ++ c.args.command ∷ []
+    one_more = subst (λ o. IfSome o (λ k. c.take_next.new.self.items ≡ c.make_room.new.self.items ++ k ∷ [])) c.in_ok-make_room.ensures.room c.take_next.ensures
+
     kept_then : (m : ℕ) → kept c.take.new.self m ≡ next_fed c.args.command m (kept c.self.inside.strokes m)
     kept_then m = search rules
 

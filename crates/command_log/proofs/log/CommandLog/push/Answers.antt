@@ -17,4 +17,4 @@ unreachable-requires c = go c.in-Err.field-0 c.in-Err.is
     go (refusal.Misfit m) e =
         let told : misfit_of (entries c.args.self.now.items) c.args.command ≡ Some m = subst (λ x. Refuses x (misfit_of (entries c.args.self.now.items) c.args.command)) e c.add.ensures.refused in
         absurd (cc (sym fit ∙ told))
-    go refusal.NoMemory e = absurd (cc (sym c.requires.room ∙ c.add.ensures.full e))
+    go refusal.NoMemory e = c.add.ensures.full e c.requires.room

@@ -14,5 +14,5 @@ from_parts-requires c =
     let cs = c.args.self.draft in
     let left : left_open (entries cs) c.args.self.starts.items ≡ None = search rules in
     let limits : in_limits c.in-Some.canvas ≡ true = search rules in
-    subst (λ (l : List Command). is_script (contents c.in-Some.canvas l) ≡ true) (sym c.into_commands.ensures.items)
+    subst (λ (l : List Command). is_script (contents c.in-Some.canvas l) ≡ true) (sym c.in_ok-into_commands-in-None.ensures.items)
     (is_script_by c.in-Some.canvas cs limits c.into_commands.ensures.ranges c.into_commands.ensures.lawful (all_shut c.args.self.starts.items cs c.requires.starts left))
