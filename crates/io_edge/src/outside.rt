@@ -50,11 +50,16 @@ pub trait Sink {
         ensures cause { HasCause (faults self.old) (faults self.new) result };
 }
 
-/// What a painter may call while it paints. No clause says that it does, or when.
+/// What a painter may call while it paints, and an artist before it sends. No clause says that they do,
+/// or when.
 pub trait Gate: Sync {
     /// Names a stroke and one of its jobs, whose numbers count from 1. Nothing is known of the call but
     /// that it returns.
     fn painting(&self, stroke: u32, job: u32);
+
+    /// Names an artist, on its own thread and before it sends its first command. Nothing is known of the
+    /// call but that it returns.
+    fn sending(&self, _artist: u32) {}
 }
 
 /// A gate that does nothing.

@@ -89,14 +89,6 @@ impl<'a> Painted<'a> {
     {
         &self.made
     }
-
-    /// The blocks on their own. The shot may be let go afterwards.
-    pub fn into_made(self) -> Made
-        ensures value { result ≡ made_of self.entry }
-        ensures known { IsPainted self.entry }
-    {
-        self.made
-    }
 }
 
 /// What the job leaves in the key's tile.

@@ -1,5 +1,5 @@
 -- The slots of the workers, as contracts see them: for each place what is at work there, or None.
-use Rattle.std.specs.Prelude.{ℕ, List, Option, Some, None, slice_get, slice_set, refl}
+use Rattle.std.specs.Prelude.{ℕ, List, Option, Some, None, slice_get, refl}
 use Rattle.std.specs.List.{filter_map}
 use Rattle.std.specs.Coded.{Coded, code_by, coded×, coded_option}
 use Rattle.geom_core.specs.Areas.{Area}
@@ -19,16 +19,6 @@ work_in (Some (Some b)) = Some b.work
 -- the work at a place. None where the place is free or isn't there
 abbrev pub work_at : {W : Type 0} → ℕ → List (Option (Busy W)) → Option W
 work_at place slots = work_in (slice_get slots place)
-
--- what is at work in a place once the work was changed
-abbrev pub changed_in : {W : Type 0} → Option (Option (Busy W)) → W → Option (Busy W)
-changed_in None work = None
-changed_in (Some None) work = None
-changed_in (Some (Some b)) work = Some (busy work b.walker)
-
--- the slots once the work at a busy place was changed; where it walks stays
-abbrev pub with_work : {W : Type 0} → List (Option (Busy W)) → ℕ → W → List (Option (Busy W))
-with_work slots place work = slice_set slots place (changed_in (slice_get slots place) work)
 
 -- where a place's work walks, if it does
 abbrev pub walker_in : {W : Type 0} → Option (Busy W) → Option Area

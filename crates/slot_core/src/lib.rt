@@ -3,8 +3,7 @@
 
 ghost use Rattle.std.specs.Prelude.{◌≡◌, ◌≤◌, ◌<◌, None, Some, IfOk, replicate, length, is_none, slice_get, slice_set};
 ghost use Rattle.std.specs.List.{position};
-ghost use Rattle.std.specs.Option.{option_copied, option_copied_mut};
-ghost use Rattle.std.specs.Borrow.{sem};
+ghost use Rattle.std.specs.Option.{option_copied};
 
 use arrayvec::ArrayVec;
 use geom_core::{NoMemory, Rect};
@@ -43,7 +42,6 @@ impl<W> Model for Slots<W> {
 
 impl<W: Drop> Slots<W> {
     ghost use Rattle.slot_core.specs.Busy.{busy, work_at, walkers};
-    ghost use Rattle.slot_core.specs.Lends.{LendsWork};
 
     /// So many free slots, 1 to 17. All memory is taken here.
     pub fn new(alloc: Global, n: u8) -> Result<Slots<W>, NoMemory>
@@ -95,16 +93,6 @@ impl<W: Drop> Slots<W> {
             Some(Some(busy)) => Some(&busy.work),
             Some(None) | None => None,
         }
-    }
-
-    /// The work at a place, to be changed. None exactly where the place is free or isn't there; then all stays.
-    pub fn work_mut(&mut self, place: u8) -> Option<&mut W>
-        ensures* writes_back { sem 𝓛 (LendsWork W.row self.entry place result) }
-        ensures value { option_copied_mut result ≡ work_at place self.old }
-    {
-        let slot = self.places.get_mut(place as usize)?;
-        let busy = slot.as_mut()?;
-        Some(&mut busy.work)
     }
 
     /// Takes the work from a place, which is free afterwards. None exactly where the place is free or isn't there;
