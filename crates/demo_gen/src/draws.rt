@@ -3,9 +3,9 @@
 ghost use Rattle.std.specs.Prelude.{◌≡◌, ◌≤◌, ◌<◌};
 ghost use Rattle.demo_gen.specs.Demo.{next, told};
 
-/// Moves the state on by one draw, and tells a number below n.
+/// Moves the state on by one draw, and tells a number below n, which is 1 or more.
 #[tactic(auto, unfolding(crate::specs::Demo::next, crate::specs::Demo::told))]
-pub(crate) fn draw(state: &mut u64, n: u32) -> u32
+pub fn draw(state: &mut u64, n: u32) -> u32
     requires some { 1 ≤ n }
     ensures state { state.new ≡ next state.old }
     ensures told { result ≡ told (next state.old) n }

@@ -5,4 +5,5 @@ mod draws;
 mod script;
 mod stroke;
 
+pub use draws::draw;
 pub use script::script_of;

@@ -60,20 +60,20 @@ at_least n high h =
     let low = first (nat_le 1 n) (nat_le n high) h in
     grind (arith, nat_tests)
 
-abbrev outline_of : Area → Outline
+abbrev pub outline_of : Area → Outline
 outline_of a = record { x = a.x; y = a.y; w = a.w; h = a.h }
 
 -- the numbers of a rectangle are in their ranges
-record IsPlaced (a : Area) : Type 0 where
-  x : is_coordinate a.x ≡ true
-  y : is_coordinate a.y ≡ true
-  w : (nat_le 1 a.w && nat_le a.w 4096) ≡ true
-  h : (nat_le 1 a.h && nat_le a.h 4096) ≡ true
+pub record IsPlaced (a : Area) : Type 0 where
+  pub x : is_coordinate a.x ≡ true
+  pub y : is_coordinate a.y ≡ true
+  pub w : (nat_le 1 a.w && nat_le a.w 4096) ≡ true
+  pub h : (nat_le 1 a.h && nat_le a.h 4096) ≡ true
 
 placed : (a : Area) → is_coordinate a.x ≡ true → is_coordinate a.y ≡ true → of_limits a ≡ true → IsPlaced a
 placed a x y l = record { x = x; y = y; w = first (nat_le 1 a.w && nat_le a.w 4096) (nat_le 1 a.h && nat_le a.h 4096) l; h = second (nat_le 1 a.w && nat_le a.w 4096) (nat_le 1 a.h && nat_le a.h 4096) l }
 
-placed_in : (a : Area) → lies_in a world ≡ true → of_limits a ≡ true → IsPlaced a
+pub placed_in : (a : Area) → lies_in a world ≡ true → of_limits a ≡ true → IsPlaced a
 placed_in a h l = placed a (axis a.x a.w (first _ _ h)) (axis a.y a.h (second _ _ h)) l
 
 coordinate_back : (x : ℤ) → is_coordinate x ≡ true → number_in (negsuc 32767) (pos 32767) (signed_decimal x) ≡ Ok x
@@ -88,11 +88,11 @@ distance_back x h = signed_back 32766 32767 x (omega arith) (omega arith) (first
 distance_field : (x : ℤ) → (int_le (negsuc 32766) x && int_le x (pos 32767)) ≡ true → is_field (signed_decimal x) ≡ true
 distance_field x h = signed_field 32766 32767 x (omega arith) (omega arith) (first (int_le (negsuc 32766) x) (int_le x (pos 32767)) h) (second (int_le (negsuc 32766) x) (int_le x (pos 32767)) h)
 
-outline_back : (a : Area) → IsPlaced a → outline (signed_decimal a.x) (signed_decimal a.y) (decimal a.w) (decimal a.h) ≡ Ok (outline_of a)
+pub outline_back : (a : Area) → IsPlaced a → outline (signed_decimal a.x) (signed_decimal a.y) (decimal a.w) (decimal a.h) ≡ Ok (outline_of a)
 unfolding outline
 outline_back a p = rw (coordinate_back a.x p.x, coordinate_back a.y p.y, from_one_back 4096 a.w (omega arith) p.w, from_one_back 4096 a.h (omega arith) p.h) refl
 
-area_plain : (a : Area) (more : List (List ℕ)) → IsPlaced a → list_all is_field more ≡ true → list_all is_field (area_fields a ++ more) ≡ true
+pub area_plain : (a : Area) (more : List (List ℕ)) → IsPlaced a → list_all is_field more ≡ true → list_all is_field (area_fields a ++ more) ≡ true
 area_plain a more p h =
     let w = natural_field 4096 a.w (omega arith) (second (nat_le 1 a.w) (nat_le a.w 4096) p.w) in
     let t = natural_field 4096 a.h (omega arith) (second (nat_le 1 a.h) (nat_le a.h 4096) p.h) in
@@ -216,10 +216,10 @@ axis_cell c h = grind (arith, ints)
 place_back : (x : ℤ) → (int_le (negsuc 255) x && int_le x (pos 255)) ≡ true → number_in (negsuc 255) (pos 255) (signed_decimal x) ≡ Ok x
 place_back x h = signed_back 255 255 x (omega arith) (omega arith) (first (int_le (negsuc 255) x) (int_le x (pos 255)) h) (second (int_le (negsuc 255) x) (int_le x (pos 255)) h)
 
-place_field : (x : ℤ) → (int_le (negsuc 255) x && int_le x (pos 255)) ≡ true → is_field (signed_decimal x) ≡ true
+pub place_field : (x : ℤ) → (int_le (negsuc 255) x && int_le x (pos 255)) ≡ true → is_field (signed_decimal x) ≡ true
 place_field x h = signed_field 255 255 x (omega arith) (omega arith) (first (int_le (negsuc 255) x) (int_le x (pos 255)) h) (second (int_le (negsuc 255) x) (int_le x (pos 255)) h)
 
-cell_back : (k : Key) → (int_le (negsuc 255) k.col && int_le k.col (pos 255)) ≡ true → (int_le (negsuc 255) k.row && int_le k.row (pos 255)) ≡ true → cell_at (signed_decimal k.col) (signed_decimal k.row) ≡ Ok k
+pub cell_back : (k : Key) → (int_le (negsuc 255) k.col && int_le k.col (pos 255)) ≡ true → (int_le (negsuc 255) k.row && int_le k.row (pos 255)) ≡ true → cell_at (signed_decimal k.col) (signed_decimal k.row) ≡ Ok k
 unfolding cell_at
 cell_back k x y = rw (place_back k.col x, place_back k.row y) refl
 

@@ -26,21 +26,23 @@ fn add(out: &mut Vec<u8>, bytes: &[u8]) -> Result<(), NoMemory>
 }
 
 /// Adds a field behind a space.
-fn add_field(out: &mut Vec<u8>, field: &[u8]) -> Result<(), NoMemory>
+pub fn add_field(out: &mut Vec<u8>, field: &[u8]) -> Result<(), NoMemory>
     ensures { OnOk result (out.new.items ≡ out.old.items ++ spaced (field.now ∷ [])) }
 {
     add(out, b" ")?;
     add(out, field)
 }
 
-fn add_number(out: &mut Vec<u8>, n: u32) -> Result<(), NoMemory>
+/// Adds a number behind a space, without leading zeros.
+pub fn add_number(out: &mut Vec<u8>, n: u32) -> Result<(), NoMemory>
     ensures { OnOk result (out.new.items ≡ out.old.items ++ spaced (decimal n ∷ [])) }
 {
     let mut buffer = Buffer::new();
     add_field(out, buffer.format(n).as_bytes())
 }
 
-fn add_signed(out: &mut Vec<u8>, n: i32) -> Result<(), NoMemory>
+/// Adds a number behind a space, with a minus sign where it is below 0.
+pub fn add_signed(out: &mut Vec<u8>, n: i32) -> Result<(), NoMemory>
     ensures { OnOk result (out.new.items ≡ out.old.items ++ spaced (signed_decimal n ∷ [])) }
 {
     let mut buffer = Buffer::new();
@@ -134,7 +136,8 @@ fn add_spot(out: &mut Vec<u8>, id: u16, parent: u16, place: u8) -> Result<(), No
     add_number(out, place as u32)
 }
 
-fn add_area(out: &mut Vec<u8>, rect: &Rect) -> Result<(), NoMemory>
+/// Adds the four fields of a rectangle: its left column, its top row, its width and its height.
+pub fn add_area(out: &mut Vec<u8>, rect: &Rect) -> Result<(), NoMemory>
     ensures { OnOk result (out.new.items ≡ out.old.items ++ spaced (area_fields rect.now)) }
 {
     add_signed(out, rect.x())?;
@@ -390,7 +393,8 @@ fn add_paint(out: &mut Vec<u8>, no: u32, kind: Kind, job: &Job) -> Result<(), No
     add(out, b"\n")
 }
 
-fn add_command(out: &mut Vec<u8>, command: &Command) -> Result<(), NoMemory>
+/// Adds a command's line.
+pub fn add_command(out: &mut Vec<u8>, command: &Command) -> Result<(), NoMemory>
     ensures { OnOk result (out.new.items ≡ out.old.items ++ command_text command.now) }
 {
     match command {
@@ -410,7 +414,8 @@ fn add_command(out: &mut Vec<u8>, command: &Command) -> Result<(), NoMemory>
     }
 }
 
-fn add_canvas(out: &mut Vec<u8>, canvas: &Canvas) -> Result<(), NoMemory>
+/// Adds the canvas's line.
+pub fn add_canvas(out: &mut Vec<u8>, canvas: &Canvas) -> Result<(), NoMemory>
     ensures { OnOk result (out.new.items ≡ out.old.items ++ canvas_line canvas.now) }
 {
     add(out, b"canvas")?;

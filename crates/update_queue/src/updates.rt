@@ -135,6 +135,16 @@ impl Updates {
         }
     }
 
+    /// Takes the patch at place i, from 0. The others keep their order.
+    pub fn take_at(&mut self, i: usize) -> Patch
+        requires { i < length self.old.patches }
+        ensures patch { slice_get self.old.patches i ≡ Some result }
+        ensures left { self.new ≡ waiting self.old.canvas (remove self.old.patches i) }
+    {
+        self.spread = None;
+        self.patches.remove(i)
+    }
+
     /// How many patches wait. It also tells what holds of every list of them.
     pub fn len(&self) -> usize
         ensures value { result ≡ length self.now.patches }
