@@ -3,3 +3,4 @@ pub mod Hanging
 pub mod Based
 pub mod News
 pub mod Tiles
+pub mod Circles

@@ -2,6 +2,7 @@
 #![tactic(auto)]
 
 mod base;
+mod circle;
 mod needs;
 mod painting;
 mod pixels;

@@ -4,12 +4,15 @@ ghost use Rattle.std.specs.Prelude.{◌≡◌, ◌*◌, true, replicate, length,
 ghost use Rattle.job_core.specs.Due.{IsDue};
 ghost use Rattle.job_core.specs.Points.{LaysPoints, is_point_op};
 ghost use Rattle.whole_tiles.specs.Base.{tile_of};
+ghost use Rattle.whole_tiles.specs.Circles.{AllCanonical};
 ghost use Rattle.whole_tiles.specs.Wholes.{IsNew, LaysPaint};
 
+use crate::circle::reaches;
 use doc_model::{Job, Kind};
 use geom_core::{NoMemory, TileKey};
 use job_core::{Painted, PointWork, paint_tile, point_rect};
 use pixel_core::Pixel;
+use pixel_rows::tell_canonical;
 use std::alloc::Global;
 use tile_core::{Lays, Shot, Tile};
 
@@ -32,6 +35,7 @@ pub fn new_tile(
 }
 
 /// The same of a point operation: it is painted on a copy of the tile, or leaves one pixel everywhere.
+/// A tile that the circle of a dab doesn't reach is shared.
 fn pointed(
     alloc: Global,
     job: &Job,
@@ -47,7 +51,26 @@ fn pointed(
     let work = PointWork::new(&jobs, key);
     match plain_left(shot, &work) {
         Some(pixel) => plain_tile(alloc, like, pixel),
-        None => painted_copy(alloc, shot, &work),
+        None if reaches(job, key) => painted_copy(alloc, shot, &work),
+        None => tile_under(alloc, shot, key),
+    }
+}
+
+/// The shot's tile under the key, shared, or one of the default pixel.
+fn tile_under(alloc: Global, shot: &Shot, key: TileKey) -> Result<Tile, NoMemory>
+    ensures value { IfOk result (λ t. t ≡ tile_of shot.now key) }
+    ensures canonical { AllCanonical (tile_of shot.now key) }
+{
+    match shot.tile(key) {
+        Some(tile) => {
+            tell_canonical(tile.pixels());
+            tile.share()
+        }
+        None => {
+            let ground = shot.ground();
+            let _known = ground.bytes();
+            Tile::plain(alloc, ground)
+        }
     }
 }
 
