@@ -26,11 +26,12 @@ pub struct Drawn {
 }
 
 /// The desk that artists fed from threads of their own. None where some command wasn't accepted.
-fn feed_together<R: Threads + Wait + Sync>(
+fn feed_together<R: Threads + Wait + Sync, G: Gate>(
     rt: &R,
     alloc: Global,
     script: &Script,
     artists: u8,
+    gate: &G,
 ) -> Result<Option<Desk>, NoMemory>
     requires some { 1 ≤ artists }
     requires few { artists ≤ 16 }
@@ -38,7 +39,7 @@ fn feed_together<R: Threads + Wait + Sync>(
     ensures shared { IfOk result (λ r. IfSome r (λ d. IsShared artists script.now.commands d.fed)) }
 {
     let (studio, passes) = Studio::new(alloc, script.canvas(), 1, artists)?;
-    let senders = send_together(rt, &studio, passes, artists, script.commands())?;
+    let senders = send_together(rt, &studio, passes, artists, script.commands(), gate)?;
     match gather(&studio, senders) {
         Some(Sender { pass, done: true }) => Ok(Some(studio.close(pass).desk)),
         _ => Ok(None),
@@ -101,7 +102,7 @@ pub fn paint_together<R: Threads + Wait + Sync, G: Gate>(
     ensures settled { IfOk result (λ d. IsSettled d.desk) }
     ensures desk { IfOk result (λ d. (d.desk.canvas ≡ d.script.canvas) × (d.desk.fed ≡ d.script.commands)) }
 {
-    if let Some(desk) = feed_together(rt, alloc, &script, artists)? {
+    if let Some(desk) = feed_together(rt, alloc, &script, artists, gate)? {
         if let Some(drawn) = settled(alloc, desk)? {
             return Ok(drawn);
         }

@@ -8,6 +8,7 @@ ghost use Rattle.artists.specs.Senders.{AreSenders};
 use crate::shares::artist_for;
 use doc_model::Command;
 use geom_core::NoMemory;
+use io_edge::Gate;
 use std::sync::Wait;
 use std::thread;
 use std::thread::Threads;
@@ -59,13 +60,14 @@ fn send_own<R: Wait>(
     if is_own { send(rt, studio, pass, command) } else { true }
 }
 
-/// Sends the artist's commands of a list, in their order, up to one that isn't accepted.
-fn send_all<R: Wait>(
+/// Enters the gate, and then sends the artist's commands of a list, in their order, up to one that isn't accepted.
+fn send_all<R: Wait, G: Gate>(
     rt: &R,
     studio: &Studio,
     mut pass: Pass,
     artists: u8,
     commands: &[Command],
+    gate: &G,
 ) -> Sender
     requires studio { pass.lock ≡ studio.now.id }
     requires some { 0 < artists }
@@ -74,6 +76,7 @@ fn send_all<R: Wait>(
     ensures numbers { result.pass.numbers ≡ pass.numbers }
     ensures made { result.done ≡ true → result.pass.made ≡ share artists (own pass) commands.now }
 {
+    gate.sending(pass.artist());
     for command in commands {
         if !send_own(rt, studio, &mut pass, artists, command) {
             return Sender { pass, done: false };
@@ -83,12 +86,13 @@ fn send_all<R: Wait>(
 }
 
 /// Each artist sends its commands, from a thread of its own where one can be made.
-pub(crate) fn send_together<R: Threads + Wait + Sync>(
+pub(crate) fn send_together<R: Threads + Wait + Sync, G: Gate>(
     rt: &R,
     studio: &Studio,
     passes: Vec<Pass>,
     artists: u8,
     commands: &[Command],
+    gate: &G,
 ) -> Result<Vec<Sender>, NoMemory>
     requires some { 0 < artists }
     requires passes { passes.items ≡ all_fresh studio.now.id artists }
@@ -103,7 +107,7 @@ pub(crate) fn send_together<R: Threads + Wait + Sync>(
             ensures studio { result.pass.lock ≡ pass.lock }
             ensures numbers { result.pass.numbers ≡ pass.numbers }
             ensures made { result.done ≡ true → result.pass.made ≡ share artists (own pass) commands.entry.now }
-        { send_all(rt, studio, pass, artists, commands) },
+        { send_all(rt, studio, pass, artists, commands, gate) },
     )?;
     Ok(senders)
 }

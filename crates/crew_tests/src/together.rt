@@ -3,20 +3,20 @@
 ghost use Rattle.std.specs.Prelude.{◌≡◌, ◌≤◌, ◌<◌, ◌^◌, IfOk, length};
 ghost use Rattle.turn_lock.specs.Passes.{fresh};
 
+use crate::compared::is_told;
 use across::{drawn_script, plain_frames};
 use artists::{Drawn, artist_for, paint_together};
-use crate::compared::all_show;
 use doc_model::{Canvas, Command};
 use geom_core::NoMemory;
 use io_edge::NoGate;
 use pixel_core::Pixel;
-use script_text::Script;
+use script_text::{Script, print, read};
 use std::alloc::Global;
 use std::process::Abort;
 use std::sync::Wait;
 use std::test::*;
 use std::thread::Threads;
-use studio::{Pass, Signed, Studio};
+use studio::{Pass, Studio};
 use turn_lock::Sent;
 
 /// How many drawn scripts are painted.
@@ -56,15 +56,8 @@ fn answered<R: Wait + Abort>(rt: &R, studio: Studio, one: Pass, two: Pass) -> Re
     studio.back(&mut one, two);
     assert_eq!(rt; (one.artist(), one.calls(), one.joined()), (0, 3, 1));
     let closed = studio.close(one);
-    let undo = Signed {
-        artist: 0,
-        command: Command::Undo,
-    };
-    let export = Signed {
-        artist: 1,
-        command: Command::Export,
-    };
-    assert_eq!(rt; closed.history.as_slice(), [undo, export].as_slice());
+    assert_eq!(rt; closed.desk.fed(), [Command::Undo, Command::Export].as_slice());
+    assert_eq!(rt; closed.signers.as_slice(), [0, 1].as_slice());
     Ok(())
 }
 
@@ -90,6 +83,18 @@ fn are_shared(artists: u8, commands: &[Command], history: &[Command]) -> bool {
         }
     }
     true
+}
+
+/// Whether what is printed of the script says that script.
+fn reads_back(alloc: Global, script: &Script) -> Result<bool, Fail> {
+    let text = print(alloc, script)?;
+    if text.len() > 1_000_000 {
+        return Err("too long".into());
+    }
+    match read(alloc, &text) {
+        Ok(again) => Ok(again.canvas() == script.canvas() && again.commands() == script.commands()),
+        Err(_) => Ok(false),
+    }
 }
 
 /// A drawn script, drawn by so many artists.
@@ -120,9 +125,8 @@ fn artists_draw_one_history(rt: HostRuntime) -> Result<(), Fail> {
             let told = plain_frames(alloc, &drawn.script)?;
             let are_shared = are_shared(artists, script.commands(), drawn.script.commands());
             assert!(rt; are_shared, "seed {seed}, {artists} artists");
-            let is_told = drawn.desk.outcomes() == told.outcomes.as_slice()
-                && all_show(drawn.desk.frames(), &told.frames);
-            assert!(rt; is_told, "seed {seed}, {artists} artists");
+            assert!(rt; is_told(&drawn.desk, &told), "seed {seed}, {artists} artists");
+            assert!(rt; reads_back(alloc, &drawn.script)?, "seed {seed}, {artists} artists");
         }
     }
     Ok(())
