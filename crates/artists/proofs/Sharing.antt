@@ -1,8 +1,9 @@
 -- What all artists made, and what a history has that has the same of each.
-use Rattle.std.proofs.Common.{◌≡◌, ◌≢◌, ℕ, zero, suc, ◌+◌, ◌%◌, ◌<◌, ◌≤◌, ◌==◌, ◌&&◌, cond, eqb, ne_eqb, eq-eqb, Bool, true, false, List, [], ◌∷◌, ◌++◌, map, refl, sym, ap, ◌∙◌, subst, append-nil, arith, mod-lt}
+use Rattle.std.proofs.Common.{◌≡◌, ◌≢◌, ℕ, zero, suc, ◌+◌, ◌%◌, ◌<◌, ◌≤◌, ◌==◌, ◌&&◌, cond, eqb, ne_eqb, eq-eqb, Bool, true, false, List, [], ◌∷◌, ◌++◌, map, refl, sym, ap, ◌∙◌, subst, append-nil, arith, mod-lt, take, length}
 use Rattle.std.specs.List.{filter, flat_map, list_all, range_with_len}
 use Rattle.std.proofs.lemmas.Bool.Decides.{nat_tests}
-use Rattle.std.proofs.lemmas.List.{map-append}
+use Rattle.std.specs.Prelude.{slice_index_or}
+use Rattle.std.proofs.lemmas.List.{map-append, take_more}
 use Rattle.std.proofs.lemmas.List.Elements.{filter-append}
 use native.Mathlib.Decide.{ℕ_discrete}
 use Rattle.geom_core.proofs.Tests.{and_left, and_right, both_true}
@@ -12,8 +13,12 @@ use Rattle.studio.specs.declared.signed.Signed.{Signed}
 use Rattle.studio.specs.Histories.{signed, signer, commands_of}
 use Rattle.artists.specs.Shares.{artist_of, commands_by, share, IsShared}
 
-pub share_append : (n k : ℕ) (xs ys : List Command) → share n k (xs ++ ys) ≡ share n k xs ++ share n k ys
+share_append : (n k : ℕ) (xs ys : List Command) → share n k (xs ++ ys) ≡ share n k xs ++ share n k ys
 share_append n k xs ys = ap (map (signed k)) (filter-append (λ c. artist_of n c == k) xs ys) ∙ map-append (signed k) (commands_by n k xs) (commands_by n k ys)
+
+-- of one command more
+pub share_more : (n k : ℕ) (cs : List Command) (i : ℕ) (c : Command) → i < length cs → c ≡ slice_index_or cs i c → share n k (take (i + 1) cs) ≡ share n k (take i cs) ++ share n k (c ∷ [])
+share_more n k cs i c lt at = ap (share n k) (take_more cs i c lt ∙ ap (λ (x : Command). take i cs ++ x ∷ []) (sym at)) ∙ share_append n k (take i cs) (c ∷ [])
 
 -- no command is of an artist that isn't there
 by_nobody : (n k : ℕ) → 0 < n → n ≤ k → (cs : List Command) → commands_by n k cs ≡ []

@@ -38,8 +38,9 @@ fn feed_together<R: Threads + Wait + Sync, G: Gate>(
     ensures canvas { IfOk result (λ r. IfSome r (λ d. d.canvas ≡ script.now.canvas)) }
     ensures shared { IfOk result (λ r. IfSome r (λ d. IsShared artists script.now.commands d.fed)) }
 {
+    let commands = script.commands();
     let (studio, passes) = Studio::new(alloc, script.canvas(), 1, artists)?;
-    let senders = send_together(rt, &studio, passes, artists, script.commands(), gate)?;
+    let senders = send_together(rt, &studio, passes, artists, commands, gate)?;
     match gather(&studio, senders) {
         Some(Sender { pass, done: true }) => Ok(Some(studio.close(pass).desk)),
         _ => Ok(None),

@@ -22,6 +22,7 @@ fn take_in(studio: &Studio, sender: Sender, others: Sender) -> Sender
 }
 
 /// The first sender, which takes in all others. None where there are none.
+#[tactic(auto, using(crate::proofs::Whole::takes_first, crate::proofs::Whole::takes_more, crate::proofs::Whole::takes_all, crate::proofs::Whole::last_is_one))]
 pub(crate) fn gather(studio: &Studio, mut senders: Vec<Sender>) -> Option<Sender>
     requires each { AllByRecursion (IsOne studio.now.id) senders.items }
     ensures all { IfSome result (λ s. IsAll studio.now.id senders.items s) }

@@ -61,6 +61,7 @@ fn send_own<R: Wait>(
 }
 
 /// Enters the gate, and then sends the artist's commands of a list, in their order, up to one that isn't accepted.
+#[tactic(auto, using(crate::proofs::Sharing::share_more, std::proofs::lemmas::List::take_all))]
 fn send_all<R: Wait, G: Gate>(
     rt: &R,
     studio: &Studio,

@@ -4,11 +4,11 @@ ghost use Rattle.std.specs.Prelude.{◌≡◌, ◌≤◌, ◌<◌, ◌^◌, IfOk
 ghost use Rattle.turn_lock.specs.Passes.{fresh};
 
 use crate::compared::is_told;
+use crate::gates::Senders;
 use across::{drawn_script, plain_frames};
 use artists::{Drawn, artist_for, paint_together};
 use doc_model::{Canvas, Command};
 use geom_core::NoMemory;
-use io_edge::NoGate;
 use pixel_core::Pixel;
 use script_text::{Script, print, read};
 use std::alloc::Global;
@@ -103,6 +103,7 @@ fn drawn<R: Threads + Wait + Sync>(
     alloc: Global,
     seed: u64,
     artists: u8,
+    gate: &Senders,
 ) -> Result<(Script, Drawn), Fail> {
     let (Some(script), Some(again)) = (drawn_script(alloc, seed)?, drawn_script(alloc, seed)?) else {
         return Err("no script".into());
@@ -112,7 +113,7 @@ fn drawn<R: Threads + Wait + Sync>(
     }
     Ok((
         again,
-        paint_together(rt, alloc, script, artists, 2, &NoGate)?,
+        paint_together(rt, alloc, script, artists, 2, gate)?,
     ))
 }
 
@@ -121,12 +122,14 @@ fn artists_draw_one_history(rt: HostRuntime) -> Result<(), Fail> {
     let alloc = rt.alloc();
     for seed in 0..SEEDS {
         for artists in [1, 2, 16] {
-            let (script, drawn) = drawn(&rt, alloc, seed, artists)?;
+            let gate = Senders::new();
+            let (script, drawn) = drawn(&rt, alloc, seed, artists, &gate)?;
             let told = plain_frames(alloc, &drawn.script)?;
             let are_shared = are_shared(artists, script.commands(), drawn.script.commands());
             assert!(rt; are_shared, "seed {seed}, {artists} artists");
             assert!(rt; is_told(&drawn.desk, &told), "seed {seed}, {artists} artists");
             assert!(rt; reads_back(alloc, &drawn.script)?, "seed {seed}, {artists} artists");
+            assert!(rt; gate.was_told_once(artists), "seed {seed}, {artists} artists");
         }
     }
     Ok(())
