@@ -47,7 +47,7 @@ fn all_show(frames: &[Frame], told: &[Vec<[u8; 3]>]) -> bool {
 }
 
 /// Whether the desk has the outcomes and the frames that are told.
-fn is_told(desk: &Desk, told: &Told) -> bool {
+pub(crate) fn is_told(desk: &Desk, told: &Told) -> bool {
     desk.outcomes() == told.outcomes.as_slice() && all_show(desk.frames(), &told.frames)
 }
 

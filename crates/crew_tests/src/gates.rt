@@ -87,3 +87,39 @@ impl Gate for Yields {
         self.numbers.fetch_add(number, Ordering::SeqCst);
     }
 }
+
+/// Counts how often it is told of each of 16 artists, in four bits for each.
+#[derive(Drop)]
+pub(crate) struct Senders {
+    told: AtomicU64,
+}
+
+impl Senders {
+    pub(crate) fn new() -> Senders {
+        Senders {
+            told: AtomicU64::new(0),
+        }
+    }
+
+    /// Whether it was told just once of each of the first so many artists, and of no others.
+    pub(crate) fn was_told_once(&self, artists: u8) -> bool {
+        let mut each = 0u64;
+        for artist in 0..u32::from(artists) {
+            each = each.wrapping_add(artist_bit(artist));
+        }
+        self.told.load(Ordering::SeqCst) == each
+    }
+}
+
+/// The lowest of the artist's four bits.
+fn artist_bit(artist: u32) -> u64 {
+    if artist < 16 { 1 << (4 * artist) } else { 0 }
+}
+
+impl Gate for Senders {
+    fn painting(&self, _stroke: u32, _job: u32) {}
+
+    fn sending(&self, artist: u32) {
+        self.told.fetch_add(artist_bit(artist), Ordering::SeqCst);
+    }
+}

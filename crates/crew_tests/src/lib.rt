@@ -1,5 +1,5 @@
 //! Tests of the crew: what it paints by any number of workers, and that they paint side by side. And of the live
-//! view: what readers see, also of a script while it is painted.
+//! view: what readers see, also of a script while it is painted. And of artists who draw one script.
 #![tactic(auto)]
 
 #[cfg(test)]
@@ -14,3 +14,5 @@ mod looks;
 mod meets;
 #[cfg(test)]
 mod painted;
+#[cfg(test)]
+mod together;

@@ -1,0 +1,3 @@
+mod Sharing
+mod Whole
+mod Handing

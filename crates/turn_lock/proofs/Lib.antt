@@ -1,0 +1,4 @@
+mod Seats
+mod Entries
+mod Calling
+mod Passing
