@@ -1,10 +1,10 @@
 //! What the words of a command line ask for.
 
-ghost use Rattle.std.specs.Prelude.{◌≡◌, ◌≤◌, option_map, ℕ, List, Option, Result, Ok, Err, Some, None, IfOk, IsErrOf, codes};
+ghost use Rattle.std.specs.Prelude.{◌≡◌, ◌≤◌, option_map, ℕ, List, Option, Result, Ok, Err, Some, None, true, IfOk, IfSome, IsErrOf, codes};
 ghost use Rattle.clap.specs.Simple.{app_of};
 ghost use Rattle.clap.specs.Matches.{found_of};
 ghost use Rattle.clap.specs.Walk.{rows_of, one_of};
-ghost use Rattle.strokes_top.specs.Choice.{command as said_command, choice, choice_by, emit_of, demo_of};
+ghost use Rattle.strokes_top.specs.Choice.{command as said_command, choice, choice_by, emit_of, demo_of, artists_of, is_fit as said_fit};
 ghost use Rattle.strokes_top.specs.Named.{IsNamed};
 ghost use Rattle.strokes_top.specs.declared.asked.Asked.{Asked};
 
@@ -39,6 +39,8 @@ pub struct Choice {
     pub emit: Emit,
     /// The number of the generated script, where it takes the source's place.
     pub demo: Option<u32>,
+    /// How many artists draw the script, where artists are to draw it.
+    pub artists: Option<u8>,
 }
 
 /// Why there is no choice.
@@ -85,11 +87,15 @@ fn command<'a>(alloc: Global) -> Result<Command<'a>, AllocError>
     let demo = Arg::new(alloc, "demo")
         .long("demo")
         .value_parser(clap::value_parser!(u32));
+    let artists = Arg::new(alloc, "artists")
+        .long("artists")
+        .value_parser(ValueParser::signed(1, 16));
     Command::new(alloc, "strokes")
         .no_binary_name(true)
         .arg(workers)?
         .arg(emit)?
-        .arg(demo)
+        .arg(demo)?
+        .arg(artists)
 }
 
 /// What is to be written.
@@ -113,13 +119,45 @@ fn demo_in(matches: &ArgMatches<'_>) -> Option<Option<u32>>
     }
 }
 
-/// What the values of the options ask for.
+/// How many artists are to draw, if artists are.
+fn artists_in(matches: &ArgMatches<'_>) -> Option<Option<u8>>
+    ensures { result ≡ artists_of (one_of (codes "artists") (rows_of (found_of matches.now))) }
+{
+    match matches.try_get_one::<u8>("artists") {
+        Ok(artists) => Some(artists),
+        Err(_) => None,
+    }
+}
+
+/// Whether artists are 1 to 16, and there is no live view of what they draw.
+fn is_fit(emit: Emit, artists: Option<u8>) -> bool
+    ensures { result ≡ said_fit emit artists }
+{
+    let Some(artists) = artists else {
+        return true;
+    };
+    match emit {
+        Emit::Live => false,
+        Emit::Picture | Emit::Log | Emit::Sum => 1 <= artists && artists <= 16,
+    }
+}
+
+/// What the values of the options ask for, if they fit together.
 fn choice_in(matches: &ArgMatches<'_>) -> Option<Choice>
-    ensures { result ≡ choice_by (rows_of (found_of matches.now)) }
+    ensures value { result ≡ choice_by (rows_of (found_of matches.now)) }
+    ensures fit { IfSome result (λ c. said_fit c.emit c.artists ≡ true) }
 {
     let emit = emit_in(matches)?;
     let demo = demo_in(matches)?;
-    Some(Choice { emit, demo })
+    let artists = artists_in(matches)?;
+    if !is_fit(emit, artists) {
+        return None;
+    }
+    Some(Choice {
+        emit,
+        demo,
+        artists,
+    })
 }
 
 /// How many workers are asked for.
@@ -142,7 +180,8 @@ fn asked_in(matches: &ArgMatches<'_>) -> Option<Asked>
     Some(Asked { choice, workers })
 }
 
-/// What the words ask for: `--workers N`, 0 to 16, `--emit WHAT`, and `--demo NUMBER`, each at most once.
+/// What the words ask for: `--workers N`, 0 to 16, `--emit WHAT`, `--demo NUMBER`, and `--artists N`, 1 to 16
+/// and not with the live view, each at most once.
 ///
 /// # Errors
 /// `Usage` exactly where the command doesn't take the words, and `NoMemory` where memory ran out.
