@@ -43,9 +43,9 @@ fn artist_of(line: &str) -> u32 {
     let mut fields = line.split_ascii_whitespace();
     let word = fields.next();
     let number = fields.next();
-    let ("stroke" | "fill" | "dab" | "move" | "blur" | "track" | "end" | "cancel") =
-        word.unwrap_or("")
-    else {
+    let ("stroke" | "fill" | "dab" | "move" | "blur" | "track" | "end" | "cancel") = word.unwrap_or(
+        "",
+    ) else {
         return 0;
     };
     match number.unwrap_or("").parse::<u32>() {
@@ -95,7 +95,10 @@ fn generated(rt: HostRuntime) -> Result<(), Fail> {
     let (history, _) = parts(&four)?;
     for artist in 0..ARTISTS {
         let sent = lines_of(alloc, order, artist)?;
-        assert!(rt; lines_of(alloc, history, artist)?.as_slice() == sent.as_slice(), "{artist}");
+        assert!(rt;
+            lines_of(alloc, history, artist)?.as_slice() == sent.as_slice(),
+            "{artist}"
+        );
     }
     Ok(())
 }

@@ -1,5 +1,5 @@
 -- What a parse by the command's options gives.
-use Rattle.std.proofs.Common.{◌≡◌, ◌<◌, ◌≤◌, ◌+◌, ◌^◌, ℕ, List, [], ◌∷◌, Bool, true, false, Option, Some, None, option_map, Result, Ok, Err, refl, sym, ap, arith}
+use Rattle.std.proofs.Common.{◌≡◌, ◌<◌, ◌≤◌, ◌+◌, ◌^◌, ℕ, List, [], ◌∷◌, Bool, true, false, Option, Some, None, option_map, Result, Ok, Err, refl, sym, ap, subst, arith}
 use Rattle.std.specs.Result.{IfOk, result_ok}
 use Rattle.std.specs.Str.Parse.{ParsesUnsigned, ExplainsUnsignedError, HasUnsignedDigitsIfOk, digits_value, without_leading_plus}
 use Rattle.std.specs.declared.num.ParseIntError.{ParseIntError}
@@ -106,6 +106,10 @@ module _ (bits most : ℕ) (top : 2 ^ bits ≡ most + 1) (bound : most ≤ 42949
 pub told_ok : (r : Result Asked ChoiceError) (o : Option Choice) → o ≡ option_map (λ (a : Asked). a.choice) (result_ok r) → IfOk r (λ a. o ≡ Some a.choice)
 told_ok (Ok a) o e = e
 told_ok (Err f) o e = tt
+
+-- so many artists fit, where they are asked for
+pub fit_of : (emit : Emit) (artists : Option ℕ) (n : ℕ) → artists ≡ Some n → is_fit emit artists ≡ true → is_fit emit (Some n) ≡ true
+fit_of emit artists n is h = subst (λ a. is_fit emit a ≡ true) is h
 
 -- artists that fit are 1 to 16
 pub fit_few : (emit : Emit) (n : ℕ) → is_fit emit (Some n) ≡ true → (1 ≤ n) × (n ≤ 16)

@@ -1,5 +1,5 @@
 -- What the words of a command line ask for.
-use Rattle.std.specs.Prelude.{ℕ, ◌&&◌, Bool, pos, true, false, not, nat_le, Option, Some, None, option_map, if◌then◌else◌, List, [], ◌∷◌, codes}
+use Rattle.std.specs.Prelude.{ℕ, ℤ, ◌&&◌, Bool, pos, true, false, not, nat_le, Option, Some, None, option_map, if◌then◌else◌, List, [], ◌∷◌, codes}
 use Rattle.std.specs.Option.{option_map_or}
 use Rattle.std.specs.Map.{lookup}
 use Rattle.std.specs.Str.{bytes_eq}
@@ -19,8 +19,8 @@ abbrev pub option : Text → Rule
 option name = record (new_rule name) { long = Some name }
 
 -- a whole number from the least to the most
-abbrev pub number_option : Text → ℕ → ℕ → Rule
-number_option name least most = record (option name) { parser = Some (parser.Signed (pos least) (pos most)) }
+abbrev pub number_option : Text → ℤ → ℤ → Rule
+number_option name least most = record (option name) { parser = Some (parser.Signed least most) }
 
 -- the command, whose words come without the program's name
 abbrev pub named : App
@@ -28,8 +28,8 @@ named = on_top (λ s. record s { no_binary_name = true }) (new_app (codes "strok
 
 -- the command with its options
 abbrev pub command : App
-command = with_rule (with_rule (with_rule (with_rule named (number_option (codes "workers") 0 16)) (option (codes "emit")))
-    (number_option (codes "demo") 0 4294967295)) (number_option (codes "artists") 1 16)
+command = with_rule (with_rule (with_rule (with_rule named (number_option (codes "workers") (pos 0) (pos 16))) (option (codes "emit")))
+    (number_option (codes "demo") (pos 0) (pos 4294967295))) (number_option (codes "artists") (pos 1) (pos 16))
 
 -- what a text names
 abbrev pub emit_named : Text → Option Emit

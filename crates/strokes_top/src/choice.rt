@@ -1,10 +1,10 @@
 //! What the words of a command line ask for.
 
-ghost use Rattle.std.specs.Prelude.{◌≡◌, ◌≤◌, option_map, ℕ, List, Option, Result, Ok, Err, Some, None, true, IfOk, IfSome, IsErrOf, codes};
+ghost use Rattle.std.specs.Prelude.{◌≡◌, ◌≤◌, option_map, ℕ, List, Option, Result, Ok, Err, Some, None, true, false, IfOk, IfSome, IsErrOf, codes};
 ghost use Rattle.clap.specs.Simple.{app_of};
 ghost use Rattle.clap.specs.Matches.{found_of};
-ghost use Rattle.clap.specs.Walk.{rows_of, one_of};
-ghost use Rattle.strokes_top.specs.Choice.{command as said_command, choice, choice_by, emit_of, demo_of, artists_of, is_fit as said_fit};
+ghost use Rattle.clap.specs.Walk.{rows_of, rule_of, one_of};
+ghost use Rattle.strokes_top.specs.Choice.{command as said_command, number_option as said_option, choice, choice_by, emit_of, demo_of, artists_of, is_fit as said_fit};
 ghost use Rattle.strokes_top.specs.Named.{IsNamed};
 ghost use Rattle.strokes_top.specs.declared.asked.Asked.{Asked};
 
@@ -76,20 +76,24 @@ impl FromStr for Emit {
     }
 }
 
+/// The option of a long name, whose value is a number from the least to the most.
+fn number_option<'a>(alloc: Global, name: &'a str, least: i64, most: i64) -> Arg<'a>
+    ensures rule { rule_of result ≡ said_option name.entry.now least most }
+    ensures local { result.global ≡ false }
+{
+    Arg::new(alloc, name)
+        .long(name)
+        .value_parser(ValueParser::signed(least, most))
+}
+
 /// The command with its options.
 fn command<'a>(alloc: Global) -> Result<Command<'a>, AllocError>
     ensures { IfOk result (λ c. app_of c ≡ said_command) }
 {
-    let workers = Arg::new(alloc, "workers")
-        .long("workers")
-        .value_parser(ValueParser::signed(0, 16));
+    let workers = number_option(alloc, "workers", 0, 16);
     let emit = Arg::new(alloc, "emit").long("emit");
-    let demo = Arg::new(alloc, "demo")
-        .long("demo")
-        .value_parser(clap::value_parser!(u32));
-    let artists = Arg::new(alloc, "artists")
-        .long("artists")
-        .value_parser(ValueParser::signed(1, 16));
+    let demo = number_option(alloc, "demo", 0, 4_294_967_295);
+    let artists = number_option(alloc, "artists", 1, 16);
     Command::new(alloc, "strokes")
         .no_binary_name(true)
         .arg(workers)?
