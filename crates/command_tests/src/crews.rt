@@ -1,4 +1,4 @@
-//! Who paints: the workers that the words ask for, and the caller.
+//! Who paints: the workers that the words ask for and the caller, or artists.
 
 use crate::runs::{ran_at, sink_of, source_of};
 use io_edge::Gate;
@@ -9,22 +9,23 @@ use std::test::*;
 use std::thread;
 use std::thread::Threads;
 
-/// How many turns a held job waits at most.
+/// How many turns the first waits at most.
 const TURNS: u32 = 4_000_000;
 
-/// Holds the first job until the second was entered, for so many turns at most.
+/// Holds the first job, or the first artist, until the second was entered, for so many turns at most.
 #[derive(Drop)]
 struct Meet {
     entered: AtomicU64,
     met: AtomicU64,
 }
 
-impl Gate for Meet {
-    fn painting(&self, _stroke: u32, job: u32) {
-        if job == 2 {
+impl Meet {
+    /// Notes the second, and holds the first.
+    fn enter(&self, is_first: bool, is_second: bool) {
+        if is_second {
             self.entered.store(1, Ordering::SeqCst);
         }
-        if job == 1 {
+        if is_first {
             for _ in 0..TURNS {
                 if self.entered.load(Ordering::SeqCst) == 1 {
                     self.met.store(1, Ordering::SeqCst);
@@ -36,20 +37,39 @@ impl Gate for Meet {
     }
 }
 
+impl Gate for Meet {
+    fn painting(&self, _stroke: u32, job: u32) {
+        self.enter(job == 1, job == 2);
+    }
+
+    fn sending(&self, artist: u32) {
+        self.enter(artist == 0, artist == 1);
+    }
+}
+
 /// A stroke of two concurrent fills, each of several tiles.
 const TWO_FILLS: &[u8] =
     b"canvas 64 1\nlayer 1 0 0\nstroke 1 1\nfill 1 con 0 0 200 200 ff0000ff over 255\nfill 1 con 200 0 200 200 0000ffff over 255\nend 1\nexport\n";
 
-/// Whether the second job was entered while the first was held, by these words.
-fn meets<R: Threads + Wait + Sync>(rt: &R, alloc: Global, words: &str) -> Result<bool, Fail> {
+/// A layer of the first artist, and a stroke of the second.
+const TWO_ARTISTS: &[u8] = b"canvas 1 1\nlayer 1 0 0\nstroke 1 1\nend 1\n";
+
+/// Whether the second was entered while the first was held, by these words. Artists may make their strokes
+/// before the layer is there, and a stroke is refused then.
+fn meets<R: Threads + Wait + Sync>(
+    rt: &R,
+    alloc: Global,
+    words: &str,
+    script: &[u8],
+) -> Result<bool, Fail> {
     let gate = Meet {
         entered: AtomicU64::new(0),
         met: AtomicU64::new(0),
     };
-    let source = source_of(alloc, TWO_FILLS)?;
+    let source = source_of(alloc, script)?;
     let out = sink_of(alloc, 256)?;
     let got = ran_at(rt, alloc, words, source, out, sink_of(alloc, 128)?, &gate)?;
-    Ok(got.code == 0 && gate.met.load(Ordering::SeqCst) == 1)
+    Ok(got.code <= 1 && gate.met.load(Ordering::SeqCst) == 1)
 }
 
 /// Two jobs of a run are painted side by side where there are workers, and one after another by the caller
@@ -64,9 +84,19 @@ fn the_workers_that_are_asked_for(rt: HostRuntime) -> Result<(), Fail> {
             "--workers 8",
             "--workers 16 --emit log",
         ] {
-            assert!(rt; meets(&rt, rt.alloc(), words)?, "{words}");
+            assert!(rt; meets(&rt, rt.alloc(), words, TWO_FILLS)?, "{words}");
         }
     }
-    assert!(rt; !meets(&rt, rt.alloc(), "--workers 0")?);
+    assert!(rt; !meets(&rt, rt.alloc(), "--workers 0", TWO_FILLS)?);
+    Ok(())
+}
+
+/// Two artists draw side by side.
+#[test]
+fn the_artists_that_are_asked_for(rt: HostRuntime) -> Result<(), Fail> {
+    for _ in 0..40 {
+        let is_met = meets(&rt, rt.alloc(), "--artists 2", TWO_ARTISTS)?;
+        assert!(rt; is_met);
+    }
     Ok(())
 }

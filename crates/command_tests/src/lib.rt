@@ -3,6 +3,8 @@
 #![tactic(auto)]
 
 #[cfg(test)]
+mod artists;
+#[cfg(test)]
 mod commands;
 #[cfg(test)]
 mod crews;

@@ -168,7 +168,7 @@ const SUMS: [(&[u8], u8, &[u8]); 3] = [
 
 /// What is told where the words aren't those of the command.
 const USAGE: &[u8] =
-    b"strokes: usage: strokes [--workers N] [--emit picture|log|sum|live] [--demo NUMBER]\n";
+    b"strokes: usage: strokes [--workers N] [--emit picture|log|sum|live] [--demo NUMBER] [--artists N]\n";
 
 #[test]
 fn bad_lines(rt: HostRuntime) -> Result<(), Fail> {
@@ -252,6 +252,10 @@ fn usage(rt: HostRuntime) -> Result<(), Fail> {
         "--demo 4294967296",
         "--demo one",
         "--emit trace",
+        "--artists 0",
+        "--artists 17",
+        "--artists",
+        "--emit live --artists 2",
         "--emit log --emit log",
         "--help",
         "-h",

@@ -1,8 +1,9 @@
 -- What a parse by the command's options gives.
-use Rattle.std.proofs.Common.{◌≡◌, ◌<◌, ◌≤◌, ℕ, List, [], ◌∷◌, Bool, true, false, Option, Some, None, option_map, Result, Ok, Err, refl, sym, ap, arith}
+use Rattle.std.proofs.Common.{◌≡◌, ◌<◌, ◌≤◌, ◌+◌, ◌^◌, ℕ, List, [], ◌∷◌, Bool, true, false, Option, Some, None, option_map, Result, Ok, Err, refl, sym, ap, subst, arith}
 use Rattle.std.specs.Result.{IfOk, result_ok}
 use Rattle.std.specs.Str.Parse.{ParsesUnsigned, ExplainsUnsignedError, HasUnsignedDigitsIfOk, digits_value, without_leading_plus}
 use Rattle.std.specs.declared.num.ParseIntError.{ParseIntError}
+use Rattle.std.proofs.lemmas.Bool.Decides.{nat_tests}
 use Rattle.clap.specs.Matches.{TriesOne}
 use Rattle.clap.specs.Kinds.{Kinds, IsAmong}
 use Rattle.clap.specs.Walk.{Text}
@@ -15,12 +16,12 @@ use Rattle.clap.specs.declared.error.kind.ErrorKind.{ErrorKind}
 use Rattle.clap.proofs.OnLiterals.{clap_on_literals}
 use Rattle.clap.proofs.ValueTestLemmas.{accepts-Accepts, Accepts-accepts}
 use Rattle.strokes_top.specs.declared.choice.Emit.{Emit}
-use Rattle.strokes_top.specs.declared.choice.Emit.TheVariants.{Picture}
+use Rattle.strokes_top.specs.declared.choice.Emit.TheVariants.{Picture, Log, Sum, Live}
 use Rattle.strokes_top.specs.declared.choice.UnknownEmit.{UnknownEmit}
 use Rattle.strokes_top.specs.declared.asked.Asked.{Asked}
 use Rattle.strokes_top.specs.declared.choice.Choice.{Choice}
 use Rattle.strokes_top.specs.declared.choice.ChoiceError.{ChoiceError}
-use Rattle.strokes_top.specs.Choice.{command, choice, choice_by, emit_of, demo_of, number_of, unless_fault}
+use Rattle.strokes_top.specs.Choice.{command, choice, choice_by, emit_of, number_of, number_or_none, is_fit, unless_fault}
 use Rattle.strokes_top.specs.Named.{IsNamed}
 
 pub is_free : is_simple_and_free command ≡ true
@@ -62,44 +63,57 @@ emit_unknown None e none value =
     cc
 emit_unknown (Some t) e none value = sym (value t refl)
 
--- what `u32` reads from a text
-abbrev pub Parses : Text → Result ℕ ParseIntError → Type 0
-Parses t r = ParsesUnsigned 32 10 t r × ExplainsUnsignedError 10 t r × HasUnsignedDigitsIfOk t r
+-- what an unsigned type of so many bits reads from a text
+abbrev pub Parses : ℕ → Text → Result ℕ ParseIntError → Type 0
+Parses bits t r = ParsesUnsigned bits 10 t r × ExplainsUnsignedError 10 t r × HasUnsignedDigitsIfOk t r
 
-number_read : (t : Text) (n : ℕ) → Parses t (Ok n) → number_of t ≡ Some n
-number_read t n h =
-    let small : digits_value 10 (without_leading_plus t) < 4294967296 = h.0.0.1 in
-    let is : is_unsigned_in 0 4294967295 t ≡ true = Accepts-accepts false (parser.Unsigned 0 4294967295) t (h.0.0.0, omega arith, omega arith, omega arith) in
-    rw (is, h.0.1) refl
+module _ (bits most : ℕ) (top : 2 ^ bits ≡ most + 1) (bound : most ≤ 4294967295) where
+  number_read : (t : Text) (n : ℕ) → Parses bits t (Ok n) → number_of most t ≡ Some n
+  number_read t n h =
+      let small : digits_value 10 (without_leading_plus t) < 2 ^ bits = h.0.0.1 in
+      let least : digits_value 10 (without_leading_plus t) ≤ most = omega arith in
+      let is : is_unsigned_in 0 most t ≡ true = Accepts-accepts false (parser.Unsigned 0 most) t (h.0.0.0, omega arith, omega arith, least) in
+      rw (is, h.0.1) refl
 
-number_unread : (t : Text) (e : ParseIntError) → Parses t (Err e) → number_of t ≡ None
-number_unread t e h = go (is_unsigned_in 0 4294967295 t) refl
-  where
-    go : (b : Bool) → is_unsigned_in 0 4294967295 t ≡ b → number_of t ≡ None
-    go false is = rw is refl
-    go true is =
-        let all : Accepts false (parser.Unsigned 0 4294967295) t = accepts-Accepts false (parser.Unsigned 0 4294967295) t is in
-        let most : digits_value 10 (without_leading_plus t) ≤ 4294967295 = all.3 in
-        absurd (h.0 (all.0, omega arith))
+  number_unread : (t : Text) (e : ParseIntError) → Parses bits t (Err e) → number_of most t ≡ None
+  number_unread t e h = go (is_unsigned_in 0 most t) refl
+    where
+      go : (b : Bool) → is_unsigned_in 0 most t ≡ b → number_of most t ≡ None
+      go false is = rw is refl
+      go true is =
+          let all : Accepts false (parser.Unsigned 0 most) t = accepts-Accepts false (parser.Unsigned 0 most) t is in
+          let within : digits_value 10 (without_leading_plus t) ≤ most = all.3 in
+          absurd (h.0 (all.0, omega arith))
 
--- what a reading of a number's text tells
-pub demo_read : (o : Option Text) (demo : Option ℕ) → (o ≡ None → ◌≡◌ {A = Result (Option ℕ) ParseIntError} (Ok demo) (Ok None))
-    → ((t : Text) → o ≡ Some t → TriesOne Parses t (Ok demo)) → Some demo ≡ demo_of o
-demo_read None demo none value =
-    let same : ◌≡◌ {A = Result (Option ℕ) ParseIntError} (Ok demo) (Ok None) = none refl in
-    let is : demo ≡ None = cc in
-    ap Some is
-demo_read (Some t) None none value = absurd (value t refl)
-demo_read (Some t) (Some n) none value = rw (number_read t n (value t refl)) refl
+  -- what a reading of a number's text tells
+  pub number_told : (o : Option Text) (number : Option ℕ) → (o ≡ None → ◌≡◌ {A = Result (Option ℕ) ParseIntError} (Ok number) (Ok None))
+      → ((t : Text) → o ≡ Some t → TriesOne (Parses bits) t (Ok number)) → Some number ≡ number_or_none most o
+  number_told None number none value =
+      let same : ◌≡◌ {A = Result (Option ℕ) ParseIntError} (Ok number) (Ok None) = none refl in
+      let is : number ≡ None = cc in
+      ap Some is
+  number_told (Some t) None none value = absurd (value t refl)
+  number_told (Some t) (Some n) none value = rw (number_read t n (value t refl)) refl
 
-pub demo_unread : (o : Option Text) (e : ParseIntError) → (o ≡ None → ◌≡◌ {A = Result (Option ℕ) ParseIntError} (Err e) (Ok None))
-    → ((t : Text) → o ≡ Some t → TriesOne Parses t (Err e)) → None ≡ demo_of o
-demo_unread None e none value =
-    let bad : ◌≡◌ {A = Result (Option ℕ) ParseIntError} (Err e) (Ok None) = none refl in
-    cc
-demo_unread (Some t) e none value = rw (number_unread t e (value t refl)) refl
+  pub number_untold : (o : Option Text) (e : ParseIntError) → (o ≡ None → ◌≡◌ {A = Result (Option ℕ) ParseIntError} (Err e) (Ok None))
+      → ((t : Text) → o ≡ Some t → TriesOne (Parses bits) t (Err e)) → None ≡ number_or_none most o
+  number_untold None e none value =
+      let bad : ◌≡◌ {A = Result (Option ℕ) ParseIntError} (Err e) (Ok None) = none refl in
+      cc
+  number_untold (Some t) e none value = rw (number_unread t e (value t refl)) refl
 
 -- a choice, or none
 pub told_ok : (r : Result Asked ChoiceError) (o : Option Choice) → o ≡ option_map (λ (a : Asked). a.choice) (result_ok r) → IfOk r (λ a. o ≡ Some a.choice)
 told_ok (Ok a) o e = e
 told_ok (Err f) o e = tt
+
+-- so many artists fit, where they are asked for
+pub fit_of : (emit : Emit) (artists : Option ℕ) (n : ℕ) → artists ≡ Some n → is_fit emit artists ≡ true → is_fit emit (Some n) ≡ true
+fit_of emit artists n is h = subst (λ a. is_fit emit a ≡ true) is h
+
+-- artists that fit are 1 to 16
+pub fit_few : (emit : Emit) (n : ℕ) → is_fit emit (Some n) ≡ true → (1 ≤ n) × (n ≤ 16)
+fit_few Picture n h = (grind (arith, nat_tests), grind (arith, nat_tests))
+fit_few Log n h = (grind (arith, nat_tests), grind (arith, nat_tests))
+fit_few Sum n h = (grind (arith, nat_tests), grind (arith, nat_tests))
+fit_few Live n h = cc

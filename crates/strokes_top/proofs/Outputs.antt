@@ -1,5 +1,5 @@
 -- What a painted script shows is what is written of it.
-use Rattle.std.proofs.Common.{◌≡◌, ◌≤◌, ◌∙◌, ◌*◌, ◌⊎◌, inl, inr, ℕ, List, [], ◌∷◌, ◌++◌, length, map, Option, Result, OnOk, refl, ap, ap₂, subst, arith}
+use Rattle.std.proofs.Common.{◌≡◌, ◌≤◌, ◌∙◌, ◌*◌, ◌⊎◌, inl, inr, ℕ, List, [], ◌∷◌, ◌++◌, length, map, Option, Some, true, Result, OnOk, refl, ap, ap₂, subst, arith}
 use Rattle.std.specs.List.{All, flat_map}
 use Rattle.std.proofs.lemmas.List.{append-nil}
 use Rattle.std.proofs.lemmas.List.Elements.{All-nil, All-cons, All-head, All-tail}
@@ -20,6 +20,7 @@ use Rattle.ppm_out.specs.Sides.{HasSides}
 use Rattle.crew_run.specs.Shows.{Shows}
 use Rattle.strokes_top.specs.declared.choice.Emit.{Emit}
 use Rattle.strokes_top.specs.declared.choice.Emit.TheVariants as emit
+use Rattle.strokes_top.specs.Choice.{is_fit}
 use Rattle.strokes_top.specs.Output.{HasRoom, ShowsFor}
 use Rattle.strokes_top.specs.Run.{output}
 
@@ -98,3 +99,10 @@ summary_is script scenes outcomes h = ap₂ sum_text (sheets_are script.canvas s
 -- all of the same bytes
 pub whole_is : (r : Result (Unit {0}) Failed) (a b : Option (List ℕ)) (xs ys : List ℕ) → OnOk r (Appends a b xs) → xs ≡ ys → OnOk r (Appends a b ys)
 whole_is r a b xs ys h e = subst (λ l. OnOk r (Appends a b l)) e h
+
+-- where artists draw, frames are those of the exports
+pub shows_fit : (e : Emit) (n : ℕ) (script : Contents) (scenes : List Scene) (outcomes : List Outcome) → is_fit e (Some n) ≡ true → Shows script scenes outcomes → ShowsFor e script scenes outcomes
+shows_fit emit.Picture n script scenes outcomes fit h = h
+shows_fit emit.Log n script scenes outcomes fit h = h
+shows_fit emit.Sum n script scenes outcomes fit h = h
+shows_fit emit.Live n script scenes outcomes fit h = cc

@@ -1,11 +1,14 @@
 -- What a run reads, what it means, and what it writes.
-use Rattle.std.specs.Prelude.{◌≡◌, ℕ, ◌+◌, ◌≤◌, Bool, ◌<◌, false, List, Option, Some, length, None, map, IsSomeAnd, is_some}
+use Rattle.std.specs.Prelude.{◌≡◌, ℕ, ◌+◌, ◌≤◌, Bool, ◌<◌, false, List, [], ◌++◌, Option, Some, length, None, map, IsSomeAnd, is_some}
 use Rattle.std.specs.Io.KnownBytes.{Appends, Consumes, IsAtEnd}
 use Rattle.script_text.specs.Script.{Contents, meaning_of}
+use Rattle.script_text.specs.Text.{text}
 use Rattle.script_text.specs.Reading.{fault, script}
 use Rattle.script_text.specs.declared.script.ScriptFault.{ScriptFault}
 use Rattle.demo_gen.specs.Demo.{demo}
+use Rattle.artists.specs.Shares.{IsShared}
 use Rattle.strokes_top.specs.declared.choice.Emit.{Emit}
+use Rattle.strokes_top.specs.declared.choice.Choice.{Choice}
 use Rattle.std.specs.Option.{option_map_or}
 use Rattle.strokes_top.specs.Choice.{choice}
 use Rattle.std.specs.List.{flat_map}
@@ -25,14 +28,37 @@ output Log s = log_text (entries s.commands) (meaning_of s).outcomes
 output Sum s = sum_text (map (λ f. record { w = s.canvas.w; h = s.canvas.h; frame = f }) (meaning_of s).frames) (meaning_of s).outcomes
 output Live s = frame_bytes s.canvas.w s.canvas.h (frame (meaning_of s).document s.canvas)
 
+-- what n artists draw of a script: a script of its canvas that has of each artist the same commands, each once and
+-- in the same order, and no others
+pub record IsDrawnBy (n : ℕ) (s drawn : Contents) : Type 0 where
+  pub canvas : drawn.canvas ≡ s.canvas
+  pub commands : IsShared n s.commands drawn.commands
+  pub reads : script (text drawn) ≡ Some drawn
+
+-- what is painted of a script: what so many artists draw of it, or without artists the script itself
+abbrev pub IsDrawn : Option ℕ → Contents → Contents → Type 0
+IsDrawn None s drawn = drawn ≡ s
+IsDrawn (Some n) s drawn = IsDrawnBy n s drawn
+
+-- what is written before the output: the text of what artists draw
+abbrev pub lead : Option ℕ → Contents → List ℕ
+lead None drawn = []
+lead (Some n) drawn = text drawn
+
+-- all that is written of what was drawn
+abbrev pub whole_output : Choice → Contents → List ℕ
+whole_output asked drawn = lead asked.artists drawn ++ output asked.emit drawn
+
 -- all of it was written, and whether some entry was refused
-pub record IsOutput (refusals : Bool) (before after : Option (List ℕ)) (emit : Emit) (s : Contents) : Type 0 where
-  pub written : Appends before after (output emit s)
-  pub refusals_are : some_refused (meaning_of s).outcomes ≡ refusals
+pub record IsOutput (refusals : Bool) (before after : Option (List ℕ)) (asked : Choice) (s : Contents) : Type 0 where
+  pub drawn : Contents
+  pub is_drawn : IsDrawn asked.artists s drawn
+  pub written : Appends before after (whole_output asked drawn)
+  pub refusals_are : some_refused (meaning_of drawn).outcomes ≡ refusals
 
 -- the first of it was written
-abbrev pub IsBegun : Option (List ℕ) → Option (List ℕ) → Emit → Contents → Type 0
-IsBegun before after emit s = AppendsPrefix before after (output emit s)
+abbrev pub IsBegun : Option (List ℕ) → Option (List ℕ) → Choice → Contents → Type 0
+IsBegun before after asked s = (drawn : Contents) × IsDrawn asked.artists s drawn × AppendsPrefix before after (whole_output asked drawn)
 
 -- the source gave some bytes, up to its end, and these have P; where it tells what it has left, they are all that it had
 abbrev pub WasRead : Option (List ℕ) → Option (List ℕ) → (List ℕ → Type 0) → Type 0
@@ -44,8 +70,8 @@ IsOf P (Some number) before after = P (demo number)
 IsOf P None before after = WasRead before after (λ bytes. (fault bytes ≡ None) × IsSomeAnd (script bytes) P)
 
 -- the command takes the words, and for what they ask for P holds of the script
-abbrev pub IsAnswered : (Emit → Contents → Type 0) → List (List ℕ) → Option (List ℕ) → Option (List ℕ) → Type 0
-IsAnswered P words before after = IsSomeAnd (choice words) (λ c. IsOf (P c.emit) c.demo before after)
+abbrev pub IsAnswered : (Choice → Contents → Type 0) → List (List ℕ) → Option (List ℕ) → Option (List ℕ) → Type 0
+IsAnswered P words before after = IsSomeAnd (choice words) (λ c. IsOf (P c) c.demo before after)
 
 -- the command takes the words, no script is generated, and the first fault of the source's bytes is that line and cause
 abbrev pub IsFaulty : ScriptFault → List (List ℕ) → Option (List ℕ) → Option (List ℕ) → Type 0

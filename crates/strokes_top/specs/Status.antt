@@ -7,7 +7,7 @@ use Rattle.script_lines.specs.Values.{text}
 
 -- the line on the error sink
 abbrev pub told_by : Status → List ℕ
-told_by Usage = codes "strokes: usage: strokes [--workers N] [--emit picture|log|sum|live] [--demo NUMBER]\n"
+told_by Usage = codes "strokes: usage: strokes [--workers N] [--emit picture|log|sum|live] [--demo NUMBER] [--artists N]\n"
 told_by (Script line cause) = codes "strokes: line " ++ decimal line ++ (codes ": " ++ text cause ++ codes "\n")
 told_by ReadFault = codes "strokes: reading failed\n"
 told_by WriteFault = codes "strokes: writing failed\n"

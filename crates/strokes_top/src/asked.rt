@@ -1,6 +1,7 @@
 //! What a run is asked for.
 
-ghost use Rattle.std.specs.Prelude.{◌≤◌};
+ghost use Rattle.std.specs.Prelude.{◌≡◌, ◌≤◌, true};
+ghost use Rattle.strokes_top.specs.Choice.{is_fit};
 
 use crate::choice::Choice;
 
@@ -11,4 +12,5 @@ pub(crate) struct Asked {
     pub(crate) choice: Choice,
     pub(crate) workers: u8,
     ghost few: { workers ≤ 16 },
+    ghost fit: { is_fit choice.emit choice.artists ≡ true },
 }

@@ -1,10 +1,10 @@
 //! What the words of a command line ask for.
 
-ghost use Rattle.std.specs.Prelude.{◌≡◌, ◌≤◌, option_map, ℕ, List, Option, Result, Ok, Err, Some, None, IfOk, IsErrOf, codes};
+ghost use Rattle.std.specs.Prelude.{◌≡◌, ◌≤◌, option_map, ℕ, List, Option, Result, Ok, Err, Some, None, true, false, IfOk, IfSome, IsErrOf, codes};
 ghost use Rattle.clap.specs.Simple.{app_of};
 ghost use Rattle.clap.specs.Matches.{found_of};
-ghost use Rattle.clap.specs.Walk.{rows_of, one_of};
-ghost use Rattle.strokes_top.specs.Choice.{command as said_command, choice, choice_by, emit_of, demo_of};
+ghost use Rattle.clap.specs.Walk.{rows_of, rule_of, one_of};
+ghost use Rattle.strokes_top.specs.Choice.{command as said_command, number_option as said_option, choice, choice_by, emit_of, demo_of, artists_of, is_fit as said_fit};
 ghost use Rattle.strokes_top.specs.Named.{IsNamed};
 ghost use Rattle.strokes_top.specs.declared.asked.Asked.{Asked};
 
@@ -39,6 +39,8 @@ pub struct Choice {
     pub emit: Emit,
     /// The number of the generated script, where it takes the source's place.
     pub demo: Option<u32>,
+    /// How many artists draw the script, where artists are to draw it.
+    pub artists: Option<u8>,
 }
 
 /// Why there is no choice.
@@ -74,22 +76,30 @@ impl FromStr for Emit {
     }
 }
 
+/// The option of a long name, whose value is a number from the least to the most.
+fn number_option<'a>(alloc: Global, name: &'a str, least: i64, most: i64) -> Arg<'a>
+    ensures rule { rule_of result ≡ said_option name.entry.now least most }
+    ensures local { result.global ≡ false }
+{
+    Arg::new(alloc, name)
+        .long(name)
+        .value_parser(ValueParser::signed(least, most))
+}
+
 /// The command with its options.
 fn command<'a>(alloc: Global) -> Result<Command<'a>, AllocError>
     ensures { IfOk result (λ c. app_of c ≡ said_command) }
 {
-    let workers = Arg::new(alloc, "workers")
-        .long("workers")
-        .value_parser(ValueParser::signed(0, 16));
+    let workers = number_option(alloc, "workers", 0, 16);
     let emit = Arg::new(alloc, "emit").long("emit");
-    let demo = Arg::new(alloc, "demo")
-        .long("demo")
-        .value_parser(clap::value_parser!(u32));
+    let demo = number_option(alloc, "demo", 0, 4_294_967_295);
+    let artists = number_option(alloc, "artists", 1, 16);
     Command::new(alloc, "strokes")
         .no_binary_name(true)
         .arg(workers)?
         .arg(emit)?
-        .arg(demo)
+        .arg(demo)?
+        .arg(artists)
 }
 
 /// What is to be written.
@@ -113,13 +123,45 @@ fn demo_in(matches: &ArgMatches<'_>) -> Option<Option<u32>>
     }
 }
 
-/// What the values of the options ask for.
+/// How many artists are to draw, if artists are.
+fn artists_in(matches: &ArgMatches<'_>) -> Option<Option<u8>>
+    ensures { result ≡ artists_of (one_of (codes "artists") (rows_of (found_of matches.now))) }
+{
+    match matches.try_get_one::<u8>("artists") {
+        Ok(artists) => Some(artists),
+        Err(_) => None,
+    }
+}
+
+/// Whether artists are 1 to 16, and there is no live view of what they draw.
+fn is_fit(emit: Emit, artists: Option<u8>) -> bool
+    ensures { result ≡ said_fit emit artists }
+{
+    let Some(artists) = artists else {
+        return true;
+    };
+    match emit {
+        Emit::Live => false,
+        Emit::Picture | Emit::Log | Emit::Sum => 1 <= artists && artists <= 16,
+    }
+}
+
+/// What the values of the options ask for, if they fit together.
 fn choice_in(matches: &ArgMatches<'_>) -> Option<Choice>
-    ensures { result ≡ choice_by (rows_of (found_of matches.now)) }
+    ensures value { result ≡ choice_by (rows_of (found_of matches.now)) }
+    ensures fit { IfSome result (λ c. said_fit c.emit c.artists ≡ true) }
 {
     let emit = emit_in(matches)?;
     let demo = demo_in(matches)?;
-    Some(Choice { emit, demo })
+    let artists = artists_in(matches)?;
+    if !is_fit(emit, artists) {
+        return None;
+    }
+    Some(Choice {
+        emit,
+        demo,
+        artists,
+    })
 }
 
 /// How many workers are asked for.
@@ -142,7 +184,8 @@ fn asked_in(matches: &ArgMatches<'_>) -> Option<Asked>
     Some(Asked { choice, workers })
 }
 
-/// What the words ask for: `--workers N`, 0 to 16, `--emit WHAT`, and `--demo NUMBER`, each at most once.
+/// What the words ask for: `--workers N`, 0 to 16, `--emit WHAT`, `--demo NUMBER`, and `--artists N`, 1 to 16
+/// and not with the live view, each at most once.
 ///
 /// # Errors
 /// `Usage` exactly where the command doesn't take the words, and `NoMemory` where memory ran out.

@@ -1,6 +1,6 @@
 //! One run of the command.
 
-ghost use Rattle.std.specs.Prelude.{◌≡◌, ◌≢◌, ◌≤◌, IfOk, ℕ, None, true, false, is_some};
+ghost use Rattle.std.specs.Prelude.{◌≡◌, ◌≢◌, ◌≤◌, ℕ, None, true, false, is_some};
 ghost use Rattle.std.specs.Io.KnownBytes.{Keeps, Appends};
 ghost use Rattle.io_edge.specs.Told.{AppendsPrefix, Rose};
 ghost use Rattle.script_lines.specs.declared.cause.Cause.{Cause};
@@ -9,23 +9,18 @@ ghost use Rattle.strokes_top.specs.Run.{IsAnswered, IsFaulty, asks_for_demo, IsO
 ghost use Rattle.strokes_top.specs.Status.{is_done, may_write, told_by};
 ghost use Rattle.strokes_top.specs.Ends.{is_painted};
 ghost use Rattle.doc_model.specs.Meaning.{some_refused as said_refused};
-ghost use Rattle.script_text.specs.Script.{meaning_of};
-ghost use Rattle.strokes_top.specs.Output.{ShowsFor};
 
 use crate::asked::Asked;
-use crate::choice::{ChoiceError, Emit, choice_of};
-use crate::size::is_for_many;
+use crate::choice::{ChoiceError, choice_of};
+use crate::painting::painted;
 use crate::source::take_script;
 use crate::status::Status;
 use crate::telling::report;
 use crate::transfer::{CHUNK, LIMIT};
 use crate::words::Words;
-use crate::writing::{room_for, write_output};
-use crew_run::{Shown, run_shown};
+use crate::writing::{room_for, write_painting};
 use doc_model::Outcome;
-use geom_core::NoMemory;
 use io_edge::{Failed, Gate, Sink, Source};
-use live_run::run_live_shown;
 use script_text::Script;
 use std::alloc::Global;
 use std::sync::Wait;
@@ -38,70 +33,33 @@ fn some_refused(outcomes: &[Outcome]) -> bool
     outcomes.iter().any(|o| o.refused())
 }
 
-/// How many commands a desk takes at most.
-const MOST: usize = 4_294_967_295;
-
-/// How many workers are to paint the script beside the caller: none where its jobs are small, since the
-/// caller alone is quicker then.
-fn workers_for(script: &Script, asked: u8) -> u8
-    requires { asked ≤ 16 }
-    ensures { result ≤ 16 }
-{
-    if is_for_many(script) { asked } else { 0 }
-}
-
-/// What is asked for of the script, painted by so many workers and the caller: what its exports show, or what
-/// a live view shows at its end.
-///
-/// # Errors
-/// `NoMemory`, also where there are more commands than a desk takes.
-fn painted<R: Threads + Wait + Sync, G: Gate>(
-    rt: &R,
-    alloc: Global,
-    asked: &Asked,
-    script: &Script,
-    gate: &G,
-) -> Result<Shown, NoMemory>
-    ensures shows { IfOk result (λ s. ShowsFor asked.now.choice.emit script.now s.film s.outcomes.items) }
-    ensures outcomes { IfOk result (λ s. s.outcomes.items ≡ (meaning_of script.now).outcomes) }
-{
-    if script.len() > MOST {
-        return Err(NoMemory);
-    }
-    let workers = workers_for(script, asked.workers);
-    match asked.choice.emit {
-        Emit::Live => run_live_shown(rt, alloc, script, workers, gate),
-        Emit::Picture | Emit::Log | Emit::Sum => run_shown(rt, alloc, script, workers, gate),
-    }
-}
-
 /// Paints the script, and then writes what is asked for. All memory is taken before the first byte
 /// is written.
 fn paint<R: Threads + Wait + Sync, K: Sink, G: Gate>(
     rt: &R,
     alloc: Global,
     asked: &Asked,
-    script: &Script,
+    script: Script,
     out: &mut K,
     gate: &G,
 ) -> Status
-    ensures done { result ≡ Status.Done → IsOutput false (K.taken out.old) (K.taken out.new) asked.now.choice.emit script.now }
-    ensures done_with_refusals { result ≡ Status.DoneWithRefusals → IsOutput true (K.taken out.old) (K.taken out.new) asked.now.choice.emit script.now }
-    ensures begun { result ≡ Status.WriteFault → IsBegun (K.taken out.old) (K.taken out.new) asked.now.choice.emit script.now }
+    ensures done { result ≡ Status.Done → IsOutput false (K.taken out.old) (K.taken out.new) asked.now.choice script }
+    ensures done_with_refusals { result ≡ Status.DoneWithRefusals → IsOutput true (K.taken out.old) (K.taken out.new) asked.now.choice script }
+    ensures begun { result ≡ Status.WriteFault → IsBegun (K.taken out.old) (K.taken out.new) asked.now.choice script }
     ensures write_fault { result ≡ Status.WriteFault → Rose (K.faults out.old) (K.faults out.new) }
     ensures nothing { may_write result ≡ false → Keeps (K.taken out.old) (K.taken out.new) }
     ensures statuses { is_painted result ≡ true }
     ensures later { K.faults out.old ≤ K.faults out.new }
 {
     let emit = asked.choice.emit;
-    let Ok(shown) = painted(rt, alloc, asked, script, gate) else {
+    let Ok(painting) = painted(rt, alloc, asked, script, gate) else {
         return Status::NoMemory;
     };
-    let Ok(mut room) = room_for(alloc, emit, script.canvas()) else {
+    let Ok(mut room) = room_for(alloc, emit, painting.script.canvas()) else {
         return Status::NoMemory;
     };
-    let refused = some_refused(&shown.outcomes);
-    match write_output(emit, script, &shown, &mut room, out) {
+    let refused = some_refused(&painting.shown.outcomes);
+    match write_painting(emit, &painting, &mut room, out) {
         Ok(()) if refused => Status::DoneWithRefusals,
         Ok(()) => Status::Done,
         Err(Failed) => Status::WriteFault,
@@ -139,7 +97,7 @@ fn answer<R: Threads + Wait + Sync, S: Source, K: Sink, G: Gate>(
         Err(ChoiceError::NoMemory) => return Status::NoMemory,
     };
     match take_script(alloc, asked.choice.demo, source) {
-        Ok(script) => paint(rt, alloc, &asked, &script, out, gate),
+        Ok(script) => paint(rt, alloc, &asked, script, out, gate),
         Err(status) => status,
     }
 }
@@ -147,8 +105,9 @@ fn answer<R: Threads + Wait + Sync, S: Source, K: Sink, G: Gate>(
 /// Runs the command: `words` are the command line's without the program's name. The script comes
 /// from `source`, or is the generated one where `--demo` is given. It is painted by the caller and as
 /// many workers as `--workers` names, and what `--emit` names goes to `out`: a pixmap for each export, a
-/// line for each entry, a summary, or a pixmap of the document that the script makes. One line on what went wrong goes to `err`, whose faults change no
-/// status.
+/// line for each entry, a summary, or a pixmap of the document that the script makes. With `--artists` so
+/// many artists draw the script side by side, what came of it goes to `out` as a script, and then what
+/// `--emit` names of that. One line on what went wrong goes to `err`, whose faults change no status.
 pub fn run<R: Threads + Wait + Sync, S: Source, K: Sink, E: Sink, G: Gate>(
     rt: &R,
     alloc: Global,
@@ -158,8 +117,8 @@ pub fn run<R: Threads + Wait + Sync, S: Source, K: Sink, E: Sink, G: Gate>(
     err: &mut E,
     gate: &G,
 ) -> Status
-    // The words were taken, the script was read or generated, and just what is asked for was written. Where the source
-    // doesn't tell what it has left, that is so of some bytes.
+    // The words were taken, the script was read or generated, and just what is asked for was written: of that script, or of
+    // what artists drew of it. Where the source doesn't tell what it has left, that is so of some bytes.
     ensures done { result ≡ Status.Done → IsAnswered (IsOutput false (K.taken out.old) (K.taken out.new)) words.now (S.left source.old) (S.left source.new) }
     ensures done_with_refusals { result ≡ Status.DoneWithRefusals → IsAnswered (IsOutput true (K.taken out.old) (K.taken out.new)) words.now (S.left source.old) (S.left source.new) }
 

@@ -5,6 +5,7 @@ mod asked;
 mod choice;
 mod command;
 mod intake;
+mod painting;
 mod size;
 mod source;
 mod status;

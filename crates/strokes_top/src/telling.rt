@@ -43,7 +43,7 @@ pub fn report<E: Sink>(alloc: Global, err: &mut E, status: Status) -> Status
         Status::Done | Status::DoneWithRefusals => {}
         Status::Usage => tell(
             err,
-            b"strokes: usage: strokes [--workers N] [--emit picture|log|sum|live] [--demo NUMBER]\n",
+            b"strokes: usage: strokes [--workers N] [--emit picture|log|sum|live] [--demo NUMBER] [--artists N]\n",
         ),
         Status::Script { line, cause } => {
             let Ok(text) = script_line(alloc, line, cause) else {

@@ -1,6 +1,6 @@
 //! Writing what is asked for of a painted script.
 
-ghost use Rattle.std.specs.Prelude.{IfOk, OnOk, OnErr};
+ghost use Rattle.std.specs.Prelude.{◌++◌, IfOk, OnOk, OnErr};
 ghost use Rattle.std.specs.Io.KnownBytes.{Appends};
 ghost use Rattle.io_edge.specs.Told.{AppendsPrefix};
 ghost use Rattle.io_edge.specs.Faults.{HasCause};
@@ -8,9 +8,10 @@ ghost use Rattle.strokes_top.specs.Output.{HasRoom, ShowsFor};
 ghost use Rattle.strokes_top.specs.Run.{output};
 
 use crate::choice::Emit;
+use crate::painting::Painting;
 use crew_run::Shown;
 use doc_model::Canvas;
-use io_edge::{Failed, Sink};
+use io_edge::{Failed, Sink, write_all};
 use log_out::{write_log, write_sum};
 use ppm_out::write_frames;
 use script_text::Script;
@@ -31,7 +32,7 @@ pub(crate) fn room_for(alloc: Global, emit: Emit, canvas: Canvas) -> Result<Vec<
 ///
 /// # Errors
 /// `Failed` only where the sink's count of faults rose. The sink then took the first of the bytes.
-pub(crate) fn write_output<K: Sink>(
+fn write_output<K: Sink>(
     emit: Emit,
     script: &Script,
     shown: &Shown,
@@ -49,4 +50,24 @@ pub(crate) fn write_output<K: Sink>(
         Emit::Log => write_log(script, &shown.outcomes, out),
         Emit::Sum => write_sum(shown.film.frames(), &shown.outcomes, out),
     }
+}
+
+/// Writes what stands before the output, and then the output. It takes no memory.
+///
+/// # Errors
+/// `Failed` only where the sink's count of faults rose. The sink then took the first of the bytes.
+pub(crate) fn write_painting<K: Sink>(
+    emit: Emit,
+    painting: &Painting,
+    room: &mut [u8],
+    out: &mut K,
+) -> Result<(), Failed>
+    requires shows { ShowsFor emit painting.now.script painting.now.shown.film painting.now.shown.outcomes.items }
+    requires room { HasRoom emit painting.now.script.canvas room.old }
+    ensures ok { OnOk result (Appends (K.taken out.old) (K.taken out.new) (painting.now.lead.items ++ output emit painting.now.script)) }
+    ensures err { OnErr result (AppendsPrefix (K.taken out.old) (K.taken out.new) (painting.now.lead.items ++ output emit painting.now.script)) }
+    ensures cause { HasCause (K.faults out.old) (K.faults out.new) result }
+{
+    write_all(out, &painting.lead)?;
+    write_output(emit, &painting.script, &painting.shown, room, out)
 }

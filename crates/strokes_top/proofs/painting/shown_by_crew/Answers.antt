@@ -1,6 +1,6 @@
 use Rattle.std.proofs.Common.{IfOk, subst, sym}
 use Rattle.strokes_top.specs.Output.{ShowsFor}
-use Rattle.strokes_top.proofs.command.painted.Goals as goal
+use Rattle.strokes_top.proofs.painting.shown_by_crew.Goals as goal
 
 -- the live view is that of a reader
 pub returns-in-Live-clause-shows : goal.returns-in-Live-clause-shows
