@@ -1,5 +1,5 @@
 -- What all artists made, and what a history has that has the same of each.
-use Rattle.std.proofs.Common.{◌≡◌, ◌≢◌, ℕ, zero, suc, ◌+◌, ◌%◌, ◌<◌, ◌≤◌, ◌==◌, ◌&&◌, cond, eqb, ne_eqb, eq-eqb, Bool, true, false, List, [], ◌∷◌, ◌++◌, map, refl, sym, ap, ◌∙◌, subst, append-nil, arith, mod-lt, take, length}
+use Rattle.std.proofs.Common.{◌≡◌, ◌≢◌, ℕ, zero, suc, ◌+◌, ◌%◌, ◌<◌, ◌≤◌, ◌==◌, ◌&&◌, cond, eqb, ne_eqb, eq-eqb, Bool, true, false, List, [], ◌∷◌, ◌++◌, map, refl, sym, ap, ◌∙◌, subst, append-nil, arith, take, length}
 use Rattle.std.specs.List.{filter, flat_map, list_all, range_with_len}
 use Rattle.std.proofs.lemmas.Bool.Decides.{nat_tests}
 use Rattle.std.specs.Prelude.{slice_index_or}
@@ -24,7 +24,7 @@ share_more n k cs i c lt at = ap (share n k) (take_more cs i c lt ∙ ap (λ (x 
 by_nobody : (n k : ℕ) → 0 < n → n ≤ k → (cs : List Command) → commands_by n k cs ≡ []
 by_nobody n k some away [] = refl
 by_nobody n k some away (c ∷ cs) =
-    let lt : artist_of n c < n = mod-lt _ n some in
+    let lt : artist_of n c < n = omega (arith, some) in
     rw (ne_eqb (artist_of n c) k (λ e. omega (arith, e, lt, away))) (by_nobody n k some away cs)
 
 -- what an artist signed is its own
@@ -51,16 +51,14 @@ before_all n cs a (suc more) j lt =
 
 among_all : (n : ℕ) (cs : List Command) (a more j : ℕ) → a ≤ j → (a + more ≤ j → share n j cs ≡ []) → made_by signer j (shares n cs a more) ≡ share n j cs
 among_all n cs a zero j le away = sym (away (omega (arith, le)))
-among_all n cs a (suc more) j le away = made_append j (share n a cs) (shares n cs (a + 1) more) ∙ go (ℕ_discrete a j)
+among_all n cs a (suc more) j le away = made_append j (share n a cs) (shares n cs (a + 1) more) ∙ go (ℕ_discrete a j) (λ (other : a ≢ j). among_all n cs (a + 1) more j (omega (arith, le, other)) (λ far. away (omega (arith, far))))
   where
-    go : Dec (a ≡ j) → made_by signer j (share n a cs) ++ made_by signer j (shares n cs (a + 1) more) ≡ share n j cs
-    go (yes same) =
+    go : Dec (a ≡ j) → (a ≢ j → made_by signer j (shares n cs (a + 1) more) ≡ share n j cs) → made_by signer j (share n a cs) ++ made_by signer j (shares n cs (a + 1) more) ≡ share n j cs
+    go (yes same) later =
         let here : made_by signer j (share n a cs) ≡ share n j cs = subst (λ (k : ℕ). made_by signer j (share n k cs) ≡ share n j cs) (sym same) (own_signed j (commands_by n j cs)) in
         let none = before_all n cs (a + 1) more j (omega (arith, same)) in
         ap (λ l. made_by signer j (share n a cs) ++ l) none ∙ (append-nil (made_by signer j (share n a cs)) ∙ here)
-    go (no other) =
-        let rest = among_all n cs (a + 1) more j (omega (arith, le, other)) (λ far. away (omega (arith, far))) in
-        ap (λ l. l ++ made_by signer j (shares n cs (a + 1) more)) (other_signed j a other (commands_by n a cs)) ∙ rest
+    go (no other) later = ap (λ l. l ++ made_by signer j (shares n cs (a + 1) more)) (other_signed j a other (commands_by n a cs)) ∙ later other
 
 -- of what all artists made, each made its own
 pub made_of_all : (n : ℕ) (cs : List Command) (j : ℕ) → 0 < n → made_by signer j (shares n cs 0 n) ≡ share n j cs
@@ -72,11 +70,11 @@ agrees n s = artist_of n s.command == s.artist
 
 shares_agree : (n k : ℕ) (cs : List Command) → list_all (agrees n) (share n k cs) ≡ true
 shares_agree n k [] = refl
-shares_agree n k (c ∷ cs) = go (eqb (artist_of n c) k) refl
+shares_agree n k (c ∷ cs) = go (eqb (artist_of n c) k) refl (shares_agree n k cs)
   where
-    go : (b : Bool) → eqb (artist_of n c) k ≡ b → list_all (agrees n) (map (signed k) (cond b (c ∷ commands_by n k cs) (commands_by n k cs))) ≡ true
-    go true is = both_true (eqb (artist_of n c) k) (list_all (agrees n) (share n k cs)) is (shares_agree n k cs)
-    go false is = shares_agree n k cs
+    go : (b : Bool) → eqb (artist_of n c) k ≡ b → list_all (agrees n) (share n k cs) ≡ true → list_all (agrees n) (map (signed k) (cond b (c ∷ commands_by n k cs) (commands_by n k cs))) ≡ true
+    go true is more = both_true (eqb (artist_of n c) k) (list_all (agrees n) (share n k cs)) is more
+    go false is more = more
 
 -- what holds of what each made holds of all
 all_of_each : (p : Signed → Bool) (history : List Signed) → ((k : ℕ) → list_all p (made_by signer k history) ≡ true) → list_all p history ≡ true

@@ -41,10 +41,14 @@ fn feed_together<R: Threads + Wait + Sync, G: Gate>(
     let commands = script.commands();
     let (studio, passes) = Studio::new(alloc, script.canvas(), 1, artists)?;
     let senders = send_together(rt, &studio, passes, artists, commands, gate)?;
-    match gather(&studio, senders) {
-        Some(Sender { pass, done: true }) => Ok(Some(studio.close(pass).desk)),
-        _ => Ok(None),
+    let Some(last) = gather(&studio, senders) else {
+        return Ok(None);
+    };
+    let Sender { pass, done } = last;
+    if !done {
+        return Ok(None);
     }
+    Ok(Some(studio.close(pass).desk))
 }
 
 /// Settles a desk whose commands are a script.
