@@ -57,7 +57,11 @@ fn send_own<R: Wait>(
     ensures made { result ≡ true → pass.new.made ≡ pass.old.made ++ share artists (own pass.old) (command.now ∷ []) }
 {
     let is_own = artist_for(artists, command) == pass.artist();
-    if is_own { send(rt, studio, pass, command) } else { true }
+    if is_own {
+        send(rt, studio, pass, command)
+    } else {
+        true
+    }
 }
 
 /// Enters the gate, and then sends the artist's commands of a list, in their order, up to one that isn't accepted.

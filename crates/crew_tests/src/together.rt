@@ -56,7 +56,10 @@ fn answered<R: Wait + Abort>(rt: &R, studio: Studio, one: Pass, two: Pass) -> Re
     studio.back(&mut one, two);
     assert_eq!(rt; (one.artist(), one.calls(), one.joined()), (0, 3, 1));
     let closed = studio.close(one);
-    assert_eq!(rt; closed.desk.fed(), [Command::Undo, Command::Export].as_slice());
+    assert_eq!(rt;
+        closed.desk.fed(),
+        [Command::Undo, Command::Export].as_slice()
+    );
     assert_eq!(rt; closed.signers.as_slice(), [0, 1].as_slice());
     Ok(())
 }
@@ -73,9 +76,7 @@ fn are_shared(artists: u8, commands: &[Command], history: &[Command]) -> bool {
         return false;
     }
     for artist in 0..u32::from(artists) {
-        let mut sent = commands
-            .iter()
-            .filter(|c| artist_for(artists, c) == artist);
+        let mut sent = commands.iter().filter(|c| artist_for(artists, c) == artist);
         for command in history {
             if artist_for(artists, command) == artist && sent.next() != Some(command) {
                 return false;
@@ -105,16 +106,14 @@ fn drawn<R: Threads + Wait + Sync>(
     artists: u8,
     gate: &Senders,
 ) -> Result<(Script, Drawn), Fail> {
-    let (Some(script), Some(again)) = (drawn_script(alloc, seed)?, drawn_script(alloc, seed)?) else {
+    let (Some(script), Some(again)) = (drawn_script(alloc, seed)?, drawn_script(alloc, seed)?)
+    else {
         return Err("no script".into());
     };
     if artists == 0 || artists > 16 || script.len() > 1_000_000 {
         return Err("too many".into());
     }
-    Ok((
-        again,
-        paint_together(rt, alloc, script, artists, 2, gate)?,
-    ))
+    Ok((again, paint_together(rt, alloc, script, artists, 2, gate)?))
 }
 
 #[test]
@@ -127,9 +126,18 @@ fn artists_draw_one_history(rt: HostRuntime) -> Result<(), Fail> {
             let told = plain_frames(alloc, &drawn.script)?;
             let are_shared = are_shared(artists, script.commands(), drawn.script.commands());
             assert!(rt; are_shared, "seed {seed}, {artists} artists");
-            assert!(rt; is_told(&drawn.desk, &told), "seed {seed}, {artists} artists");
-            assert!(rt; reads_back(alloc, &drawn.script)?, "seed {seed}, {artists} artists");
-            assert!(rt; gate.was_told_once(artists), "seed {seed}, {artists} artists");
+            assert!(rt;
+                is_told(&drawn.desk, &told),
+                "seed {seed}, {artists} artists"
+            );
+            assert!(rt;
+                reads_back(alloc, &drawn.script)?,
+                "seed {seed}, {artists} artists"
+            );
+            assert!(rt;
+                gate.was_told_once(artists),
+                "seed {seed}, {artists} artists"
+            );
         }
     }
     Ok(())

@@ -16,8 +16,8 @@ pub returns-clause-each : goal.returns-clause-each
 returns-clause-each g c =
     let count : length c.in_ok-senders.senders.items ≡ length c.args.passes.items = omega (arith, c.in_ok-senders.ensures.len, c.in_ok-senders.senders.ok.0, c.args.passes.ok.0) in
     are_senders c.args.studio.now.id c.args.artists c.args.commands.now c.args.passes.items c.in_ok-senders.senders.items c.requires.passes count
-      (λ i d lt. let k = (c.in_ok-senders.ensures.each i d lt).1 in
-      (k.job, k.job_read, record { studio = k.call.met.0; numbers = k.call.met.1.0; made = k.call.met.1.1 }))
+    (λ i d lt. let k = (c.in_ok-senders.ensures.each i d lt).1 in
+    (k.job, k.job_read, record { studio = k.call.met.0; numbers = k.call.met.1.0; made = k.call.met.1.1 }))
 
 pub returns-clause-all : goal.returns-clause-all
 returns-clause-all g c = omega (arith, c.in_ok-senders.ensures.len, c.args.passes.ok.0, ap length c.requires.passes, pass_count c.args.studio.now.id c.args.artists)
