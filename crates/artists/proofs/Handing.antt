@@ -1,5 +1,5 @@
 -- Each artist with the pass that it was given.
-use Rattle.std.proofs.Common.{◌≡◌, ℕ, true, ◌<◌, ◌++◌, List, length, ap, ◌∙◌, arith}
+use Rattle.std.proofs.Common.{◌≡◌, ℕ, true, ◌<◌, List, length, ap, ◌∙◌, arith}
 use Rattle.std.specs.Prelude.{slice_index_or}
 use Rattle.std.proofs.lemmas.List.FromFn.{get_or-map-range_with_len, length-map-range_with_len}
 use Rattle.atomic_table.specs.Seated.{TableId}
