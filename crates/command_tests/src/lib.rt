@@ -3,11 +3,11 @@
 #![tactic(auto)]
 
 #[cfg(test)]
-mod artists;
-#[cfg(test)]
 mod commands;
 #[cfg(test)]
 mod crews;
+#[cfg(test)]
+mod drawn;
 #[cfg(test)]
 mod rows;
 #[cfg(test)]
