@@ -6,7 +6,7 @@ ghost use Rattle.turn_lock.specs.Passes.{fresh};
 use crate::compared::is_told;
 use crate::gates::Senders;
 use across::{drawn_script, plain_frames};
-use artists::{Drawn, artist_for, paint_together};
+use artists::{Drawn, paint_together};
 use doc_model::{Canvas, Command};
 use geom_core::NoMemory;
 use pixel_core::Pixel;
@@ -70,22 +70,6 @@ fn a_command_is_accepted_where_it_may_follow(rt: HostRuntime) -> Result<(), Fail
     answered(&rt, studio, one, two)
 }
 
-/// Whether the second list has each artist's commands of the first, in their order, and no others.
-fn are_shared(artists: u8, commands: &[Command], history: &[Command]) -> bool {
-    if artists == 0 || commands.len() != history.len() {
-        return false;
-    }
-    for artist in 0..u32::from(artists) {
-        let mut sent = commands.iter().filter(|c| artist_for(artists, c) == artist);
-        for command in history {
-            if artist_for(artists, command) == artist && sent.next() != Some(command) {
-                return false;
-            }
-        }
-    }
-    true
-}
-
 /// Whether what is printed of the script says that script.
 fn reads_back(alloc: Global, script: &Script) -> Result<bool, Fail> {
     let text = print(alloc, script)?;
@@ -105,15 +89,14 @@ fn drawn<R: Threads + Wait + Sync>(
     seed: u64,
     artists: u8,
     gate: &Senders,
-) -> Result<(Script, Drawn), Fail> {
-    let (Some(script), Some(again)) = (drawn_script(alloc, seed)?, drawn_script(alloc, seed)?)
-    else {
+) -> Result<Drawn, Fail> {
+    let Some(script) = drawn_script(alloc, seed)? else {
         return Err("no script".into());
     };
     if artists == 0 || artists > 16 || script.len() > 1_000_000 {
         return Err("too many".into());
     }
-    Ok((again, paint_together(rt, alloc, script, artists, 2, gate)?))
+    Ok(paint_together(rt, alloc, script, artists, 2, gate)?)
 }
 
 #[test]
@@ -122,10 +105,8 @@ fn artists_draw_one_history(rt: HostRuntime) -> Result<(), Fail> {
     for seed in 0..SEEDS {
         for artists in [1, 2, 16] {
             let gate = Senders::new();
-            let (script, drawn) = drawn(&rt, alloc, seed, artists, &gate)?;
+            let drawn = drawn(&rt, alloc, seed, artists, &gate)?;
             let told = plain_frames(alloc, &drawn.script)?;
-            let are_shared = are_shared(artists, script.commands(), drawn.script.commands());
-            assert!(rt; are_shared, "seed {seed}, {artists} artists");
             assert!(rt;
                 is_told(&drawn.desk, &told),
                 "seed {seed}, {artists} artists"
