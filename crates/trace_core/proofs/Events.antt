@@ -1,0 +1,152 @@
+-- What a checker does at an event is the move of its outline.
+use Rattle.std.proofs.Common.{◌≡◌, ℕ, suc, zero, Bool, true, false, ◌&&◌, ◌||◌, not, cond, Option, Some, None, Result, Ok, Err, IfOk, List, [], ◌∷◌, length, drop, refl, sym, ap, ◌∙◌, subst}
+use Rattle.std.specs.Prelude.{slice_get, slice_set}
+use Rattle.geom_core.proofs.Tests.{and_left}
+use Rattle.geom_core.specs.Areas.{Area}
+use Rattle.geom_core.specs.Grid.{Key}
+use Rattle.geom_core.specs.declared.NoMemory.{NoMemory}
+use Rattle.doc_model.specs.declared.job.Job.{Job}
+use Rattle.doc_model.specs.declared.job.Kind.{Kind}
+use Rattle.doc_model.specs.declared.command.Command.{Command}
+use Rattle.doc_model.specs.declared.canvas.Patch.{Patch}
+use Rattle.entry_queue.specs.declared.entry.Entry.{Entry}
+use Rattle.entry_queue.specs.declared.entry.Entry.TheVariants.{Waiting, Whole, Other}
+use Rattle.entry_queue.specs.Pushed.{may_leave}
+use Rattle.trace_model.specs.Next.{when}
+use Rattle.trace_model.specs.Replays.{first_of}
+use Rattle.trace_core.specs.declared.head.Head.{Head}
+use Rattle.trace_core.specs.declared.slot.Slot.{Slot}
+use Rattle.trace_core.specs.declared.slot.Slot.TheVariants.{Free, Paints, Walks}
+use Rattle.trace_core.specs.Trees.{paints}
+use Rattle.trace_core.specs.Waits.{head_of, head_in, jobs_in, other_in}
+use Rattle.trace_core.specs.Painting.{Painting, lacks_tile, with_tile}
+use Rattle.trace_core.specs.Walking.{Walking, lacks_pair, with_pair}
+use Rattle.trace_core.specs.Outline.{Outline}
+use Rattle.trace_core.specs.Moves as move
+use Rattle.trace_core.specs.Moves.{Follows}
+
+-- a slot that is filled with what it has
+stays : {A : Type 0} (xs : List A) (i : ℕ) (x : A) → slice_get xs i ≡ Some x → slice_set xs i x ≡ xs
+stays [] i x h = refl
+stays (y ∷ xs) zero x h = let same : y ≡ x = cc in ap (λ z. z ∷ xs) (sym same)
+stays (y ∷ xs) (suc i) x h = ap (λ t. y ∷ t) (stays xs i x h)
+
+-- a closed stroke may leave the queue, and so may an entry that is none
+pub closed_leaves : (es : List Entry) (h : Head) → head_in es ≡ Some h → h.closed ≡ true → may_leave es ≡ true
+closed_leaves [] h e c = cc
+closed_leaves (Waiting s ∷ es) h e c = no_false (ap (λ (x : Head). x.closed) (some_head (head_of s false false) h e) ∙ c)
+  where
+    some_head : (a b : Head) → Some a ≡ Some b → a ≡ b
+    some_head a b e = cc
+
+    no_false : {A : Type 0} → false ≡ true → A
+    no_false e = cc
+closed_leaves (Whole w ∷ es) h e c = refl
+closed_leaves (Other w ∷ es) h e c = refl
+
+pub other_leaves : (es : List Entry) (c : Command) → other_in es ≡ Some c → may_leave es ≡ true
+other_leaves [] c e = cc
+other_leaves (Waiting s ∷ es) c e = cc
+other_leaves (Whole w ∷ es) c e = cc
+other_leaves (Other w ∷ es) c e = refl
+
+-- a job starts
+module _ (o : Outline) (place : ℕ) where
+  pub start_wants_slot : (h : Option Head) (way : Option ℕ) (x : Option Slot) → (x ≡ Some Free → ⊥) → move.started_by o place h way x ≡ None
+  start_wants_slot (Some h) (Some n) (Some Free) no = absurd (no refl)
+  start_wants_slot (Some h) (Some n) (Some (Paints w)) no = refl
+  start_wants_slot (Some h) (Some n) (Some (Walks w)) no = refl
+  start_wants_slot (Some h) (Some n) None no = refl
+  start_wants_slot (Some h) None x no = refl
+  start_wants_slot None way x no = refl
+
+  pub start_wants_way : (h : Option Head) (x : Option Slot) → move.started_by o place h None x ≡ None
+  start_wants_way (Some h) x = refl
+  start_wants_way None x = refl
+
+  pub started_is : (h : Head) (n : ℕ) (j : Option (Kind × Job)) → head_in o.left ≡ Some h → o.way ≡ Some n → slice_get o.slots place ≡ Some Free → slice_get (jobs_in o.left) n ≡ j → move.started o place ≡ move.job_started o place h n j
+  started_is h n j e w f g = (λ i. move.started_by o place (e i) (w i) (f i)) ∙ ap (move.job_started o place h n) g
+
+-- a tile is published
+pub publishes : (o new : Outline) (place : ℕ) (key : Key) (h : Head) (w w' : Painting) (r : Result Bool NoMemory) → head_in o.left ≡ Some h → slice_get o.slots place ≡ Some (Paints w) → IfOk r (λ may. may ≡ lacks_tile w key) → (r ≡ Ok true → w' ≡ with_tile w key) → (r ≡ Ok false → w' ≡ w)
+    → new ≡ record o { slots = slice_set o.slots place (Paints w') } → Follows r (move.published o place key) o new
+publishes o new place key h w w' (Ok true) e at may yes no is = (λ i. move.published_by o place key (e i) (at i)) ∙ ap (λ b. when b (move.with_slot o place (Paints (with_tile w key)))) (sym may) ∙ ap Some (ap (λ v. record o { slots = slice_set o.slots place (Paints v) }) (sym (yes refl)) ∙ sym is)
+publishes o new place key h w w' (Ok false) e at may yes no is = ((λ i. move.published_by o place key (e i) (at i)) ∙ ap (λ b. when b (move.with_slot o place (Paints (with_tile w key)))) (sym may), is ∙ ap (λ v. record o { slots = slice_set o.slots place (Paints v) }) (no refl) ∙ ap (λ xs. record o { slots = xs }) (stays o.slots place (Paints w) at))
+publishes o new place key h w w' (Err x) e at may yes no is = tt
+
+-- a tile of a group is composed
+pub composes : (o new : Outline) (place g : ℕ) (key : Key) (w w' : Walking) (r : Result Bool NoMemory) → slice_get o.slots place ≡ Some (Walks w) → IfOk r (λ may. may ≡ lacks_pair w g key) → (r ≡ Ok true → w' ≡ with_pair w g key) → (r ≡ Ok false → w' ≡ w)
+    → new ≡ record o { slots = slice_set o.slots place (Walks w') } → Follows r (move.composed o place g key) o new
+composes o new place g key w w' (Ok true) at may yes no is = ap (move.composed_by o place g key) at ∙ ap (λ b. when b (move.with_slot o place (Walks (with_pair w g key)))) (sym may) ∙ ap Some (ap (λ v. record o { slots = slice_set o.slots place (Walks v) }) (sym (yes refl)) ∙ sym is)
+composes o new place g key w w' (Ok false) at may yes no is = (ap (move.composed_by o place g key) at ∙ ap (λ b. when b (move.with_slot o place (Walks (with_pair w g key)))) (sym may), is ∙ ap (λ v. record o { slots = slice_set o.slots place (Walks v) }) (no refl) ∙ ap (λ xs. record o { slots = xs }) (stays o.slots place (Walks w) at))
+composes o new place g key w w' (Err x) at may yes no is = tt
+
+
+closed_of : (o : Outline) (h : Head) → move.may_finish o h ≡ true → h.closed ≡ true
+closed_of o h may = and_left h.closed _ (and_left (h.closed && not h.cancelled) _ may)
+
+-- a stroke that may finish may leave the queue, and so may one that may be taken back
+pub finish_leaves : (o : Outline) (h : Head) → Some h ≡ head_in o.left → move.may_finish o h ≡ true → may_leave o.left ≡ true
+finish_leaves o h e may = closed_leaves o.left h (sym e) (closed_of o h may)
+
+pub cancel_leaves : (o : Outline) (h : Head) → Some h ≡ head_in o.left → move.may_cancel o h ≡ true → may_leave o.left ≡ true
+cancel_leaves o h e may = closed_leaves o.left h (sym e) (and_left h.closed _ may)
+
+-- it finishes
+pub finishes : (o : Outline) (h : Head) (b : Bool) → Some h ≡ head_in o.left → move.may_finish o h ≡ true → b ≡ paints h.layer o.base → move.finished o ≡ Some (move.after_finish o h b)
+finishes o h b e may is = ap (move.finished_by o) (sym e) ∙ ap (λ t. when t (move.after_finish o h (paints h.layer o.base))) may ∙ ap (λ t. Some (move.after_finish o h t)) (sym is)
+
+pub finish_waits : (o : Outline) (h : Head) → Some h ≡ head_in o.left → move.may_finish o h ≡ false → move.finished o ≡ None
+finish_waits o h e may = ap (move.finished_by o) (sym e) ∙ ap (λ t. when t (move.after_finish o h (paints h.layer o.base))) may
+
+-- it is taken back
+pub cancels : (o : Outline) (h : Head) → Some h ≡ head_in o.left → move.may_cancel o h ≡ true → move.cancelled o ≡ Some (move.popped (move.without_change o h))
+cancels o h e may = ap (move.cancelled_by o) (sym e) ∙ ap (λ t. when t (move.popped (move.without_change o h))) may
+
+pub cancel_waits : (o : Outline) (h : Head) → Some h ≡ head_in o.left → move.may_cancel o h ≡ false → move.cancelled o ≡ None
+cancel_waits o h e may = ap (move.cancelled_by o) (sym e) ∙ ap (λ t. when t (move.popped (move.without_change o h))) may
+
+-- of four moves the first that may happen, where those before it may not and left all as it was
+pub begun_first : (o new : Outline) → move.begun o ≡ Some new → move.stepped o ≡ Some new
+begun_first o new e = ap (λ t. first_of t (first_of (move.finished o) (first_of (move.cancelled o) (move.acted o)))) e
+
+pub not_begun : (o : Outline) → move.begun o ≡ None → move.stepped o ≡ first_of (move.finished o) (first_of (move.cancelled o) (move.acted o))
+not_begun o e = ap (λ t. first_of t (first_of (move.finished o) (first_of (move.cancelled o) (move.acted o)))) e
+
+pub not_finished : (o : Outline) → move.begun o ≡ None → move.finished o ≡ None → move.stepped o ≡ first_of (move.cancelled o) (move.acted o)
+not_finished o e f = not_begun o e ∙ ap (λ t. first_of t (first_of (move.cancelled o) (move.acted o))) f
+
+pub not_cancelled : (o : Outline) → move.begun o ≡ None → move.finished o ≡ None → move.cancelled o ≡ None → move.stepped o ≡ move.acted o
+not_cancelled o e f g = not_finished o e f ∙ ap (λ t. first_of t (move.acted o)) g
+
+-- what the answer to one of them says
+pub yes_follows : (b : Bool) (next : Option Outline) (old new : Outline) → Follows (Ok b) next old new → b ≡ true → next ≡ Some new
+yes_follows true next old new f e = f
+yes_follows false next old new f e = cc
+
+pub no_follows : (b : Bool) (next : Option Outline) (old new : Outline) → Follows (Ok b) next old new → b ≡ false → (next ≡ None) × (new ≡ old)
+no_follows true next old new f e = cc
+no_follows false next old new f e = f
+
+-- the answer to all four, by that to the last that was tried
+pub step_finishes : (old mid new : Outline) → (move.begun old ≡ None) × (mid ≡ old) → move.finished mid ≡ Some new → move.stepped old ≡ Some new
+step_finishes old mid new b e = not_begun old b.0 ∙ ap (λ t. first_of t (first_of (move.cancelled old) (move.acted old))) (ap move.finished (sym b.1) ∙ e)
+
+pub step_cancels : (old mid low new : Outline) → (move.begun old ≡ None) × (mid ≡ old) → (move.finished mid ≡ None) × (low ≡ mid) → move.cancelled low ≡ Some new → move.stepped old ≡ Some new
+step_cancels old mid low new b f e =
+    not_finished old b.0 (ap move.finished (sym b.1) ∙ f.0)
+    ∙ ap (λ t. first_of t (move.acted old)) (ap move.cancelled (sym (f.1 ∙ b.1)) ∙ e)
+
+pub step_acts : (old mid low deep new : Outline) (r : Result Bool NoMemory) → (move.begun old ≡ None) × (mid ≡ old) → (move.finished mid ≡ None) × (low ≡ mid) → (move.cancelled low ≡ None) × (deep ≡ low) → Follows r (move.acted deep) deep new → Follows r (move.stepped old) old new
+step_acts old mid low deep new r b f k e =
+    subst (λ n. Follows r n old new) (sym (not_cancelled old b.0 (ap move.finished (sym b.1) ∙ f.0) (ap move.cancelled (sym (f.1 ∙ b.1)) ∙ k.0)))
+    (subst (λ o. Follows r (move.acted o) o new) (k.1 ∙ f.1 ∙ b.1) e)
+
+-- the end of a job or else of a walk
+pub end_of_job : (old new : Outline) (place : ℕ) → move.ended old place ≡ Some new → move.work_ended old place ≡ Some new
+end_of_job old new place e = ap (λ t. first_of t (move.walk_ended old place)) e
+
+pub end_of_walk : (old mid new : Outline) (place : ℕ) (r : Result Bool NoMemory) → (move.ended old place ≡ None) × (mid ≡ old) → Follows r (move.walk_ended mid place) mid new → Follows r (move.work_ended old place) old new
+end_of_walk old mid new place r b e =
+    subst (λ n. Follows r n old new) (sym (ap (λ t. first_of t (move.walk_ended old place)) b.0))
+    (subst (λ o. Follows r (move.walk_ended o place) o new) b.1 e)

@@ -1,0 +1,12 @@
+mod DocShapes
+mod Events
+mod Following
+mod HeadOutlines
+mod Intakes
+mod LastLines
+mod Outlines
+mod PaintTests
+mod Passes
+mod SlotOutlines
+mod TileSets
+mod TreeWays

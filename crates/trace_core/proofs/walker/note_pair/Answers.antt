@@ -1,0 +1,4 @@
+use Rattle.trace_core.proofs.walker.note_pair.Goals as goal
+
+pub loop-i-preserved : goal.loop-i-preserved
+loop-i-preserved c = ?
