@@ -81,7 +81,6 @@ composes o new place g key w w' (Ok true) at may yes no is = ap (move.composed_b
 composes o new place g key w w' (Ok false) at may yes no is = (ap (move.composed_by o place g key) at ∙ ap (λ b. when b (move.with_slot o place (Walks (with_pair w g key)))) (sym may), is ∙ ap (λ v. record o { slots = slice_set o.slots place (Walks v) }) (no refl) ∙ ap (λ xs. record o { slots = xs }) (stays o.slots place (Walks w) at))
 composes o new place g key w w' (Err x) at may yes no is = tt
 
-
 closed_of : (o : Outline) (h : Head) → move.may_finish o h ≡ true → h.closed ≡ true
 closed_of o h may = and_left h.closed _ (and_left (h.closed && not h.cancelled) _ may)
 

@@ -63,7 +63,6 @@ fates_other Cancelled t es = refl
 pub other_stroke : (t : Stroke) (es : List Entry) → other_in (queued (Strokes t) ∷ es) ≡ None
 other_stroke t es = fates_other t.fate t es
 
-
 -- a list without its first items, and one more
 pub drop_one_more : {A : Type 0} (n : ℕ) (xs : List A) → drop (suc n) xs ≡ drop 1 (drop n xs)
 drop_one_more zero xs = refl

@@ -56,7 +56,7 @@ impl Intake {
         if !self.log.may_follow(command) {
             return Ok(false);
         }
-        self.log.make_room()?;
+        self.log.make_room(command)?;
         self.queue.push(command)?;
         self.log.push(*command);
         Ok(true)
@@ -126,11 +126,10 @@ impl Intake {
     }
 
     /// The commands that were fed.
-    pub(crate) fn into_commands(self) -> Vec<Command>
-        ensures commands { result.items ≡ self.fed }
-        ensures ranges { list_all in_range self.fed ≡ true }
+    pub(crate) fn commands(&self) -> &[Command]
+        ensures commands { result.now ≡ self.now.fed }
+        ensures ranges { list_all in_range self.now.fed ≡ true }
     {
-        let Intake { log, .. } = self;
-        log.into_commands()
+        self.log.commands()
     }
 }

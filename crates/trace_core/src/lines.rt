@@ -1,7 +1,7 @@
 //! Lines that a machine follows.
 
 ghost use Rattle.std.specs.Prelude.{◌≡◌, ◌<◌, ◌+◌, length};
-ghost use Rattle.script_lines.specs.Lines.{pointed, lines_behind};
+ghost use Rattle.script_lines.specs.Fronts.{pointed, lines_behind};
 ghost use Rattle.trace_forms.specs.Forms.{Fits};
 ghost use Rattle.trace_core.specs.Parts.{parts};
 ghost use Rattle.trace_core.specs.Moves.{Follows};

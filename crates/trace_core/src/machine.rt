@@ -87,12 +87,11 @@ impl Machine {
     }
 
     /// The commands that were fed.
-    pub(crate) fn into_commands(self) -> Vec<Command>
-        ensures commands { result.items ≡ self.intake.fed }
-        ensures ranges { list_all in_range self.intake.fed ≡ true }
+    pub(crate) fn commands(&self) -> &[Command]
+        ensures commands { result.now ≡ self.now.intake.fed }
+        ensures ranges { list_all in_range self.now.intake.fed ≡ true }
     {
-        let Machine { intake, .. } = self;
-        intake.into_commands()
+        self.intake.commands()
     }
 
     /// Whether the document has such a paint layer.

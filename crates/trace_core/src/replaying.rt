@@ -1,7 +1,7 @@
 //! A trace, followed line by line.
 
 ghost use Rattle.std.specs.Prelude.{◌≡◌, ◌<◌, length, true, IfOk, IfErr};
-ghost use Rattle.script_lines.specs.Lines.{lines_behind};
+ghost use Rattle.script_lines.specs.Fronts.{lines_behind};
 ghost use Rattle.doc_model.specs.Lawful.{lawful};
 ghost use Rattle.script_forms.specs.Ranges.{in_limits};
 ghost use Rattle.script_text.specs.Script.{contents};
@@ -95,14 +95,15 @@ fn begin(alloc: Global, text: Option<&[u8]>) -> Result<Beginning<'_>, ReplayRefu
 }
 
 /// The script of a machine's commands.
-fn script_of(alloc: Global, canvas: Canvas, machine: Machine) -> Result<Replayed, ReplayRefusal>
+fn script_of(alloc: Global, canvas: Canvas, machine: &Machine) -> Result<Replayed, ReplayRefusal>
     requires limits { in_limits canvas ≡ true }
-    requires lawful { lawful machine.intake.fed ≡ true }
-    requires closed { all_closed machine.intake.fed ≡ true }
-    ensures ok { IfOk result (λ r. r ≡ contents canvas machine.intake.fed) }
+    requires lawful { lawful machine.now.intake.fed ≡ true }
+    requires closed { all_closed machine.now.intake.fed ≡ true }
+    ensures ok { IfOk result (λ r. r ≡ contents canvas machine.now.intake.fed) }
     ensures err { IfErr result (λ e. e ≡ refusal.NoMemory) }
 {
-    match Script::from_commands(alloc, canvas, machine.into_commands()) {
+    let commands = Vec::from_slice(alloc, machine.commands())?;
+    match Script::from_commands(alloc, canvas, commands) {
         Ok(script) => Ok(Replayed { script }),
         Err(MakeRefusal::NoMemory) => Err(ReplayRefusal::NoMemory),
         Err(MakeRefusal::NotScript) => unreachable!(),
@@ -127,5 +128,5 @@ pub fn replay(alloc: Global, bytes: &[u8]) -> Result<Replayed, ReplayRefusal>
     if !machine.is_settled() {
         return Err(fault(number, TraceCause::Unsettled));
     }
-    script_of(alloc, canvas, machine)
+    script_of(alloc, canvas, &machine)
 }

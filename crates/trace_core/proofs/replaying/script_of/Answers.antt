@@ -9,11 +9,12 @@ use Rattle.trace_core.proofs.replaying.script_of.Goals as goal
 
 pub unreachable-requires : goal.unreachable-requires
 unreachable-requires c =
-    let commands = c.into_commands.ensures.commands in
-    let is : is_script (contents c.args.canvas c.into_commands.result.items) ≡ true = is_script_by c.args.canvas c.into_commands.result.items
+    let taken = c.in_ok-commands.commands.items in
+    let commands : taken ≡ c.args.machine.now.intake.fed = search rules in
+    let is : is_script (contents c.args.canvas taken) ≡ true = is_script_by c.args.canvas taken
     c.requires.limits
-    (subst (λ x. list_all in_range x ≡ true) (sym commands) c.into_commands.ensures.ranges)
+    (subst (λ x. list_all in_range x ≡ true) (sym commands) c.commands.ensures.ranges)
     (subst (λ x. lawful x ≡ true) (sym commands) c.requires.lawful)
     (subst (λ x. all_closed x ≡ true) (sym commands) c.requires.closed) in
-    let no_script : is_script (contents c.args.canvas c.into_commands.result.items) ≡ false = search rules in
+    let no_script : is_script (contents c.args.canvas taken) ≡ false = search rules in
     cc

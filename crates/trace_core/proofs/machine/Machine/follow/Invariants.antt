@@ -1,5 +1,5 @@
 use Rattle.std.proofs.Common.{◌≡◌, ◌+◌, suc, length}
-use Rattle.script_lines.specs.Lines.{lines_behind}
+use Rattle.script_lines.specs.Fronts.{lines_behind}
 use Rattle.trace_core.specs.Parts.{parts}
 use Rattle.trace_core.specs.Following.{follow}
 use Rattle.trace_core.proofs.machine.Machine.follow.Given as goal
