@@ -32,21 +32,6 @@ use Rattle.trace_core.specs.Answers.{IsBegun, IsReplayed}
 use Rattle.script_text.specs.Script.{Contents, contents}
 use Rattle.trace_core.proofs.Outlines.{fed_told, begun_told, started_told, published_told, work_ended_told, composed_one_told, walk_started_told, stepped_told, settled_told}
 
-one_more : (n : ℕ) → n + 1 ≡ suc n
-one_more n = omega arith
-
--- one line more
-pub goes_on : (n : ℕ) (o new : Outline) (f : Fields) (others : List Fields) (whole : Told Outline) → whole ≡ follow (suc n) o (f ∷ others) → line_follows (n + 1) o f ≡ Ok new → whole ≡ follow (suc (n + 1)) new others
-goes_on n o new f others whole so_far is =
-    so_far
-    ∙ ap (λ t. and_then t (λ p. follow (suc (suc n)) p others)) (ap (λ k. line_follows k o f) (sym (one_more n)) ∙ is)
-    ∙ ap (λ k. follow (suc k) new others) (sym (one_more n))
-
--- a line that is refused
-pub goes_wrong : (n : ℕ) (o : Outline) (f : Fields) (others : List Fields) (whole : Told Outline) (e : ReplayRefusal) → whole ≡ follow (suc n) o (f ∷ others) → IsRefused e (line_follows (n + 1) o f) → IsRefused e whole
-goes_wrong n o f others whole (Fault l c) so_far is = so_far ∙ ap (λ t. and_then t (λ p. follow (suc (suc n)) p others)) (ap (λ k. line_follows k o f) (sym (one_more n)) ∙ is)
-goes_wrong n o f others whole NoMemory so_far is = tt
-
 -- what is told of a state, told of its outline
 abbrev pub told_outline : Told State → Told Outline
 told_outline (Ok s) = Ok (outline s)

@@ -8,5 +8,6 @@ mod Outlines
 mod PaintTests
 mod Passes
 mod SlotOutlines
+mod TakenLines
 mod TileSets
 mod TreeWays
