@@ -8,6 +8,5 @@ mod Outlines
 mod PaintTests
 mod Passes
 mod SlotOutlines
-mod TakenLines
 mod TileSets
 mod TreeWays
