@@ -53,12 +53,12 @@ other_leaves (Other w ∷ es) c e = refl
 -- a job starts
 module _ (o : Outline) (place : ℕ) where
   pub start_wants_slot : (h : Option Head) (way : Option ℕ) (x : Option Slot) → (x ≡ Some Free → ⊥) → move.started_by o place h way x ≡ None
-  start_wants_slot (Some h) (Some n) (Some Free) no = absurd (no refl)
-  start_wants_slot (Some h) (Some n) (Some (Paints w)) no = refl
-  start_wants_slot (Some h) (Some n) (Some (Walks w)) no = refl
-  start_wants_slot (Some h) (Some n) None no = refl
-  start_wants_slot (Some h) None x no = refl
-  start_wants_slot None way x no = refl
+  start_wants_slot (Some h) (Some n) (Some Free) away = absurd (away refl)
+  start_wants_slot (Some h) (Some n) (Some (Paints w)) away = refl
+  start_wants_slot (Some h) (Some n) (Some (Walks w)) away = refl
+  start_wants_slot (Some h) (Some n) None away = refl
+  start_wants_slot (Some h) None x away = refl
+  start_wants_slot None way x away = refl
 
   pub start_wants_way : (h : Option Head) (x : Option Slot) → move.started_by o place h None x ≡ None
   start_wants_way (Some h) x = refl
@@ -70,16 +70,16 @@ module _ (o : Outline) (place : ℕ) where
 -- a tile is published
 pub publishes : (o new : Outline) (place : ℕ) (key : Key) (h : Head) (w w' : Painting) (r : Result Bool NoMemory) → head_in o.left ≡ Some h → slice_get o.slots place ≡ Some (Paints w) → IfOk r (λ may. may ≡ lacks_tile w key) → (r ≡ Ok true → w' ≡ with_tile w key) → (r ≡ Ok false → w' ≡ w)
     → new ≡ record o { slots = slice_set o.slots place (Paints w') } → Follows r (move.published o place key) o new
-publishes o new place key h w w' (Ok true) e at may yes no is = (λ i. move.published_by o place key (e i) (at i)) ∙ ap (λ b. when b (move.with_slot o place (Paints (with_tile w key)))) (sym may) ∙ ap Some (ap (λ v. record o { slots = slice_set o.slots place (Paints v) }) (sym (yes refl)) ∙ sym is)
-publishes o new place key h w w' (Ok false) e at may yes no is = ((λ i. move.published_by o place key (e i) (at i)) ∙ ap (λ b. when b (move.with_slot o place (Paints (with_tile w key)))) (sym may), is ∙ ap (λ v. record o { slots = slice_set o.slots place (Paints v) }) (no refl) ∙ ap (λ xs. record o { slots = xs }) (stays o.slots place (Paints w) at))
-publishes o new place key h w w' (Err x) e at may yes no is = tt
+publishes o new place key h w w' (Ok true) e at may there away is = (λ i. move.published_by o place key (e i) (at i)) ∙ ap (λ b. when b (move.with_slot o place (Paints (with_tile w key)))) (sym may) ∙ ap Some (ap (λ v. record o { slots = slice_set o.slots place (Paints v) }) (sym (there refl)) ∙ sym is)
+publishes o new place key h w w' (Ok false) e at may there away is = ((λ i. move.published_by o place key (e i) (at i)) ∙ ap (λ b. when b (move.with_slot o place (Paints (with_tile w key)))) (sym may), is ∙ ap (λ v. record o { slots = slice_set o.slots place (Paints v) }) (away refl) ∙ ap (λ xs. record o { slots = xs }) (stays o.slots place (Paints w) at))
+publishes o new place key h w w' (Err x) e at may there away is = tt
 
 -- a tile of a group is composed
 pub composes : (o new : Outline) (place g : ℕ) (key : Key) (w w' : Walking) (r : Result Bool NoMemory) → slice_get o.slots place ≡ Some (Walks w) → IfOk r (λ may. may ≡ lacks_pair w g key) → (r ≡ Ok true → w' ≡ with_pair w g key) → (r ≡ Ok false → w' ≡ w)
     → new ≡ record o { slots = slice_set o.slots place (Walks w') } → Follows r (move.composed o place g key) o new
-composes o new place g key w w' (Ok true) at may yes no is = ap (move.composed_by o place g key) at ∙ ap (λ b. when b (move.with_slot o place (Walks (with_pair w g key)))) (sym may) ∙ ap Some (ap (λ v. record o { slots = slice_set o.slots place (Walks v) }) (sym (yes refl)) ∙ sym is)
-composes o new place g key w w' (Ok false) at may yes no is = (ap (move.composed_by o place g key) at ∙ ap (λ b. when b (move.with_slot o place (Walks (with_pair w g key)))) (sym may), is ∙ ap (λ v. record o { slots = slice_set o.slots place (Walks v) }) (no refl) ∙ ap (λ xs. record o { slots = xs }) (stays o.slots place (Walks w) at))
-composes o new place g key w w' (Err x) at may yes no is = tt
+composes o new place g key w w' (Ok true) at may there away is = ap (move.composed_by o place g key) at ∙ ap (λ b. when b (move.with_slot o place (Walks (with_pair w g key)))) (sym may) ∙ ap Some (ap (λ v. record o { slots = slice_set o.slots place (Walks v) }) (sym (there refl)) ∙ sym is)
+composes o new place g key w w' (Ok false) at may there away is = (ap (move.composed_by o place g key) at ∙ ap (λ b. when b (move.with_slot o place (Walks (with_pair w g key)))) (sym may), is ∙ ap (λ v. record o { slots = slice_set o.slots place (Walks v) }) (away refl) ∙ ap (λ xs. record o { slots = xs }) (stays o.slots place (Walks w) at))
+composes o new place g key w w' (Err x) at may there away is = tt
 
 closed_of : (o : Outline) (h : Head) → move.may_finish o h ≡ true → h.closed ≡ true
 closed_of o h may = and_left h.closed _ (and_left (h.closed && not h.cancelled) _ may)

@@ -10,3 +10,4 @@ mod Passes
 mod SlotOutlines
 mod TileSets
 mod TreeWays
+mod Works

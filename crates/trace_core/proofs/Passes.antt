@@ -17,11 +17,19 @@ found_here f xs i x at fits so_far =
     let first : position_or_len f (drop i xs) ≡ 0 = ap (position_or_len f) (drop_here xs i x at) ∙ ap (λ b. cond (not b) (1 + position_or_len f (drop (i + 1) xs)) 0) fits in
     omega (arith, first, so_far)
 
--- a change of each element, made so far
-pub changed_here : {A : Type 0} (f : A → A) (xs new old : List A) (i : ℕ) (x : A) → slice_get xs i ≡ Some x → old ≡ map f (take i xs) ++ drop i xs → new ≡ slice_set old i (f x) → new ≡ map f (take (i + 1) xs) ++ drop (i + 1) xs
-changed_here f [] new old i x at was is = cc
-changed_here f (y ∷ xs) new old zero x at was is = is ∙ ap (λ t. slice_set t 0 (f x)) was ∙ (let same : y ≡ x = cc in ap (λ z. f z ∷ xs) (sym same))
-changed_here f (y ∷ xs) new old (suc i) x at was is =
-    is ∙ ap (λ t. slice_set t (suc i) (f x)) was
-    ∙ ap (λ t. f y ∷ t) (changed_here f xs (slice_set (map f (take i xs) ++ drop i xs) i (f x)) (map f (take i xs) ++ drop i xs) i x at refl refl)
-    ∙ (let e : suc (i + 1) ≡ suc i + 1 = omega arith in ap (λ n. map f (take n (y ∷ xs)) ++ drop n (y ∷ xs)) e)
+-- one that doesn't fit is passed
+pub not_here : {A : Type 0} (f : A → Bool) (xs : List A) (i : ℕ) (x : A) → slice_get xs i ≡ Some x → f x ≡ false → position_or_len f xs ≡ i + position_or_len f (drop i xs) → position_or_len f xs ≡ (i + 1) + position_or_len f (drop (i + 1) xs)
+not_here f xs i x at off so_far =
+    let first : position_or_len f (drop i xs) ≡ 1 + position_or_len f (drop (i + 1) xs) = ap (position_or_len f) (drop_here xs i x at) ∙ ap (λ b. cond (not b) (1 + position_or_len f (drop (i + 1) xs)) 0) off in
+    omega (arith, first, so_far)
+
+-- a change of each element, made up to one place more
+pub changed_here : {A : Type 0} (f : A → A) (old new : List A) (i : ℕ) (x : A) (whole : List A) → slice_get old i ≡ Some x → new ≡ slice_set old i (f x) → take i old ++ map f (drop i old) ≡ whole → take (i + 1) new ++ map f (drop (i + 1) new) ≡ whole
+changed_here {A = A} f old new i x whole at is so_far = ap (λ xs. take (i + 1) xs ++ map f (drop (i + 1) xs)) is ∙ step old i x at ∙ so_far
+  where
+    step : (xs : List A) (k : ℕ) (y : A) → slice_get xs k ≡ Some y → take (k + 1) (slice_set xs k (f y)) ++ map f (drop (k + 1) (slice_set xs k (f y))) ≡ take k xs ++ map f (drop k xs)
+    step [] k y h = cc
+    step (z ∷ xs) zero y h = let same : z ≡ y = cc in ap (λ v. f v ∷ map f xs) (sym same)
+    step (z ∷ xs) (suc k) y h =
+        (let e : suc k + 1 ≡ suc (k + 1) = omega arith in ap (λ n. take n (z ∷ slice_set xs k (f y)) ++ map f (drop n (z ∷ slice_set xs k (f y)))) e)
+        ∙ ap (λ t. z ∷ t) (step xs k y h)

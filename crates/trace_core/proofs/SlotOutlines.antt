@@ -83,11 +83,11 @@ painted_told w = all_same (set.contains (set.from_list {R = key_cmp} w.published
 -- the tiles of a group
 tiles_told : (g : ℕ) (published : List (ℕ × Key)) (key : Key) → list_any (same_key key) (tiles_of g published) ≡ list_any (same_pair g key) published
 tiles_told g [] key = refl
-tiles_told g (e ∷ es) key = go (eqb e.0 g)
+tiles_told g (e ∷ es) key = go (eqb e.0 g) (tiles_told g es key)
   where
-    go : (b : Bool) → list_any (same_key key) (cond b (e.1 ∷ tiles_of g es) (tiles_of g es)) ≡ ((b && same_key key e.1) || list_any (same_pair g key) es)
-    go true = ap (λ c. same_key key e.1 || c) (tiles_told g es key)
-    go false = tiles_told g es key
+    go : (b : Bool) → list_any (same_key key) (tiles_of g es) ≡ list_any (same_pair g key) es → list_any (same_key key) (cond b (e.1 ∷ tiles_of g es) (tiles_of g es)) ≡ ((b && same_key key e.1) || list_any (same_pair g key) es)
+    go true more = ap (λ c. same_key key e.1 || c) more
+    go false more = more
 
 has_pair : (g : ℕ) (published : List (ℕ × Key)) (key : Key) → set.contains (composed_of published g).published key ≡ list_any (same_pair g key) published
 has_pair g published key = has_tile (tiles_of g published) key ∙ tiles_told g published key
@@ -97,20 +97,20 @@ one_number a b e = grind (arith, nat_tests)
 
 lacks_groups : (published : List (ℕ × Key)) (g : ℕ) (key : Key) (gs : List ℕ) → list_any (lacks g key) (map (composed_of published) gs) ≡ (on g gs && not (list_any (same_pair g key) published))
 lacks_groups published g key [] = refl
-lacks_groups published g key (q ∷ gs) = go (eqb q g) refl
+lacks_groups published g key (q ∷ gs) = go (lacks_groups published g key gs) (eqb q g) refl
   where
     both : (b c d : Bool) → c ≡ (b && d) → (d || c) ≡ d
     both true c d e = cc
     both b c true e = refl
     both false c false e = e
 
-    go : (b : Bool) → eqb q g ≡ b → ((eqb q g && not (set.contains (composed_of published q).published key)) || list_any (lacks g key) (map (composed_of published) gs)) ≡ ((eqb q g || on g gs) && not (list_any (same_pair g key) published))
-    go true e = (λ i. (e i && not (set.contains (composed_of published (one_number q g e i)).published key)) || lacks_groups published g key gs i)
+    go : list_any (lacks g key) (map (composed_of published) gs) ≡ (on g gs && not (list_any (same_pair g key) published)) → (b : Bool) → eqb q g ≡ b → ((eqb q g && not (set.contains (composed_of published q).published key)) || list_any (lacks g key) (map (composed_of published) gs)) ≡ ((eqb q g || on g gs) && not (list_any (same_pair g key) published))
+    go more true e = (λ i. (e i && not (set.contains (composed_of published (one_number q g e i)).published key)) || more i)
         ∙ ap (λ c. not c || (on g gs && not (list_any (same_pair g key) published))) (has_pair g published key)
         ∙ both (on g gs) _ _ refl
         ∙ ap (λ b. (b || on g gs) && not (list_any (same_pair g key) published)) (sym e)
-    go false e = ap (λ b. (b && not (set.contains (composed_of published q).published key)) || list_any (lacks g key) (map (composed_of published) gs)) e
-        ∙ lacks_groups published g key gs
+    go more false e = ap (λ b. (b && not (set.contains (composed_of published q).published key)) || list_any (lacks g key) (map (composed_of published) gs)) e
+        ∙ more
         ∙ ap (λ b. (b || on g gs) && not (list_any (same_pair g key) published)) (sym e)
 
 abbrev pub walking : state.Walker → Walking

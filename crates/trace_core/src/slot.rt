@@ -84,9 +84,9 @@ impl Slot {
 pub(crate) fn fill(slots: &mut [Slot], place: u8, slot: Slot)
     ensures { slots.new ≡ slice_set slots.old place slot }
 {
-    match slots.get_mut(place as usize) {
-        Some(old) => *old = slot,
-        None => {}
+    let i = place as usize;
+    if i < slots.len() {
+        slots[i] = slot;
     }
 }
 

@@ -1,0 +1,80 @@
+-- What the events of work leave, by what is read of the slot and of the head.
+use Rattle.std.proofs.Common.{◌≡◌, ℕ, Bool, true, false, Option, Some, None, length, refl, sym, ap, ◌∙◌, arith}
+use Rattle.std.specs.Prelude.{slice_get, slice_set}
+use Rattle.std.proofs.lemmas.Option.{slice_get_past}
+use Rattle.doc_model.specs.declared.canvas.Patch.{Patch}
+use Rattle.doc_model.specs.declared.job.Job.{Job}
+use Rattle.doc_model.specs.declared.job.Kind.{Kind}
+use Rattle.trace_model.specs.Next.{when, place_of}
+use Rattle.trace_core.specs.declared.head.Head.{Head}
+use Rattle.trace_core.specs.declared.slot.Slot.{Slot}
+use Rattle.trace_core.specs.declared.slot.Slot.TheVariants.{Free, Paints, Walks}
+use Rattle.trace_core.specs.Waits.{head_in, jobs_in}
+use Rattle.trace_core.specs.Painting.{Painting, is_painted}
+use Rattle.trace_core.specs.Walking.{Walking, is_composed}
+use Rattle.trace_core.specs.Outline.{Outline}
+use Rattle.trace_core.specs.Moves as move
+use Rattle.trace_core.proofs.Events.{started_is}
+
+module _ (o : Outline) (place : ℕ) (h : Head) (n : ℕ) (job : Kind × Job) (e : head_in o.left ≡ Some h) (w : o.way ≡ Some n) (f : slice_get o.slots place ≡ Some Free) (g : slice_get (jobs_in o.left) n ≡ Some job) where
+  -- a job that may not start beside what is at work
+  pub start_waits : move.may_start o h job.0 ≡ false → move.started o place ≡ None
+  start_waits may = started_is o place h n (Some job) e w f g ∙ ap (λ b. when b (move.with_painter o place n job.1)) may
+
+  -- a job starts
+  pub starts : (new : Outline) → move.may_start o h job.0 ≡ true → new ≡ move.with_painter o place n job.1 → move.started o place ≡ Some new
+  starts new may is = started_is o place h n (Some job) e w f g ∙ ap (λ b. when b (move.with_painter o place n job.1)) may ∙ ap Some (sym is)
+
+module _ (o : Outline) (place : ℕ) (h : Head) (w : Painting) (e : head_in o.left ≡ Some h) (at : slice_get o.slots place ≡ Some (Paints w)) where
+  ended_is : move.ended o place ≡ when (is_painted w) (move.without_painter o place h w.job)
+  ended_is = λ i. move.ended_by o place (e i) (at i)
+
+  -- a job ends
+  pub ends : (new : Outline) → is_painted w ≡ true → new ≡ move.without_painter o place h w.job → move.ended o place ≡ Some new
+  ends new painted is = ended_is ∙ ap (λ b. when b (move.without_painter o place h w.job)) painted ∙ ap Some (sym is)
+
+  -- a job of which a tile is missing
+  pub end_waits : is_painted w ≡ false → move.ended o place ≡ None
+  end_waits painted = ended_is ∙ ap (λ b. when b (move.without_painter o place h w.job)) painted
+
+module _ (o : Outline) (place : ℕ) (w : Walking) (at : slice_get o.slots place ≡ Some (Walks w)) where
+  walk_ended_is : move.walk_ended o place ≡ when (is_composed w) (move.with_slot o place Free)
+  walk_ended_is = ap (move.walk_ended_by o place) at
+
+  -- a walk ends
+  pub walk_ends : (new : Outline) → is_composed w ≡ true → new ≡ move.with_slot o place Free → move.walk_ended o place ≡ Some new
+  walk_ends new composed is = walk_ended_is ∙ ap (λ b. when b (move.with_slot o place Free)) composed ∙ ap Some (sym is)
+
+  -- a walk of which a tile is missing
+  pub walk_end_waits : is_composed w ≡ false → move.walk_ended o place ≡ None
+  walk_end_waits composed = walk_ended_is ∙ ap (λ b. when b (move.with_slot o place Free)) composed
+
+module _ (o : Outline) (place : ℕ) (asked : Patch) where
+  walk_no_slot : (i : ℕ) (p : Option Patch) (x : Option Slot) → (x ≡ Some Free → ⊥) → move.walk_started_by o place i p x ≡ None
+  walk_no_slot i None x away = refl
+  walk_no_slot i (Some p) None away = refl
+  walk_no_slot i (Some p) (Some Free) away = absurd (away refl)
+  walk_no_slot i (Some p) (Some (Paints w)) away = refl
+  walk_no_slot i (Some p) (Some (Walks w)) away = refl
+
+  -- a walk starts in a free slot alone
+  pub walk_wants_slot : (slice_get o.slots place ≡ Some Free → ⊥) → move.walk_started o place asked ≡ None
+  walk_wants_slot away = walk_no_slot (place_of asked o.updates.patches) (slice_get o.updates.patches (place_of asked o.updates.patches)) (slice_get o.slots place) away
+
+  -- and of a patch that waits
+  pub walk_wants_patch : place_of asked o.updates.patches ≡ length o.updates.patches → move.walk_started o place asked ≡ None
+  walk_wants_patch e = ap (λ p. move.walk_started_by o place (place_of asked o.updates.patches) p (slice_get o.slots place)) (slice_get_past o.updates.patches (place_of asked o.updates.patches) (omega arith))
+
+  module _ (i : ℕ) (p : Patch) (f : slice_get o.slots place ≡ Some Free) (here : i ≡ place_of asked o.updates.patches) (at : slice_get o.updates.patches i ≡ Some p) where
+    walk_started_is : move.walk_started o place asked ≡ when (move.may_walk o p.rect) (move.with_walker o place i p)
+    walk_started_is =
+        ap (λ j. move.walk_started_by o place j (slice_get o.updates.patches j) (slice_get o.slots place)) (sym here)
+        ∙ (λ k. move.walk_started_by o place i (at k) (f k))
+
+    -- a walk that may not start beside what is at work
+    pub walk_waits : move.may_walk o p.rect ≡ false → move.walk_started o place asked ≡ None
+    walk_waits may = walk_started_is ∙ ap (λ b. when b (move.with_walker o place i p)) may
+
+    -- a walk starts
+    pub walk_starts : (new : Outline) → move.may_walk o p.rect ≡ true → new ≡ move.with_walker o place i p → move.walk_started o place asked ≡ Some new
+    walk_starts new may is = walk_started_is ∙ ap (λ b. when b (move.with_walker o place i p)) may ∙ ap Some (sym is)
