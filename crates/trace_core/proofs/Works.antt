@@ -1,5 +1,5 @@
 -- What the events of work leave, by what is read of the slot and of the head.
-use Rattle.std.proofs.Common.{◌≡◌, ℕ, ◌≤◌, Bool, true, false, Option, Some, None, Result, Ok, Err, length, refl, sym, ap, ◌∙◌, arith}
+use Rattle.std.proofs.Common.{◌≡◌, ℕ, ◌≤◌, Bool, true, false, Option, Some, None, is_some, Result, Ok, Err, length, refl, sym, ap, ◌∙◌, arith}
 use Rattle.std.specs.Prelude.{slice_get, slice_set}
 use Rattle.std.specs.Option.{option_map}
 use Rattle.std.proofs.lemmas.Option.{slice_get_past}
@@ -97,24 +97,17 @@ slot_follows o new place next inside x y (Ok false) told at so is =
 slot_follows o new place next inside x y (Err e) told at so is = tt
 
 -- a tile of a job is published
-pub publishes : (o new : Outline) (place : ℕ) (key : Key) (h : Head) (x y : Slot) (r : Result Bool NoMemory) → head_in o.left ≡ Some h → slice_get o.slots place ≡ Some x → SlotFollows r (published_in key x) x y → new ≡ move.with_slot o place y → Follows r (move.published o place key) o new
-publishes o new place key h x y r e at so is = slot_follows o new place (move.published o place key) (published_in key x) x y r ((λ i. move.published_by o place key (e i) (at i)) ∙ inside x) at so is
+pub publishes : (o new : Outline) (place : ℕ) (key : Key) (x y : Slot) (r : Result Bool NoMemory) → is_some (head_in o.left) ≡ true → slice_get o.slots place ≡ Some x → SlotFollows r (published_in key x) x y → new ≡ move.with_slot o place y → Follows r (move.published o place key) o new
+publishes o new place key x y r waits at so is = slot_follows o new place (move.published o place key) (published_in key x) x y r (told (head_in o.left) waits) at so is
   where
-    inside : (s : Slot) → move.published_by o place key (Some h) (Some s) ≡ option_map (move.with_slot o place) (published_in key s)
-    inside Free = refl
-    inside (Paints w) = when_in (move.with_slot o place) (lacks_tile w key) (Paints (with_tile w key))
-    inside (Walks w) = refl
+    inside : (h : Head) (s : Slot) → move.published_by o place key (Some h) (Some s) ≡ option_map (move.with_slot o place) (published_in key s)
+    inside h Free = refl
+    inside h (Paints w) = when_in (move.with_slot o place) (lacks_tile w key) (Paints (with_tile w key))
+    inside h (Walks w) = refl
 
--- where no stroke is at the head, and where no slot is, none is published
-pub publish_wants_head : (o : Outline) (place : ℕ) (key : Key) → head_in o.left ≡ None → move.published o place key ≡ None
-publish_wants_head o place key e = ap (λ h. move.published_by o place key h (slice_get o.slots place)) e
-
-pub publish_wants_slot : (o : Outline) (place : ℕ) (key : Key) → length o.slots ≤ place → move.published o place key ≡ None
-publish_wants_slot o place key past = ap (move.published_by o place key (head_in o.left)) (slice_get_past o.slots place past) ∙ no_slot (head_in o.left)
-  where
-    no_slot : (h : Option Head) → move.published_by o place key h None ≡ None
-    no_slot None = refl
-    no_slot (Some h) = refl
+    told : (h : Option Head) → is_some h ≡ true → move.published_by o place key h (slice_get o.slots place) ≡ option_map (move.with_slot o place) (published_in key x)
+    told None t = cc
+    told (Some h) t = ap (move.published_by o place key (Some h)) at ∙ inside h x
 
 -- a tile of a group is composed
 pub composes : (o new : Outline) (place g : ℕ) (key : Key) (x y : Slot) (r : Result Bool NoMemory) → slice_get o.slots place ≡ Some x → SlotFollows r (composed_in g key x) x y → new ≡ move.with_slot o place y → Follows r (move.composed o place g key) o new
@@ -124,6 +117,3 @@ composes o new place g key x y r at so is = slot_follows o new place (move.compo
     inside Free = refl
     inside (Paints w) = refl
     inside (Walks w) = when_in (move.with_slot o place) (lacks_pair w g key) (Walks (with_pair w g key))
-
-pub compose_wants_slot : (o : Outline) (place g : ℕ) (key : Key) → length o.slots ≤ place → move.composed o place g key ≡ None
-compose_wants_slot o place g key past = ap (move.composed_by o place g key) (slice_get_past o.slots place past)
