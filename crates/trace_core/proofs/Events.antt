@@ -19,14 +19,12 @@ use Rattle.trace_core.specs.declared.slot.Slot.{Slot}
 use Rattle.trace_core.specs.declared.slot.Slot.TheVariants.{Free, Paints, Walks}
 use Rattle.trace_core.specs.Trees.{paints}
 use Rattle.trace_core.specs.Waits.{head_of, head_in, jobs_in, other_in}
-use Rattle.trace_core.specs.Painting.{Painting, lacks_tile, with_tile}
-use Rattle.trace_core.specs.Walking.{Walking, lacks_pair, with_pair}
 use Rattle.trace_core.specs.Outline.{Outline}
 use Rattle.trace_core.specs.Moves as move
 use Rattle.trace_core.specs.Moves.{Follows}
 
 -- a slot that is filled with what it has
-stays : {A : Type 0} (xs : List A) (i : ℕ) (x : A) → slice_get xs i ≡ Some x → slice_set xs i x ≡ xs
+pub stays : {A : Type 0} (xs : List A) (i : ℕ) (x : A) → slice_get xs i ≡ Some x → slice_set xs i x ≡ xs
 stays [] i x h = refl
 stays (y ∷ xs) zero x h = let same : y ≡ x = cc in ap (λ z. z ∷ xs) (sym same)
 stays (y ∷ xs) (suc i) x h = ap (λ t. y ∷ t) (stays xs i x h)
@@ -66,20 +64,6 @@ module _ (o : Outline) (place : ℕ) where
 
   pub started_is : (h : Head) (n : ℕ) (j : Option (Kind × Job)) → head_in o.left ≡ Some h → o.way ≡ Some n → slice_get o.slots place ≡ Some Free → slice_get (jobs_in o.left) n ≡ j → move.started o place ≡ move.job_started o place h n j
   started_is h n j e w f g = (λ i. move.started_by o place (e i) (w i) (f i)) ∙ ap (move.job_started o place h n) g
-
--- a tile is published
-pub publishes : (o new : Outline) (place : ℕ) (key : Key) (h : Head) (w w' : Painting) (r : Result Bool NoMemory) → head_in o.left ≡ Some h → slice_get o.slots place ≡ Some (Paints w) → IfOk r (λ may. may ≡ lacks_tile w key) → (r ≡ Ok true → w' ≡ with_tile w key) → (r ≡ Ok false → w' ≡ w)
-    → new ≡ record o { slots = slice_set o.slots place (Paints w') } → Follows r (move.published o place key) o new
-publishes o new place key h w w' (Ok true) e at may there away is = (λ i. move.published_by o place key (e i) (at i)) ∙ ap (λ b. when b (move.with_slot o place (Paints (with_tile w key)))) (sym may) ∙ ap Some (ap (λ v. record o { slots = slice_set o.slots place (Paints v) }) (sym (there refl)) ∙ sym is)
-publishes o new place key h w w' (Ok false) e at may there away is = ((λ i. move.published_by o place key (e i) (at i)) ∙ ap (λ b. when b (move.with_slot o place (Paints (with_tile w key)))) (sym may), is ∙ ap (λ v. record o { slots = slice_set o.slots place (Paints v) }) (away refl) ∙ ap (λ xs. record o { slots = xs }) (stays o.slots place (Paints w) at))
-publishes o new place key h w w' (Err x) e at may there away is = tt
-
--- a tile of a group is composed
-pub composes : (o new : Outline) (place g : ℕ) (key : Key) (w w' : Walking) (r : Result Bool NoMemory) → slice_get o.slots place ≡ Some (Walks w) → IfOk r (λ may. may ≡ lacks_pair w g key) → (r ≡ Ok true → w' ≡ with_pair w g key) → (r ≡ Ok false → w' ≡ w)
-    → new ≡ record o { slots = slice_set o.slots place (Walks w') } → Follows r (move.composed o place g key) o new
-composes o new place g key w w' (Ok true) at may there away is = ap (move.composed_by o place g key) at ∙ ap (λ b. when b (move.with_slot o place (Walks (with_pair w g key)))) (sym may) ∙ ap Some (ap (λ v. record o { slots = slice_set o.slots place (Walks v) }) (sym (there refl)) ∙ sym is)
-composes o new place g key w w' (Ok false) at may there away is = (ap (move.composed_by o place g key) at ∙ ap (λ b. when b (move.with_slot o place (Walks (with_pair w g key)))) (sym may), is ∙ ap (λ v. record o { slots = slice_set o.slots place (Walks v) }) (away refl) ∙ ap (λ xs. record o { slots = xs }) (stays o.slots place (Walks w) at))
-composes o new place g key w w' (Err x) at may there away is = tt
 
 closed_of : (o : Outline) (h : Head) → move.may_finish o h ≡ true → h.closed ≡ true
 closed_of o h may = and_left h.closed _ (and_left (h.closed && not h.cancelled) _ may)

@@ -3,12 +3,13 @@
 ghost use Rattle.std.specs.Prelude.{◌≡◌, slice_set};
 ghost use Rattle.std.specs.List.{list_any, list_all};
 ghost use Rattle.machine_model.specs.Guards.{excludes as guard_excludes, kind_at};
-ghost use Rattle.trace_core.specs.Slots.{is_free, is_painter, is_walker, meets_walker, blocks};
+ghost use Rattle.geom_core.specs.Grid.{IsWorldKey};
+ghost use Rattle.trace_core.specs.Slots.{is_free, is_painter, is_walker, meets_walker, blocks, published_in, composed_in, SlotFollows};
 
 use crate::painter::Painter;
 use crate::walker::Walker;
 use doc_model::{Job, Kind};
-use geom_core::Rect;
+use geom_core::{NoMemory, Rect, TileKey};
 
 /// A slot.
 #[derive(Drop)]
@@ -76,6 +77,28 @@ impl Slot {
         match self {
             Slot::Walks(walker) => rect.meets(&walker.patch().rect),
             _ => false,
+        }
+    }
+
+    /// Publishes a tile of the job that stands there. False where none does, or it lacks no such tile.
+    pub(crate) fn publish(&mut self, key: TileKey) -> Result<bool, NoMemory>
+        requires { IsWorldKey key }
+        ensures { SlotFollows result (published_in key self.old) self.old self.new }
+    {
+        match self {
+            Slot::Paints(painter) => painter.publish(key),
+            _ => Ok(false),
+        }
+    }
+
+    /// Composes a tile of a group by the walk that stands there. False where none does, or it lacks no such tile.
+    pub(crate) fn put(&mut self, group: u16, key: TileKey) -> Result<bool, NoMemory>
+        requires { IsWorldKey key }
+        ensures { SlotFollows result (composed_in group key self.old) self.old self.new }
+    {
+        match self {
+            Slot::Walks(walker) => walker.publish(group, key),
+            _ => Ok(false),
         }
     }
 }

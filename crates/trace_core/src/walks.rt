@@ -88,9 +88,10 @@ impl Machine {
         requires { IsWorldKey key }
         ensures { Follows result (composed (parts self.old) place group key) (parts self.old) (parts self.new) }
     {
-        match self.slots.get_mut(place as usize) {
-            Some(Slot::Walks(walker)) => walker.publish(group, key),
-            _ => Ok(false),
+        let i = place as usize;
+        if i >= self.slots.len() {
+            return Ok(false);
         }
+        self.slots[i].put(group, key)
     }
 }

@@ -90,13 +90,11 @@ impl Machine {
         requires { IsWorldKey key }
         ensures { Follows result (published (parts self.old) place key) (parts self.old) (parts self.new) }
     {
-        if self.intake.head().is_none() {
+        let i = place as usize;
+        if i >= self.slots.len() || self.intake.head().is_none() {
             return Ok(false);
         }
-        match self.slots.get_mut(place as usize) {
-            Some(Slot::Paints(painter)) => painter.publish(key),
-            _ => Ok(false),
-        }
+        self.slots[i].publish(key)
     }
 
     /// The job in the slot ends.
