@@ -86,22 +86,24 @@ line_keeps n s t f is e = go (line_of f) e
 -- the lines lead the outline where they lead the state
 pub follow_told : (n : ℕ) (s : State) (ls : List Fields) → IsOrderly s → told_outline (trace.follow n s ls) ≡ follow n (outline s) ls
 follow_told n s [] is = refl
-follow_told n s (f ∷ more) is = go (trace.line_follows n s f) refl
+follow_told n s (f ∷ more) is = go (λ t orderly. follow_told (suc n) t more orderly) (trace.line_follows n s f) refl
   where
-    go : (r : Told State) → trace.line_follows n s f ≡ r → told_outline (and_then r (λ t. trace.follow (suc n) t more)) ≡ and_then (line_follows n (outline s) f) (λ p. follow (suc n) p more)
-    go (Ok t) e = follow_told (suc n) t more (line_keeps n s t f is e).orderly ∙ ap (λ r. and_then r (λ p. follow (suc n) p more)) (ap told_outline (sym e) ∙ line_told n s f is)
-    go (Err x) e = ap (λ r. and_then r (λ p. follow (suc n) p more)) (ap told_outline (sym e) ∙ line_told n s f is)
+    go : ((t : State) → IsOrderly t → told_outline (trace.follow (suc n) t more) ≡ follow (suc n) (outline t) more)
+        → (r : Told State) → trace.line_follows n s f ≡ r → told_outline (and_then r (λ t. trace.follow (suc n) t more)) ≡ and_then (line_follows n (outline s) f) (λ p. follow (suc n) p more)
+    go behind (Ok t) e = behind t (line_keeps n s t f is e).orderly ∙ ap (λ r. and_then r (λ p. follow (suc n) p more)) (ap told_outline (sym e) ∙ line_told n s f is)
+    go behind (Err x) e = ap (λ r. and_then r (λ p. follow (suc n) p more)) (ap told_outline (sym e) ∙ line_told n s f is)
 
 follow_keeps : (n : ℕ) (s t : State) (ls : List Fields) → IsOrderly s → trace.follow n s ls ≡ Ok t → Keeps s t
 follow_keeps n s t [] is e = record { orderly = subst IsOrderly (same_state s t e) is; canvas = ap (λ (u : State). u.canvas) (sym (same_state s t e)) }
-follow_keeps n s t (f ∷ more) is e = go (trace.line_follows n s f) refl e
+follow_keeps n s t (f ∷ more) is e = go (λ u orderly. follow_keeps (suc n) u t more orderly) (trace.line_follows n s f) refl e
   where
-    go : (r : Told State) → trace.line_follows n s f ≡ r → and_then r (λ u. trace.follow (suc n) u more) ≡ Ok t → Keeps s t
-    go (Ok u) h e =
+    go : ((u : State) → IsOrderly u → trace.follow (suc n) u more ≡ Ok t → Keeps u t)
+        → (r : Told State) → trace.line_follows n s f ≡ r → and_then r (λ u. trace.follow (suc n) u more) ≡ Ok t → Keeps s t
+    go behind (Ok u) h e =
         let first : Keeps s u = line_keeps n s u f is h in
-        let rest : Keeps u t = follow_keeps (suc n) u t more first.orderly e in
+        let rest : Keeps u t = behind u first.orderly e in
         record { orderly = rest.orderly; canvas = rest.canvas ∙ first.canvas }
-    go (Err x) h e = no_state x t e
+    go behind (Err x) h e = no_state x t e
 
 -- the first two lines
 pub begins : (o : Outline) (n : ℕ) (canvas : Canvas) (one two : Fields) (more ls : List Fields) → o ≡ outline (new_state canvas n) → in_limits canvas ≡ true → ls ≡ one ∷ (two ∷ more) → slots one ≡ Ok n → canvas_line two ≡ Ok canvas → IsBegun o canvas more ls
