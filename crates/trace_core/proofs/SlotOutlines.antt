@@ -100,8 +100,8 @@ lacks_groups published g key [] = refl
 lacks_groups published g key (q ∷ gs) = go (lacks_groups published g key gs) (eqb q g) refl
   where
     both : (b c d : Bool) → c ≡ (b && d) → (d || c) ≡ d
-    both true c d e = cc
     both b c true e = refl
+    both true c false e = e
     both false c false e = e
 
     go : list_any (lacks g key) (map (composed_of published) gs) ≡ (on g gs && not (list_any (same_pair g key) published)) → (b : Bool) → eqb q g ≡ b → ((eqb q g && not (set.contains (composed_of published q).published key)) || list_any (lacks g key) (map (composed_of published) gs)) ≡ ((eqb q g || on g gs) && not (list_any (same_pair g key) published))
