@@ -1,8 +1,9 @@
 -- Going over the lines of a trace, one after another.
-use Rattle.std.proofs.Common.{◌≡◌, ℕ, ◌+◌, suc, Bool, true, false, cond, List, [], ◌∷◌, Option, Some, None, Result, Ok, Err, length, refl, sym, ap, ◌∙◌, subst, arith}
+use Rattle.std.proofs.Common.{◌≡◌, ℕ, ◌+◌, suc, Bool, true, false, cond, List, [], ◌∷◌, Option, Some, None, Result, Ok, Err, length, refl, sym, ap, ◌∙◌, subst, arith, IfOk, IfErr}
 use Rattle.std.specs.Option.{option_map}
 use Rattle.doc_model.specs.declared.canvas.Canvas.{Canvas}
 use Rattle.doc_model.specs.Canvases.{IsOfLimits}
+use Rattle.doc_model.specs.Lawful.{lawful}
 use Rattle.script_lines.specs.declared.cause.Cause.{Cause}
 use Rattle.script_forms.specs.Jobs.{Fields}
 use Rattle.script_forms.specs.Ranges.{in_limits}
@@ -20,6 +21,7 @@ use Rattle.trace_forms.specs.declared.line.TraceCause.TheVariants.{BadLine, Unse
 use Rattle.trace_forms.specs.Forms.{line_of, slots, canvas_line}
 use Rattle.trace_forms.specs.Replay as trace
 use Rattle.trace_forms.specs.Replay.{Told, fault, and_then, of_form, replayed, replayed_behind, settled}
+use Rattle.trace_forms.specs.ReplayLaws.{IsRunThatSettles}
 use Rattle.trace_forms.proofs.ReplayedLines.{line_event, replayed_runs}
 use Rattle.trace_forms.proofs.Heads.{slots_ok, canvas_line_ok}
 use Rattle.machine_model.proofs.Continuing.{runs_continue}
@@ -28,24 +30,10 @@ use Rattle.trace_core.specs.declared.refusal.ReplayRefusal.TheVariants.{Fault, N
 use Rattle.trace_core.specs.Outline.{Outline, outline}
 use Rattle.trace_core.specs.Moves as move
 use Rattle.trace_core.specs.Following.{happens, enabled, line_follows, follow, IsRefused, LeadsTo}
-use Rattle.trace_core.specs.Answers.{IsBegun, IsReplayed}
+use Rattle.trace_core.specs.Answers.{Answers, IsBegun, IsReplayed}
 use Rattle.script_text.specs.Script.{Contents, contents}
+use Rattle.script_text.specs.Closed.{all_closed}
 use Rattle.trace_core.proofs.Outlines.{fed_told, begun_told, started_told, published_told, work_ended_told, composed_one_told, walk_started_told, stepped_told, settled_told}
-
-one_more : (n : ℕ) → n + 1 ≡ suc n
-one_more n = omega arith
-
--- one line more
-pub goes_on : (n : ℕ) (o new : Outline) (f : Fields) (others : List Fields) (whole : Told Outline) → whole ≡ follow (suc n) o (f ∷ others) → line_follows (n + 1) o f ≡ Ok new → whole ≡ follow (suc (n + 1)) new others
-goes_on n o new f others whole so_far is =
-    so_far
-    ∙ ap (λ t. and_then t (λ p. follow (suc (suc n)) p others)) (ap (λ k. line_follows k o f) (sym (one_more n)) ∙ is)
-    ∙ ap (λ k. follow (suc k) new others) (sym (one_more n))
-
--- a line that is refused
-pub goes_wrong : (n : ℕ) (o : Outline) (f : Fields) (others : List Fields) (whole : Told Outline) (e : ReplayRefusal) → whole ≡ follow (suc n) o (f ∷ others) → IsRefused e (line_follows (n + 1) o f) → IsRefused e whole
-goes_wrong n o f others whole (Fault l c) so_far is = so_far ∙ ap (λ t. and_then t (λ p. follow (suc (suc n)) p others)) (ap (λ k. line_follows k o f) (sym (one_more n)) ∙ is)
-goes_wrong n o f others whole NoMemory so_far is = tt
 
 -- what is told of a state, told of its outline
 abbrev pub told_outline : Told State → Told Outline
@@ -178,11 +166,26 @@ module _ (o : Outline) (canvas : Canvas) (behind ls : List Fields) (b : IsBegun 
   pub unsettled : (new : Outline) → IsLed new → move.is_settled new ≡ false → replayed ls ≡ fault (length behind + 2) Unsettled
   unsettled new led is = settles_by new led false is
 
+  run_of : (new : Outline) (led : IsLed new) → move.is_settled new ≡ true → IsRunThatSettles led.state
+  run_of new led is = replayed_runs ls led.state (settles_by new led true is)
+
   -- the state of a trace without a fault, with its script
   pub replays : (new : Outline) (led : IsLed new) (script : Contents) → move.is_settled new ≡ true → script ≡ contents canvas new.fed → IsReplayed (replayed ls) script
   replays new led script is script_is = record {
     state = led.state;
     told_is = settles_by new led true is;
-    run = replayed_runs ls led.state (settles_by new led true is);
+    run = run_of new led is;
     script_is = script_is ∙ (λ i. contents (sym led.canvas_is i) (sym led.outline_is i).fed);
   }
+
+  -- what such a trace has fed is a script
+  pub fed_lawful : (new : Outline) → IsLed new → move.is_settled new ≡ true → lawful new.fed ≡ true
+  fed_lawful new led is = subst (λ (p : Outline). lawful p.fed ≡ true) led.outline_is (run_of new led is).lawful
+
+  pub fed_closed : (new : Outline) → IsLed new → move.is_settled new ≡ true → all_closed new.fed ≡ true
+  fed_closed new led is = subst (λ (p : Outline). all_closed p.fed ≡ true) led.outline_is (run_of new led is).closed
+
+  -- the answer to it
+  pub answered : (new : Outline) → IsLed new → move.is_settled new ≡ true → (r : Result Contents ReplayRefusal) → IfOk r (λ script. script ≡ contents canvas new.fed) → IfErr r (λ e. e ≡ NoMemory) → Answers r (replayed ls)
+  answered new led is (Ok script) ok err = replays new led script is ok
+  answered new led is (Err e) ok err = subst (λ x. IsRefused x (replayed ls)) (sym err) tt

@@ -52,9 +52,9 @@ fn free_slots(alloc: Global, n: u8) -> Result<Vec<Slot>, NoMemory>
 
 impl Machine {
     /// A machine to which nothing was fed, with n free slots.
-    pub(crate) fn new(alloc: Global, canvas: Canvas, n: u8) -> Result<Machine, NoMemory>
-        requires { IsOfLimits canvas }
-        ensures { IfOk result (λ m. parts m ≡ outline (new_state canvas n)) }
+    pub(crate) fn new(alloc: Global, canvas: &Canvas, n: u8) -> Result<Machine, NoMemory>
+        requires { IsOfLimits canvas.now }
+        ensures { IfOk result (λ m. parts m ≡ outline (new_state canvas.now n)) }
     {
         let slots = free_slots(alloc, n)?;
         let area = canvas.rect();

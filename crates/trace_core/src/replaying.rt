@@ -86,7 +86,7 @@ fn begin(alloc: Global, text: Option<&[u8]>) -> Result<Beginning<'_>, ReplayRefu
     let Ok(canvas) = canvas_line(&fields) else {
         return Err(fault(2, TraceCause::BadLine));
     };
-    let machine = Machine::new(alloc, canvas, n)?;
+    let machine = Machine::new(alloc, &canvas, n)?;
     Ok(Beginning {
         machine,
         canvas,

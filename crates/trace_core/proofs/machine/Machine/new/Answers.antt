@@ -3,4 +3,4 @@ use Rattle.trace_core.proofs.Outlines.{new_outline}
 use Rattle.trace_core.proofs.machine.Machine.new.Goals as goal
 
 pub returns : goal.returns
-returns c = new_outline _ c.args.canvas c.args.n (search rules) (search rules) (search rules) (search rules) (search rules) (search rules) (search rules) (search rules) (search rules) (search rules)
+returns c = new_outline _ c.args.canvas.now c.args.n (search rules) (search rules) (search rules) (search rules) (search rules) (search rules) (search rules) (search rules) (search rules) (search rules)

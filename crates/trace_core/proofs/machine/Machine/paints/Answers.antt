@@ -13,4 +13,4 @@ pub returns-else-has : goal.returns-else-has
 returns-else-has c =
     let tree = c.args.self.now.tree in
     let has : there c.args.layer tree ≡ false = sym c.has.ensures ∙ c.if-has.false in
-    ap (λ b. b && not (takes c.args.layer tree)) (sym has) ∙ paints_is c.args.layer tree c.node_count-count.ensures.limits.tree
+    c.if-has.false ∙ ap (λ b. b && not (takes c.args.layer tree)) (sym has) ∙ paints_is c.args.layer tree c.node_count-count.ensures.limits.tree
