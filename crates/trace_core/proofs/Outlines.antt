@@ -59,6 +59,8 @@ use Rattle.trace_core.specs.declared.slot.Slot.TheVariants as slot
 use Rattle.trace_core.specs.Trees.{Shape, paints, group_of, tree_path}
 use Rattle.trace_core.specs.Tiles.{round}
 use Rattle.trace_core.specs.Waits.{head_in, jobs_in, other_in, is_done}
+use Rattle.trace_core.specs.Painting.{lacks_tile, with_tile}
+use Rattle.trace_core.specs.Walking.{lacks_pair, with_pair}
 use Rattle.trace_core.specs.Slots.{is_free, is_painter, is_walker, blocks, meets_walker}
 use Rattle.trace_core.specs.Outline.{Outline, outline, shape, former_of, reach_of, slot_of, composed_of}
 use Rattle.trace_core.specs.Moves as move
@@ -70,6 +72,11 @@ use Rattle.trace_core.proofs.SlotOutlines.{any_slots, all_slots, set_slots, free
 when_told : {A B : Type 0} (f : A → B) (b c : Bool) (x : A) (y : B) → b ≡ c → (b ≡ true → f x ≡ y) → option_map f (when b x) ≡ when c y
 when_told f true c x y e h = ap Some (h refl) ∙ ap (λ d. when d y) e
 when_told f false c x y e h = ap (λ d. when d y) e
+
+-- what is made of the value is made where the test passes
+pub when_in : {A B : Type 0} (f : A → B) (b : Bool) (x : A) → when b (f x) ≡ option_map f (when b x)
+when_in f true x = refl
+when_in f false x = refl
 
 first_told : {A B : Type 0} (f : A → B) (a b : Option A) → option_map f (first_of a b) ≡ first_of (option_map f a) (option_map f b)
 first_told f None b = refl
@@ -126,8 +133,9 @@ pub published_told : (s : State) (place : ℕ) (key : Key) → option_map outlin
 published_told s place key = go (head_stroke s) (slice_get s.slots place) ∙ (λ i. move.published_by (outline s) place key (sym (head_told (waiting s)) i) (sym (slice_get-map slot_of s.slots place) i))
   where
     go : (h : Option Stroke) (x : Option state.Slot) → option_map outline (next.tile_published s place key h x) ≡ move.published_by (outline s) place key (option_map told h) (option_map slot_of x)
-    go (Some t) (Some (Paints w)) = when_told outline (next.may_publish w key) _ _ _ (sym (lacks_told w key))
+    go (Some t) (Some (Paints w)) = when_told outline (next.may_publish w key) (lacks_tile (painting w) key) (next.with_tile s place key t w) (move.with_slot (outline s) place (slot.Paints (with_tile (painting w) key))) (sym (lacks_told w key))
         (λ _ i. record (outline s) { present = adjusted_shape t.layer (published w.job w.shot key) s.present i; slots = set_slots s.slots place (Paints (record w { published = key ∷ w.published })) i })
+        ∙ when_in (move.with_slot (outline s) place) (lacks_tile (painting w) key) (slot.Paints (with_tile (painting w) key))
     go (Some t) (Some Free) = refl
     go (Some t) (Some (Walks w)) = refl
     go (Some t) None = refl
@@ -163,8 +171,9 @@ pub composed_one_told : (s : State) (place g : ℕ) (key : Key) → option_map o
 composed_one_told s place g key = go (slice_get s.slots place) ∙ ap (move.composed_by (outline s) place g key) (sym (slice_get-map slot_of s.slots place))
   where
     go : (x : Option state.Slot) → option_map outline (next.tile_composed s place g key x) ≡ move.composed_by (outline s) place g key (option_map slot_of x)
-    go (Some (Walks w)) = when_told outline (next.may_compose w g key) _ _ _ (sym (lacks_pair_told w g key))
+    go (Some (Walks w)) = when_told outline (next.may_compose w g key) (lacks_pair (walking w) g key) (next.with_composed s place g key w) (move.with_slot (outline s) place (slot.Walks (with_pair (walking w) g key))) (sym (lacks_pair_told w g key))
         (λ _. ap (λ xs. record (outline s) { slots = xs }) (set_slots s.slots place (Walks (record w { published = (g, key) ∷ w.published })) ∙ ap (λ v. slice_set (map slot_of s.slots) place (slot.Walks v)) (with_pair_told w g key)))
+        ∙ when_in (move.with_slot (outline s) place) (lacks_pair (walking w) g key) (slot.Walks (with_pair (walking w) g key))
     go (Some Free) = refl
     go (Some (Paints w)) = refl
     go None = refl

@@ -13,8 +13,8 @@ use Rattle.trace_core.specs.declared.head.Head.{Head}
 use Rattle.trace_core.specs.declared.slot.Slot.{Slot}
 use Rattle.trace_core.specs.declared.slot.Slot.TheVariants.{Free, Paints, Walks}
 use Rattle.trace_core.specs.Waits.{head_in, jobs_in}
-use Rattle.trace_core.specs.Painting.{Painting, lacks_tile, with_tile, is_painted}
-use Rattle.trace_core.specs.Walking.{Walking, lacks_pair, with_pair, is_composed}
+use Rattle.trace_core.specs.Painting.{Painting, is_painted}
+use Rattle.trace_core.specs.Walking.{Walking, is_composed}
 use Rattle.trace_core.specs.Slots.{published_in, composed_in, SlotFollows}
 use Rattle.trace_core.specs.Outline.{Outline}
 use Rattle.trace_core.specs.Moves as move
@@ -84,36 +84,23 @@ module _ (o : Outline) (place : ℕ) (asked : Patch) where
     pub walk_starts : (new : Outline) → move.may_walk o p.rect ≡ true → new ≡ move.with_walker o place i p → move.walk_started o place asked ≡ Some new
     walk_starts new may is = walk_started_is ∙ ap (λ b. when b (move.with_walker o place i p)) may ∙ ap Some (sym is)
 
-when_in : {A B : Type 0} (f : A → B) (b : Bool) (x : A) → when b (f x) ≡ option_map f (when b x)
-when_in f true x = refl
-when_in f false x = refl
-
 -- what happens in one slot alone
 slot_follows : (o new : Outline) (place : ℕ) (next : Option Outline) (inside : Option Slot) (x y : Slot) (r : Result Bool NoMemory) → next ≡ option_map (move.with_slot o place) inside → slice_get o.slots place ≡ Some x → SlotFollows r inside x y → new ≡ move.with_slot o place y → Follows r next o new
 slot_follows o new place next inside x y (Ok true) told at so is = told ∙ ap (option_map (move.with_slot o place)) so ∙ ap Some (sym is)
-slot_follows o new place next inside x y (Ok false) told at so is =
-    ( told ∙ ap (option_map (move.with_slot o place)) so.0
-    , is ∙ ap (move.with_slot o place) so.1 ∙ ap (λ xs. record o { slots = xs }) (stays o.slots place x at))
+slot_follows o new place next inside x y (Ok false) told at so is = (
+  told ∙ ap (option_map (move.with_slot o place)) so.0,
+  is ∙ ap (move.with_slot o place) so.1 ∙ ap (λ xs. record o { slots = xs }) (stays o.slots place x at),
+)
 slot_follows o new place next inside x y (Err e) told at so is = tt
 
 -- a tile of a job is published
 pub publishes : (o new : Outline) (place : ℕ) (key : Key) (x y : Slot) (r : Result Bool NoMemory) → is_some (head_in o.left) ≡ true → slice_get o.slots place ≡ Some x → SlotFollows r (published_in key x) x y → new ≡ move.with_slot o place y → Follows r (move.published o place key) o new
 publishes o new place key x y r waits at so is = slot_follows o new place (move.published o place key) (published_in key x) x y r (told (head_in o.left) waits) at so is
   where
-    inside : (h : Head) (s : Slot) → move.published_by o place key (Some h) (Some s) ≡ option_map (move.with_slot o place) (published_in key s)
-    inside h Free = refl
-    inside h (Paints w) = when_in (move.with_slot o place) (lacks_tile w key) (Paints (with_tile w key))
-    inside h (Walks w) = refl
-
     told : (h : Option Head) → is_some h ≡ true → move.published_by o place key h (slice_get o.slots place) ≡ option_map (move.with_slot o place) (published_in key x)
     told None t = cc
-    told (Some h) t = ap (move.published_by o place key (Some h)) at ∙ inside h x
+    told (Some h) t = ap (move.published_by o place key (Some h)) at
 
 -- a tile of a group is composed
 pub composes : (o new : Outline) (place g : ℕ) (key : Key) (x y : Slot) (r : Result Bool NoMemory) → slice_get o.slots place ≡ Some x → SlotFollows r (composed_in g key x) x y → new ≡ move.with_slot o place y → Follows r (move.composed o place g key) o new
-composes o new place g key x y r at so is = slot_follows o new place (move.composed o place g key) (composed_in g key x) x y r (ap (move.composed_by o place g key) at ∙ inside x) at so is
-  where
-    inside : (s : Slot) → move.composed_by o place g key (Some s) ≡ option_map (move.with_slot o place) (composed_in g key s)
-    inside Free = refl
-    inside (Paints w) = refl
-    inside (Walks w) = when_in (move.with_slot o place) (lacks_pair w g key) (Walks (with_pair w g key))
+composes o new place g key x y r at so is = slot_follows o new place (move.composed o place g key) (composed_in g key x) x y r (ap (move.composed_by o place g key) at) at so is

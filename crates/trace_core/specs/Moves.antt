@@ -1,5 +1,6 @@
 -- What an event leaves of an outline, where it may happen.
 use Rattle.std.specs.Prelude.{◌≡◌, ℕ, suc, ◌==◌, Bool, true, false, ◌&&◌, ◌||◌, not, Option, Some, None, Result, Ok, Err, List, [], ◌∷◌, ◌++◌, take, drop, map, slice_get, slice_set}
+use Rattle.std.specs.Option.{option_map, option_and_then}
 use Rattle.std.specs.List.{list_any, list_all, remove}
 use Rattle.std.specs.FinSet as set
 use Rattle.geom_core.specs.Areas.{Area}
@@ -32,9 +33,9 @@ use Rattle.trace_core.specs.declared.slot.Slot.TheVariants.{Free, Paints, Walks}
 use Rattle.trace_core.specs.Trees.{Shape, paints, group_of, tree_path}
 use Rattle.trace_core.specs.Tiles.{round}
 use Rattle.trace_core.specs.Waits.{head_in, jobs_in, other_in, is_done}
-use Rattle.trace_core.specs.Painting.{Painting, lacks_tile, with_tile, is_painted}
-use Rattle.trace_core.specs.Walking.{Walking, fresh, lacks_pair, with_pair, is_composed}
-use Rattle.trace_core.specs.Slots.{is_free, is_painter, is_walker, blocks, meets_walker}
+use Rattle.trace_core.specs.Painting.{is_painted}
+use Rattle.trace_core.specs.Walking.{fresh, is_composed}
+use Rattle.trace_core.specs.Slots.{is_free, is_painter, is_walker, blocks, meets_walker, published_in, composed_in}
 use Rattle.trace_core.specs.Outline.{Outline}
 
 abbrev pub no_painter : Outline → Bool
@@ -92,8 +93,8 @@ abbrev pub with_slot : Outline → ℕ → Slot → Outline
 with_slot o place slot = record o { slots = slice_set o.slots place slot }
 
 abbrev pub published_by : Outline → ℕ → Key → Option Head → Option Slot → Option Outline
-published_by o place key (Some h) (Some (Paints w)) = when (lacks_tile w key) (with_slot o place (Paints (with_tile w key)))
-published_by o place key h slot = None
+published_by o place key None slot = None
+published_by o place key (Some h) slot = option_map (with_slot o place) (option_and_then (published_in key) slot)
 
 abbrev pub published : Outline → ℕ → Key → Option Outline
 published o place key = published_by o place key (head_in o.left) (slice_get o.slots place)
@@ -123,12 +124,8 @@ walk_ended o place = walk_ended_by o place (slice_get o.slots place)
 abbrev pub work_ended : Outline → ℕ → Option Outline
 work_ended o place = first_of (ended o place) (walk_ended o place)
 
-abbrev pub may_compose : Walking → ℕ → Key → Bool
-may_compose w g key = lacks_pair w g key
-
 abbrev pub composed_by : Outline → ℕ → ℕ → Key → Option Slot → Option Outline
-composed_by o place g key (Some (Walks w)) = when (lacks_pair w g key) (with_slot o place (Walks (with_pair w g key)))
-composed_by o place g key slot = None
+composed_by o place g key slot = option_map (with_slot o place) (option_and_then (composed_in g key) slot)
 
 abbrev pub composed : Outline → ℕ → ℕ → Key → Option Outline
 composed o place g key = composed_by o place g key (slice_get o.slots place)

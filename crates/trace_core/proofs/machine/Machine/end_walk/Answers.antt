@@ -14,12 +14,12 @@ pub returns : goal.returns
 returns c =
     let o : Outline = parts c.args.self.now in
     let at : slice_get o.slots c.args.place ≡ Some (Walks c.in-Some-Walks.walker) =
-        ap (λ xs. slice_get xs c.args.place) (sym c.deref.ensures.value)
-        ∙ sym (read_at c.get.result c.deref.result.now c.args.place c.get.ensures.lookup.3)
-        ∙ ap option_copied c.in-Some-Walks.is ∙ ap Some c.in-Some-Walks.field-0-is in
+    ap (λ xs. slice_get xs c.args.place) (sym c.deref.ensures.value)
+    ∙ sym (read_at c.get.result c.deref.result.now c.args.place c.get.ensures.lookup.3)
+    ∙ ap option_copied c.in-Some-Walks.is ∙ ap Some c.in-Some-Walks.field-0-is in
     let left = with_items c.args.self.now.slots c.fill.new.slots in
     let filled : left.items ≡ slice_set o.slots c.args.place Free =
-        with_items_is c.args.self.now.slots c.fill.new.slots (omega (arith, c.fill.auto.slots, c.deref_mut.ensures.len))
-        ∙ c.fill.ensures ∙ ap (λ xs. slice_set xs c.args.place Free) c.deref_mut.ensures.value in
+    with_items_is c.args.self.now.slots c.fill.new.slots (omega (arith, c.fill.auto.slots, c.deref_mut.ensures.len))
+    ∙ c.fill.ensures ∙ ap (λ xs. slice_set xs c.args.place Free) c.deref_mut.ensures.value in
     let new : Outline = record o { slots = left.items } in
     walk_ends o c.args.place c.in-Some-Walks.walker at new (sym c.is_composed.ensures ∙ c.if-is_composed.true) (λ i. record o { slots = filled i })

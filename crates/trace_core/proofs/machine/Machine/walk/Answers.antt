@@ -18,7 +18,7 @@ returns c =
     let made : c.in_ok-walker.walker ≡ walker = c.in_ok-walker.ensures ∙ ap (λ gs. record { patch = p; groups = map fresh gs }) (c.deref.ensures.value ∙ c.in_ok-path.ensures) in
     let left = with_items c.args.self.now.slots c.fill.new.slots in
     let filled : left.items ≡ slice_set o.slots c.args.place (Walks walker) =
-        with_items_is c.args.self.now.slots c.fill.new.slots (omega (arith, c.fill.auto.slots, c.deref_mut.ensures.len))
-        ∙ c.fill.ensures ∙ (λ i. slice_set (c.deref_mut.ensures.value i) c.args.place (Walks (made i))) in
+    with_items_is c.args.self.now.slots c.fill.new.slots (omega (arith, c.fill.auto.slots, c.deref_mut.ensures.len))
+    ∙ c.fill.ensures ∙ (λ i. slice_set (c.deref_mut.ensures.value i) c.args.place (Walks (made i))) in
     let new : Outline = record o { updates = c.take_at-patch.new.self; slots = left.items } in
     walk_starts o c.args.place c.args.patch.now c.in-Some.i p (c.is_free.ensures.yes c.if-not-is_free.false) c.in-Some.ensures.some c.patch-patch.ensures new (sym c.may_walk.ensures ∙ c.if-not-may_walk.false) (λ i. record o { updates = c.take_at-patch.ensures.left i; slots = filled i })
