@@ -1,5 +1,5 @@
 -- A printed trace is the trace that it says.
-use Rattle.std.proofs.Common.{◌≡◌, ℕ, suc, ◌≤◌, Bool, true, false, ◌&&◌, cond, nat_le, codes, List, [], ◌∷◌, ◌++◌, length, Option, Some, None, Result, Ok, Err, refl, sym, ap, ◌∙◌, arith, append_assoc}
+use Rattle.std.proofs.Common.{◌≡◌, ℕ, suc, ◌≤◌, true, ◌&&◌, nat_le, codes, List, [], ◌∷◌, ◌++◌, Option, Some, None, Ok, refl, sym, ap, ◌∙◌, arith, append_assoc}
 use Rattle.std.specs.List.{list_all, flat_map}
 use Rattle.std.specs.Fmt.{decimal}
 use Rattle.std.specs.Option.{option_and_then}
@@ -20,8 +20,8 @@ use Rattle.script_text.proofs.PrintedCommands.{canvas_back, canvas_plain}
 use Rattle.machine_model.specs.State.{State, new_state}
 use Rattle.trace_model.specs.Replays.{is_settled}
 use Rattle.trace_forms.specs.declared.line.Line.{Line}
-use Rattle.trace_forms.specs.Forms.{line_of, slots, canvas_line}
-use Rattle.trace_forms.specs.Replay.{happens, follow, replayed, replay, trace_lines, without_feed, slots_in, slots_by, settled}
+use Rattle.trace_forms.specs.Forms.{slots, canvas_line}
+use Rattle.trace_forms.specs.Replay.{happens, follow, replayed, replay, trace_lines, without_feed, slots_in, slots_by}
 use Rattle.trace_text.specs.Texts.{place_line, head_text, line_text, trace_text}
 use Rattle.trace_text.specs.Ranges.{line_in_range}
 use Rattle.trace_text.specs.Leads.{led_to}
