@@ -1,12 +1,12 @@
 -- What is asked of a document is asked of its tree.
-use Rattle.std.proofs.Common.{◌≡◌, ℕ, Bool, true, false, cond, Option, Some, None, is_some, Result, Ok, Err, List, [], ◌∷◌, ◌++◌, refl, ap, ◌∙◌, eqb}
+use Rattle.std.proofs.Common.{◌≡◌, ℕ, Bool, true, false, cond, Option, Some, None, is_some, Result, Ok, Err, [], ◌∷◌, ◌++◌, refl, ap, ◌∙◌, eqb}
 use Rattle.std.specs.Option.{unwrap_or}
 use Rattle.doc_model.specs.declared.canvas.Walk.{Walk}
 use Rattle.doc_model.specs.declared.canvas.Walk.TheVariants.{Up, All}
 use Rattle.doc_model.specs.declared.tree.Change.{Change}
 use Rattle.doc_model.specs.declared.tree.TreeFault.{TreeFault}
 use Rattle.doc_model.specs.Layers.{Layer, plain}
-use Rattle.doc_model.specs.Forest.{Forest, none, paint, group, content, or_else}
+use Rattle.doc_model.specs.Forest.{none, paint, group, or_else}
 use Rattle.doc_model.specs.Adjusting.{adjusted}
 use Rattle.doc_model.specs.Readers.{path, order}
 use Rattle.doc_model.specs.Changes.{changed}

@@ -1,14 +1,11 @@
 -- What a checker does at an event is the move of its outline.
-use Rattle.std.proofs.Common.{◌≡◌, ℕ, suc, zero, Bool, true, false, ◌&&◌, ◌||◌, not, cond, Option, Some, None, Result, Ok, Err, IfOk, List, [], ◌∷◌, length, drop, refl, sym, ap, ◌∙◌, subst}
+use Rattle.std.proofs.Common.{◌≡◌, ℕ, suc, zero, Bool, true, false, ◌&&◌, not, Option, Some, None, Result, Ok, List, [], ◌∷◌, refl, sym, ap, ◌∙◌, subst}
 use Rattle.std.specs.Prelude.{slice_get, slice_set}
 use Rattle.geom_core.proofs.Tests.{and_left}
-use Rattle.geom_core.specs.Areas.{Area}
-use Rattle.geom_core.specs.Grid.{Key}
 use Rattle.geom_core.specs.declared.NoMemory.{NoMemory}
 use Rattle.doc_model.specs.declared.job.Job.{Job}
 use Rattle.doc_model.specs.declared.job.Kind.{Kind}
 use Rattle.doc_model.specs.declared.command.Command.{Command}
-use Rattle.doc_model.specs.declared.canvas.Patch.{Patch}
 use Rattle.entry_queue.specs.declared.entry.Entry.{Entry}
 use Rattle.entry_queue.specs.declared.entry.Entry.TheVariants.{Waiting, Whole, Other}
 use Rattle.entry_queue.specs.Pushed.{may_leave}

@@ -2,22 +2,17 @@
 use Rattle.std.proofs.Common.{◌≡◌, ℕ, ◌+◌, suc, Bool, true, false, cond, List, [], ◌∷◌, Option, Some, None, Result, Ok, Err, length, refl, sym, ap, ◌∙◌, subst, arith, IfOk, IfErr}
 use Rattle.std.specs.Option.{option_map}
 use Rattle.doc_model.specs.declared.canvas.Canvas.{Canvas}
-use Rattle.doc_model.specs.Canvases.{IsOfLimits}
 use Rattle.doc_model.specs.Lawful.{lawful}
 use Rattle.script_lines.specs.declared.cause.Cause.{Cause}
 use Rattle.script_forms.specs.Jobs.{Fields}
 use Rattle.script_forms.specs.Ranges.{in_limits}
 use Rattle.machine_model.specs.State.{State, new_state}
-use Rattle.machine_model.specs.Event.{Event}
-use Rattle.machine_model.specs.Step.{Step}
 use Rattle.machine_model.specs.Sound.{IsOrderly}
 use Rattle.machine_model.proofs.RunsOrderly.{step_keeps, new_orderly}
-use Rattle.trace_model.specs.Replays as model
 use Rattle.trace_forms.specs.declared.line.Line.{Line}
 use Rattle.trace_forms.specs.declared.line.Line.TheVariants as line
 use Rattle.trace_forms.specs.declared.line.TraceFault.{TraceFault}
-use Rattle.trace_forms.specs.declared.line.TraceCause.{TraceCause}
-use Rattle.trace_forms.specs.declared.line.TraceCause.TheVariants.{BadLine, Unsettled}
+use Rattle.trace_forms.specs.declared.line.TraceCause.TheVariants.{Unsettled}
 use Rattle.trace_forms.specs.Forms.{line_of, slots, canvas_line}
 use Rattle.trace_forms.specs.Replay as trace
 use Rattle.trace_forms.specs.Replay.{Told, fault, and_then, of_form, replayed, replayed_behind, settled}
@@ -29,11 +24,11 @@ use Rattle.trace_core.specs.declared.refusal.ReplayRefusal.{ReplayRefusal}
 use Rattle.trace_core.specs.declared.refusal.ReplayRefusal.TheVariants.{Fault, NoMemory}
 use Rattle.trace_core.specs.Outline.{Outline, outline}
 use Rattle.trace_core.specs.Moves as move
-use Rattle.trace_core.specs.Following.{happens, enabled, line_follows, follow, IsRefused, LeadsTo}
+use Rattle.trace_core.specs.Following.{happens, enabled, line_follows, follow, IsRefused}
 use Rattle.trace_core.specs.Answers.{Answers, IsBegun, IsReplayed}
 use Rattle.script_text.specs.Script.{Contents, contents}
 use Rattle.script_text.specs.Closed.{all_closed}
-use Rattle.trace_core.proofs.Outlines.{fed_told, begun_told, started_told, published_told, work_ended_told, composed_one_told, walk_started_told, stepped_told, settled_told}
+use Rattle.trace_core.proofs.Outlines.{fed_told, started_told, published_told, work_ended_told, composed_one_told, walk_started_told, stepped_told, settled_told}
 
 -- what is told of a state, told of its outline
 abbrev pub told_outline : Told State → Told Outline

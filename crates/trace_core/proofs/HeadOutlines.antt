@@ -1,18 +1,17 @@
 -- The entry at the head, as the queue has it.
-use Rattle.std.proofs.Common.{◌≡◌, ◌≢◌, ℕ, suc, zero, ◌+◌, ◌≤◌, Bool, true, false, ◌&&◌, cond, Option, Some, None, is_some, List, [], ◌∷◌, ◌++◌, length, map, take, drop, refl, sym, ap, ◌∙◌, subst, arith, eqb}
+use Rattle.std.proofs.Common.{◌≡◌, ℕ, suc, zero, false, Option, Some, None, is_some, List, [], ◌∷◌, ◌++◌, length, map, drop, refl, ap, ◌∙◌}
 use Rattle.std.specs.Option.{option_map}
-use Rattle.std.proofs.lemmas.Bool.Decides.{nat_tests}
 use Rattle.doc_model.specs.declared.command.Command.{Command}
 use Rattle.doc_model.specs.declared.command.Command.TheVariants as command
 use Rattle.doc_model.specs.Strokes as doc
 use Rattle.doc_model.specs.Strokes.{Stroke, Fate, Open, Ended, Cancelled, Jobs, Strokes, Changes, Undoes, Redoes, Purges, Exports, conflict}
 use Rattle.doc_model.specs.Kept.{kept, up_to}
 use Rattle.entry_queue.specs.declared.entry.Entry.{Entry}
-use Rattle.entry_queue.specs.Pushed.{queued, kept_of, stroke_of as queued_stroke}
-use Rattle.machine_model.specs.State.{State, first, stroke_of}
-use Rattle.machine_model.specs.Guards.{is_closed, is_cancelled, is_ended, overlaps, kept_jobs}
+use Rattle.entry_queue.specs.Pushed.{queued, kept_of}
+use Rattle.machine_model.specs.State.{first, stroke_of}
+use Rattle.machine_model.specs.Guards.{is_closed, is_cancelled, overlaps, kept_jobs}
 use Rattle.trace_core.specs.declared.head.Head.{Head}
-use Rattle.trace_core.specs.Waits.{head_of, head_in, jobs_in, other_in, is_done}
+use Rattle.trace_core.specs.Waits.{head_of, head_in, jobs_in, other_in}
 
 -- what guards ask of a stroke
 abbrev pub told : Stroke → Head

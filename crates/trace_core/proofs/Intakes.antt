@@ -1,10 +1,9 @@
 -- A command that is fed, and the queue.
-use Rattle.std.proofs.Common.{◌≡◌, Bool, true, ◌&&◌, List, [], ◌∷◌, ◌++◌, refl, sym, ap, ◌∙◌}
-use Rattle.std.specs.List.{list_all}
+use Rattle.std.proofs.Common.{◌≡◌, true, List, [], ◌∷◌, ◌++◌, refl, ◌∙◌}
 use Rattle.std.proofs.lemmas.List.Folds.{list_all-append}
 use Rattle.geom_core.proofs.Tests.{both_true}
 use Rattle.doc_model.specs.declared.command.Command.{Command}
-use Rattle.doc_model.specs.Lawful.{may_follow, lawful}
+use Rattle.doc_model.specs.Lawful.{may_follow}
 use Rattle.doc_model.specs.Strokes.{entries}
 use Rattle.doc_model.proofs.Feeding.{lawful_last}
 use Rattle.script_forms.specs.Ranges.{in_range}

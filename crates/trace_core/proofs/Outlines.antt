@@ -1,8 +1,8 @@
 -- What an event leaves has the outline that it leaves of the outline, and may happen just where it may there.
-use Rattle.std.proofs.Common.{◌≡◌, ℕ, suc, zero, ◌≤◌, Bool, true, false, ◌&&◌, ◌||◌, not, cond, Option, Some, None, is_some, Result, Ok, Err, List, [], ◌∷◌, ◌++◌, length, map, take, drop, refl, sym, ap, ◌∙◌, arith, eqb}
+use Rattle.std.proofs.Common.{◌≡◌, ℕ, suc, zero, ◌≤◌, Bool, true, false, ◌&&◌, ◌||◌, not, Option, Some, None, Result, Ok, Err, List, [], ◌∷◌, ◌++◌, length, map, take, drop, refl, sym, ap, ◌∙◌, arith, eqb}
 use Rattle.std.specs.Prelude.{slice_get, slice_set, replicate}
 use Rattle.std.specs.Option.{option_map}
-use Rattle.std.specs.List.{list_any, list_all}
+use Rattle.std.specs.List.{list_any}
 use Rattle.std.specs.FinSet as set
 use Rattle.std.proofs.lemmas.Bool.Decides.{nat_tests}
 use Rattle.std.proofs.lemmas.Option.{slice_get-map}
@@ -14,10 +14,8 @@ use Rattle.geom_core.specs.Touches.{bound_of}
 use Rattle.doc_model.specs.declared.canvas.Canvas.{Canvas}
 use Rattle.doc_model.specs.declared.canvas.Patch.{Patch}
 use Rattle.doc_model.specs.declared.command.Command.{Command}
-use Rattle.doc_model.specs.declared.command.Command.TheVariants as command
 use Rattle.doc_model.specs.declared.command.Outcome.{Outcome}
 use Rattle.doc_model.specs.declared.command.Outcome.TheVariants as outcome
-use Rattle.doc_model.specs.declared.tree.Change.{Change}
 use Rattle.doc_model.specs.declared.tree.TreeFault.{TreeFault}
 use Rattle.doc_model.specs.declared.job.Job.{Job}
 use Rattle.doc_model.specs.declared.job.Kind.{Kind}
@@ -27,13 +25,12 @@ use Rattle.doc_model.specs.Shots.{published}
 use Rattle.doc_model.specs.Changes.{changed}
 use Rattle.doc_model.specs.Forest.{none}
 use Rattle.doc_model.specs.Kept.{kept}
-use Rattle.doc_model.specs.Lawful.{may_follow, lawful}
-use Rattle.doc_model.specs.Picture.{Doc, canvas_area, frame}
+use Rattle.doc_model.specs.Lawful.{may_follow}
+use Rattle.doc_model.specs.Picture.{Doc, canvas_area}
 use Rattle.doc_model.specs.Strokes as doc
 use Rattle.doc_model.specs.Strokes.{Stroke, Fate, Open, Ended, Cancelled, Jobs, Strokes, Changes, Undoes, Redoes, Purges, Exports, entries, conflict}
-use Rattle.doc_model.specs.Updates.{refreshed}
 use Rattle.doc_model.proofs.Feeding.{lawful_last}
-use Rattle.entry_queue.specs.Pushed.{Pending, StandsFor, queued, pushed}
+use Rattle.entry_queue.specs.Pushed.{queued, pushed}
 use Rattle.entry_queue.proofs.Standing.{stands_pushed}
 use Rattle.update_queue.specs.Waiting.{waiting as patches_of}
 use Rattle.machine_model.specs.State as state
@@ -51,14 +48,11 @@ use Rattle.trace_model.specs.Next as next
 use Rattle.trace_model.specs.Next.{next as after, when, is_number, is_clear}
 use Rattle.trace_model.specs.Replays as replay
 use Rattle.trace_model.specs.Replays.{first_of}
-use Rattle.trace_core.specs.declared.head.Head.{Head}
-use Rattle.trace_core.specs.declared.history.Former.{Former}
 use Rattle.trace_core.specs.declared.history.Reach.TheVariants as reach
-use Rattle.trace_core.specs.declared.slot.Slot.{Slot}
 use Rattle.trace_core.specs.declared.slot.Slot.TheVariants as slot
-use Rattle.trace_core.specs.Trees.{Shape, paints, group_of, tree_path}
+use Rattle.trace_core.specs.Trees.{paints, group_of, tree_path}
 use Rattle.trace_core.specs.Tiles.{round}
-use Rattle.trace_core.specs.Waits.{head_in, jobs_in, other_in, is_done}
+use Rattle.trace_core.specs.Waits.{jobs_in, other_in, is_done}
 use Rattle.trace_core.specs.Painting.{lacks_tile, with_tile}
 use Rattle.trace_core.specs.Walking.{lacks_pair, with_pair}
 use Rattle.trace_core.specs.Slots.{is_free, is_painter, is_walker, blocks, meets_walker}

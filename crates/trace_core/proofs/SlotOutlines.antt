@@ -1,6 +1,6 @@
 -- What stands in the slots, without pixels.
-use Rattle.std.proofs.Common.{◌≡◌, ℕ, suc, zero, Bool, true, false, ◌&&◌, ◌||◌, not, cond, Option, Some, None, List, [], ◌∷◌, map, refl, sym, ap, ◌∙◌, arith, eqb}
-use Rattle.std.specs.Prelude.{slice_get, slice_set}
+use Rattle.std.proofs.Common.{◌≡◌, ℕ, suc, zero, Bool, true, false, ◌&&◌, ◌||◌, not, cond, List, [], ◌∷◌, map, refl, sym, ap, ◌∙◌, arith, eqb}
+use Rattle.std.specs.Prelude.{slice_set}
 use Rattle.std.specs.List.{list_any, list_all}
 use Rattle.std.specs.FinSet as set
 use Rattle.std.proofs.lemmas.Bool.Decides.{nat_tests}
@@ -19,7 +19,7 @@ use Rattle.trace_model.specs.Next as next
 use Rattle.trace_model.specs.Next.{groups_of, may_publish, may_compose}
 use Rattle.trace_core.specs.declared.composed.Composed.{Composed}
 use Rattle.trace_core.specs.declared.slot.Slot.{Slot}
-use Rattle.trace_core.specs.Painting.{Painting, lacks_tile, with_tile, is_painted}
+use Rattle.trace_core.specs.Painting.{Painting, lacks_tile, is_painted}
 use Rattle.trace_core.specs.Walking.{Walking, lacks, noted, lacks_pair, with_pair, is_composed}
 use Rattle.trace_core.specs.Tiles.{has_all}
 use Rattle.trace_core.specs.Slots.{is_free, is_painter, is_walker, blocks, meets_walker}

@@ -7,7 +7,7 @@ use Rattle.std.specs.FinSet.{FinSet}
 use Rattle.std.proofs.lemmas.List.{append_assoc}
 use Rattle.std.proofs.lemmas.List.Folds.{list_all-append, list_any-append}
 use Rattle.geom_core.specs.Areas.{Area}
-use Rattle.geom_core.specs.Grid.{Key, key_cmp, key_cmp_total, key_cmp-IsAntisymmetric, key_set, same_key, keys_of, all_keys_of}
+use Rattle.geom_core.specs.Grid.{Key, key_cmp, key_cmp_total, key_cmp-IsAntisymmetric, same_key, keys_of, all_keys_of}
 use Rattle.geom_core.specs.Touches.{bound_of}
 use Rattle.doc_model.specs.declared.job.Kind.{Kind}
 use Rattle.doc_model.specs.declared.job.Job.{Job}

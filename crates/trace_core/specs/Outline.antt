@@ -1,8 +1,8 @@
 -- The machine's state without pixels: what a checker keeps of it.
-use Rattle.std.specs.Prelude.{ℕ, ◌==◌, if◌then◌else◌, Option, Some, None, List, [], ◌∷◌, map}
+use Rattle.std.specs.Prelude.{ℕ, ◌==◌, if◌then◌else◌, Option, List, [], ◌∷◌, map}
 use Rattle.std.specs.FinSet as set
 use Rattle.geom_core.specs.Areas.{Area}
-use Rattle.geom_core.specs.Grid.{Key, key_cmp}
+use Rattle.geom_core.specs.Grid.{Key}
 use Rattle.geom_core.specs.Touches.{bound_of}
 use Rattle.doc_model.specs.declared.command.Command.{Command}
 use Rattle.doc_model.specs.Adjusting.{each}

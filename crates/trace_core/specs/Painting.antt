@@ -1,5 +1,5 @@
 -- A job at work, without pixels.
-use Rattle.std.specs.Prelude.{◌≡◌, ℕ, Bool, ◌&&◌, not, refl}
+use Rattle.std.specs.Prelude.{ℕ, Bool, ◌&&◌, not, refl}
 use Rattle.std.specs.List.{list_any}
 use Rattle.std.specs.FinSet as set
 use Rattle.std.specs.FinSet.{FinSet}

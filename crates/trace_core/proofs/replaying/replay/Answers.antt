@@ -1,5 +1,4 @@
-use Rattle.std.proofs.Common.{rules, ◌≡◌, true, false, Result, Err, length, sym, ap, ◌∙◌, subst, arith}
-use Rattle.script_lines.specs.Fronts.{lines_behind}
+use Rattle.std.proofs.Common.{rules, ◌≡◌, false, Result, Err, length, sym, ap, ◌∙◌, subst, arith}
 use Rattle.script_text.specs.Script.{Contents}
 use Rattle.trace_forms.specs.declared.line.TraceCause.TheVariants.{Unsettled}
 use Rattle.trace_forms.specs.Replay.{fault, replay as told, replayed}

@@ -1,4 +1,4 @@
-use Rattle.std.proofs.Common.{◌≡◌, ◌≤◌, sym, ap, ◌∙◌, arith}
+use Rattle.std.proofs.Common.{◌≤◌, sym, ap, ◌∙◌, arith}
 use Rattle.geom_core.specs.Areas.{meets}
 use Rattle.geom_core.proofs.Axes.{tiles_met}
 use Rattle.trace_core.proofs.tiles.is_tile_of.Goals as goal

@@ -1,5 +1,4 @@
 use Rattle.std.proofs.Common.{◌∙◌, ap}
-use Rattle.std.specs.FinSet as set
 use Rattle.geom_core.specs.Grid.{all_keys_of}
 use Rattle.machine_model.specs.Effects.{writes_of}
 use Rattle.trace_core.specs.Tiles.{with_all}

@@ -1,4 +1,4 @@
-use Rattle.std.proofs.Common.{rules, ◌≡◌, true, false, ap, sym, ◌∙◌, not, Bool, ◌&&◌}
+use Rattle.std.proofs.Common.{◌≡◌, true, false, ap, sym, ◌∙◌, not, ◌&&◌}
 use Rattle.doc_model.specs.Changes.{there, takes}
 use Rattle.trace_core.proofs.PaintTests.{paints_is}
 use Rattle.trace_core.proofs.machine.Machine.paints.Goals as goal
