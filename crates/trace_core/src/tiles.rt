@@ -2,9 +2,7 @@
 
 ghost use Rattle.std.specs.Prelude.{◌≡◌, true, All, OnOk, IfOk};
 ghost use Rattle.std.specs.List.{list_any, list_all};
-ghost use Rattle.std.specs.FinSet as set;
 ghost use Rattle.geom_core.specs.Grid.{IsWorldKey, same_key, keys_of, all_keys_of};
-ghost use Rattle.geom_core.specs.Areas.{Area};
 ghost use Rattle.doc_model.specs.Jobs.{checks, writes};
 ghost use Rattle.machine_model.specs.Effects.{writes_of};
 ghost use Rattle.trace_core.specs.Tiles.{has_all, with_all, round};

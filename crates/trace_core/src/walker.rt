@@ -1,6 +1,6 @@
 //! A walk at work.
 
-ghost use Rattle.std.specs.Prelude.{◌≡◌, true, false, IfOk, Ok, OnOk, map, length};
+ghost use Rattle.std.specs.Prelude.{◌≡◌, true, false, IfOk, Ok, OnOk, map};
 ghost use Rattle.std.specs.List.{list_any, list_all};
 ghost use Rattle.trace_core.specs.Tiles.{has_all};
 ghost use Rattle.geom_core.specs.Grid.{IsWorldKey, keys_of};

@@ -1,7 +1,6 @@
 //! Walks at work.
 
-ghost use Rattle.std.specs.Prelude.{◌≡◌, ◌<◌, ◌&&◌, not, true, false, length, IfSome, IfNone, slice_get, Some};
-ghost use Rattle.std.specs.List.{list_any};
+ghost use Rattle.std.specs.Prelude.{◌≡◌, ◌<◌, length, IfSome, IfNone};
 ghost use Rattle.geom_core.specs.Grid.{IsWorldKey};
 ghost use Rattle.trace_model.specs.Next.{same_area, same_patch, place_of};
 ghost use Rattle.trace_core.specs.Parts.{parts};

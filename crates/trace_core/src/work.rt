@@ -1,20 +1,18 @@
 //! Jobs at work.
 
-ghost use Rattle.std.specs.Prelude.{◌≡◌, ◌<◌, ◌||◌, ◌&&◌, not, Ok, true, length, suc};
+ghost use Rattle.std.specs.Prelude.{◌≡◌, ◌||◌, ◌&&◌, Ok};
 ghost use Rattle.geom_core.specs.Grid.{IsWorldKey};
-ghost use Rattle.doc_model.specs.Jobs.{writes, checks};
 ghost use Rattle.machine_model.specs.Guards.{is_bar};
 ghost use Rattle.machine_model.specs.Effects.{updates_with_all};
 ghost use Rattle.update_queue.specs.Waiting.{waiting};
 ghost use Rattle.trace_core.specs.Parts.{parts};
 ghost use Rattle.trace_core.specs.Moves.{Follows, is_alive, may_start, started, published, ended, walk_ended, work_ended, no_walker, is_clean};
-ghost use Rattle.trace_core.specs.Waits.{head_in, jobs_in};
 
 use crate::head::Head;
 use crate::machine::Machine;
 use crate::painter::Painter;
 use crate::slot::{Slot, fill, some_blocks};
-use doc_model::{Job, Kind, Walk};
+use doc_model::{Kind, Walk};
 use geom_core::{NoMemory, Rect, TileKey};
 use update_queue::Updates;
 
