@@ -1,21 +1,14 @@
 -- What a checker does at an event is the move of its outline.
-use Rattle.std.proofs.Common.{◌≡◌, ℕ, suc, zero, Bool, true, false, ◌&&◌, not, Option, Some, None, Result, Ok, List, [], ◌∷◌, refl, sym, ap, ◌∙◌, subst}
+use Rattle.std.proofs.Common.{◌≡◌, ℕ, suc, zero, Bool, true, false, Option, Some, None, Result, Ok, List, [], ◌∷◌, refl, sym, ap, ◌∙◌, subst}
 use Rattle.std.specs.Prelude.{slice_get, slice_set}
-use Rattle.geom_core.proofs.Tests.{and_left}
 use Rattle.geom_core.specs.declared.NoMemory.{NoMemory}
 use Rattle.doc_model.specs.declared.job.Job.{Job}
 use Rattle.doc_model.specs.declared.job.Kind.{Kind}
-use Rattle.doc_model.specs.declared.command.Command.{Command}
-use Rattle.entry_queue.specs.declared.entry.Entry.{Entry}
-use Rattle.entry_queue.specs.declared.entry.Entry.TheVariants.{Waiting, Whole, Other}
-use Rattle.entry_queue.specs.Pushed.{may_leave}
-use Rattle.trace_model.specs.Next.{when}
 use Rattle.trace_model.specs.Replays.{first_of}
 use Rattle.trace_core.specs.declared.head.Head.{Head}
 use Rattle.trace_core.specs.declared.slot.Slot.{Slot}
 use Rattle.trace_core.specs.declared.slot.Slot.TheVariants.{Free, Paints, Walks}
-use Rattle.trace_core.specs.Trees.{paints}
-use Rattle.trace_core.specs.Waits.{head_of, head_in, jobs_in, other_in}
+use Rattle.trace_core.specs.Waits.{head_in, jobs_in}
 use Rattle.trace_core.specs.Outline.{Outline}
 use Rattle.trace_core.specs.Moves as move
 use Rattle.trace_core.specs.Moves.{Follows}
@@ -25,25 +18,6 @@ pub stays : {A : Type 0} (xs : List A) (i : ℕ) (x : A) → slice_get xs i ≡ 
 stays [] i x h = refl
 stays (y ∷ xs) zero x h = let same : y ≡ x = cc in ap (λ z. z ∷ xs) (sym same)
 stays (y ∷ xs) (suc i) x h = ap (λ t. y ∷ t) (stays xs i x h)
-
--- a closed stroke may leave the queue, and so may an entry that is none
-pub closed_leaves : (es : List Entry) (h : Head) → head_in es ≡ Some h → h.closed ≡ true → may_leave es ≡ true
-closed_leaves [] h e c = cc
-closed_leaves (Waiting s ∷ es) h e c = no_false (ap (λ (x : Head). x.closed) (some_head (head_of s false false) h e) ∙ c)
-  where
-    some_head : (a b : Head) → Some a ≡ Some b → a ≡ b
-    some_head a b e = cc
-
-    no_false : {A : Type 0} → false ≡ true → A
-    no_false e = cc
-closed_leaves (Whole w ∷ es) h e c = refl
-closed_leaves (Other w ∷ es) h e c = refl
-
-pub other_leaves : (es : List Entry) (c : Command) → other_in es ≡ Some c → may_leave es ≡ true
-other_leaves [] c e = cc
-other_leaves (Waiting s ∷ es) c e = cc
-other_leaves (Whole w ∷ es) c e = cc
-other_leaves (Other w ∷ es) c e = refl
 
 -- a job starts
 module _ (o : Outline) (place : ℕ) where
@@ -61,30 +35,6 @@ module _ (o : Outline) (place : ℕ) where
 
   pub started_is : (h : Head) (n : ℕ) (j : Option (Kind × Job)) → head_in o.left ≡ Some h → o.way ≡ Some n → slice_get o.slots place ≡ Some Free → slice_get (jobs_in o.left) n ≡ j → move.started o place ≡ move.job_started o place h n j
   started_is h n j e w f g = (λ i. move.started_by o place (e i) (w i) (f i)) ∙ ap (move.job_started o place h n) g
-
-closed_of : (o : Outline) (h : Head) → move.may_finish o h ≡ true → h.closed ≡ true
-closed_of o h may = and_left h.closed _ (and_left (h.closed && not h.cancelled) _ may)
-
--- a stroke that may finish may leave the queue, and so may one that may be taken back
-pub finish_leaves : (o : Outline) (h : Head) → Some h ≡ head_in o.left → move.may_finish o h ≡ true → may_leave o.left ≡ true
-finish_leaves o h e may = closed_leaves o.left h (sym e) (closed_of o h may)
-
-pub cancel_leaves : (o : Outline) (h : Head) → Some h ≡ head_in o.left → move.may_cancel o h ≡ true → may_leave o.left ≡ true
-cancel_leaves o h e may = closed_leaves o.left h (sym e) (and_left h.closed _ may)
-
--- it finishes
-pub finishes : (o : Outline) (h : Head) (b : Bool) → Some h ≡ head_in o.left → move.may_finish o h ≡ true → b ≡ paints h.layer o.base → move.finished o ≡ Some (move.after_finish o h b)
-finishes o h b e may is = ap (move.finished_by o) (sym e) ∙ ap (λ t. when t (move.after_finish o h (paints h.layer o.base))) may ∙ ap (λ t. Some (move.after_finish o h t)) (sym is)
-
-pub finish_waits : (o : Outline) (h : Head) → Some h ≡ head_in o.left → move.may_finish o h ≡ false → move.finished o ≡ None
-finish_waits o h e may = ap (move.finished_by o) (sym e) ∙ ap (λ t. when t (move.after_finish o h (paints h.layer o.base))) may
-
--- it is taken back
-pub cancels : (o : Outline) (h : Head) → Some h ≡ head_in o.left → move.may_cancel o h ≡ true → move.cancelled o ≡ Some (move.popped (move.without_change o h))
-cancels o h e may = ap (move.cancelled_by o) (sym e) ∙ ap (λ t. when t (move.popped (move.without_change o h))) may
-
-pub cancel_waits : (o : Outline) (h : Head) → Some h ≡ head_in o.left → move.may_cancel o h ≡ false → move.cancelled o ≡ None
-cancel_waits o h e may = ap (move.cancelled_by o) (sym e) ∙ ap (λ t. when t (move.popped (move.without_change o h))) may
 
 -- of four moves the first that may happen, where those before it may not and left all as it was
 pub begun_first : (o new : Outline) → move.begun o ≡ Some new → move.stepped o ≡ Some new

@@ -1,8 +1,6 @@
 -- The entry at the head, as the queue has it.
 use Rattle.std.proofs.Common.{◌≡◌, ℕ, suc, zero, false, Option, Some, None, is_some, List, [], ◌∷◌, ◌++◌, length, map, drop, refl, ap, ◌∙◌}
 use Rattle.std.specs.Option.{option_map}
-use Rattle.doc_model.specs.declared.command.Command.{Command}
-use Rattle.doc_model.specs.declared.command.Command.TheVariants as command
 use Rattle.doc_model.specs.Strokes as doc
 use Rattle.doc_model.specs.Strokes.{Stroke, Fate, Open, Ended, Cancelled, Jobs, Strokes, Changes, Undoes, Redoes, Purges, Exports, conflict}
 use Rattle.doc_model.specs.Kept.{kept, up_to}
@@ -44,15 +42,6 @@ jobs_told (Undoes ∷ es) t h = cc
 jobs_told (Redoes ∷ es) t h = cc
 jobs_told (Purges n ∷ es) t h = cc
 jobs_told (Exports ∷ es) t h = cc
-
--- the command of an entry that is no stroke
-abbrev pub command_of : doc.Entry → Option Command
-command_of (Strokes t) = None
-command_of (Changes change) = Some (command.Change change)
-command_of Undoes = Some command.Undo
-command_of Redoes = Some command.Redo
-command_of (Purges n) = Some (command.Purge n)
-command_of Exports = Some command.Export
 
 fates_other : (f : Fate) (t : Stroke) (es : List Entry) → other_in (queued (Strokes (record t { fate = f })) ∷ es) ≡ None
 fates_other Open t es = refl
