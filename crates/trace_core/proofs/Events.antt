@@ -46,21 +46,8 @@ other_leaves (Whole w ∷ es) c e = cc
 other_leaves (Other w ∷ es) c e = refl
 
 -- a job starts
-module _ (o : Outline) (place : ℕ) where
-  pub start_wants_slot : (h : Option Head) (way : Option ℕ) (x : Option Slot) → (x ≡ Some Free → ⊥) → move.started_by o place h way x ≡ None
-  start_wants_slot (Some h) (Some n) (Some Free) away = absurd (away refl)
-  start_wants_slot (Some h) (Some n) (Some (Paints w)) away = refl
-  start_wants_slot (Some h) (Some n) (Some (Walks w)) away = refl
-  start_wants_slot (Some h) (Some n) None away = refl
-  start_wants_slot (Some h) None x away = refl
-  start_wants_slot None way x away = refl
-
-  pub start_wants_way : (h : Option Head) (x : Option Slot) → move.started_by o place h None x ≡ None
-  start_wants_way (Some h) x = refl
-  start_wants_way None x = refl
-
-  pub started_is : (h : Head) (n : ℕ) (j : Option (Kind × Job)) → head_in o.left ≡ Some h → o.way ≡ Some n → slice_get o.slots place ≡ Some Free → slice_get (jobs_in o.left) n ≡ j → move.started o place ≡ move.job_started o place h n j
-  started_is h n j e w f g = (λ i. move.started_by o place (e i) (w i) (f i)) ∙ ap (move.job_started o place h n) g
+pub started_is : (o : Outline) (place : ℕ) (h : Head) (n : ℕ) (j : Option (Kind × Job)) → head_in o.left ≡ Some h → o.way ≡ Some n → slice_get o.slots place ≡ Some Free → slice_get (jobs_in o.left) n ≡ j → move.started o place ≡ move.job_started o place h n j
+started_is o place h n j e w f g = (λ i. move.started_by o place (e i) (w i) (f i)) ∙ ap (move.job_started o place h n) g
 
 closed_of : (o : Outline) (h : Head) → move.may_finish o h ≡ true → h.closed ≡ true
 closed_of o h may = and_left h.closed _ (and_left (h.closed && not h.cancelled) _ may)

@@ -8,8 +8,7 @@ use Rattle.doc_model.specs.Readers.{parent, path}
 use Rattle.doc_model.specs.Ids.{IsTree}
 use Rattle.doc_model.proofs.Climbs.{climbs, path_absent, is_it}
 use Rattle.doc_model.proofs.Weights.{tree_distinct, tree_root}
-use Rattle.doc_model.specs.declared.canvas.Walk.TheVariants.{Up}
-use Rattle.trace_core.specs.Trees.{Shape, up_from, tree_path}
+use Rattle.trace_core.specs.Trees.{Shape, up_from}
 
 one_up : (q a : ℕ) (f : Shape) → IsTree f → q ≢ 0 → parent q 0 f ≡ Some a → up_from q f ≡ q ∷ up_from a f
 one_up q a f tree other e = kept (eqb q 0) _ _ (grind (arith, nat_tests)) ∙ climbs q 0 a f (tree_distinct f tree) (tree_root f tree) e ∙ ap (λ t. q ∷ t) (go (eqb a 0) refl)
@@ -30,18 +29,6 @@ nil_right : (xs : List ℕ) → xs ++ [] ≡ xs
 nil_right [] = refl
 nil_right (x ∷ xs) = ap (λ t. x ∷ t) (nil_right xs)
 
--- no way is left from the root
-pub way_ends : (q : ℕ) (f : Shape) (old whole : List ℕ) → q ≡ 0 → old ++ up_from q f ≡ whole → old ≡ whole
-way_ends q f old whole is so_far = sym (nil_right old) ∙ ap (λ p. old ++ up_from p f) (sym is) ∙ so_far
-
--- and none from where no node is
+-- no way is left from where no node is
 pub way_breaks : (q : ℕ) (f : Shape) (old whole : List ℕ) → q ≢ 0 → has q f ≡ false → old ++ up_from q f ≡ whole → old ≡ whole
 way_breaks q f old whole other away so_far = sym (nil_right old) ∙ ap (λ t. old ++ t) (sym (kept (eqb q 0) _ _ (grind (arith, nat_tests)) ∙ path_absent q f away)) ∙ so_far
-
--- with the root it is the path of a walk
-pub way_root : (q : ℕ) (f : Shape) → up_from q f ++ 0 ∷ [] ≡ tree_path (Up q) f
-way_root q f = go (eqb q 0)
-  where
-    go : (b : Bool) → cond b [] (path q f) ++ 0 ∷ [] ≡ cond b (0 ∷ []) (path q f ++ 0 ∷ [])
-    go true = refl
-    go false = refl

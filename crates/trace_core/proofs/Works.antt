@@ -1,8 +1,7 @@
 -- What the events of work leave, by what is read of the slot and of the head.
-use Rattle.std.proofs.Common.{◌≡◌, ℕ, Bool, true, false, Option, Some, None, is_some, Result, Ok, Err, length, refl, sym, ap, ◌∙◌, arith}
+use Rattle.std.proofs.Common.{◌≡◌, ℕ, Bool, true, false, Option, Some, None, is_some, Result, Ok, Err, sym, ap, ◌∙◌}
 use Rattle.std.specs.Prelude.{slice_get}
 use Rattle.std.specs.Option.{option_map}
-use Rattle.std.proofs.lemmas.Option.{slice_get_past}
 use Rattle.geom_core.specs.Grid.{Key}
 use Rattle.geom_core.specs.declared.NoMemory.{NoMemory}
 use Rattle.doc_model.specs.declared.canvas.Patch.{Patch}
@@ -38,10 +37,6 @@ module _ (o : Outline) (place : ℕ) (h : Head) (w : Painting) (e : head_in o.le
   pub ends : (new : Outline) → is_painted w ≡ true → new ≡ move.without_painter o place h w.job → move.ended o place ≡ Some new
   ends new painted is = ended_is ∙ ap (λ b. when b (move.without_painter o place h w.job)) painted ∙ ap Some (sym is)
 
-  -- a job of which a tile is missing
-  pub end_waits : is_painted w ≡ false → move.ended o place ≡ None
-  end_waits painted = ended_is ∙ ap (λ b. when b (move.without_painter o place h w.job)) painted
-
 module _ (o : Outline) (place : ℕ) (w : Walking) (at : slice_get o.slots place ≡ Some (Walks w)) where
   walk_ended_is : move.walk_ended o place ≡ when (is_composed w) (move.with_slot o place Free)
   walk_ended_is = ap (move.walk_ended_by o place) at
@@ -50,39 +45,15 @@ module _ (o : Outline) (place : ℕ) (w : Walking) (at : slice_get o.slots place
   pub walk_ends : (new : Outline) → is_composed w ≡ true → new ≡ move.with_slot o place Free → move.walk_ended o place ≡ Some new
   walk_ends new composed is = walk_ended_is ∙ ap (λ b. when b (move.with_slot o place Free)) composed ∙ ap Some (sym is)
 
-  -- a walk of which a tile is missing
-  pub walk_end_waits : is_composed w ≡ false → move.walk_ended o place ≡ None
-  walk_end_waits composed = walk_ended_is ∙ ap (λ b. when b (move.with_slot o place Free)) composed
+module _ (o : Outline) (place : ℕ) (asked : Patch) (i : ℕ) (p : Patch) (f : slice_get o.slots place ≡ Some Free) (here : i ≡ place_of asked o.updates.patches) (at : slice_get o.updates.patches i ≡ Some p) where
+  walk_started_is : move.walk_started o place asked ≡ when (move.may_walk o p.rect) (move.with_walker o place i p)
+  walk_started_is =
+      ap (λ j. move.walk_started_by o place j (slice_get o.updates.patches j) (slice_get o.slots place)) (sym here)
+      ∙ (λ k. move.walk_started_by o place i (at k) (f k))
 
-module _ (o : Outline) (place : ℕ) (asked : Patch) where
-  walk_no_slot : (i : ℕ) (p : Option Patch) (x : Option Slot) → (x ≡ Some Free → ⊥) → move.walk_started_by o place i p x ≡ None
-  walk_no_slot i None x away = refl
-  walk_no_slot i (Some p) None away = refl
-  walk_no_slot i (Some p) (Some Free) away = absurd (away refl)
-  walk_no_slot i (Some p) (Some (Paints w)) away = refl
-  walk_no_slot i (Some p) (Some (Walks w)) away = refl
-
-  -- a walk starts in a free slot alone
-  pub walk_wants_slot : (slice_get o.slots place ≡ Some Free → ⊥) → move.walk_started o place asked ≡ None
-  walk_wants_slot away = walk_no_slot (place_of asked o.updates.patches) (slice_get o.updates.patches (place_of asked o.updates.patches)) (slice_get o.slots place) away
-
-  -- and of a patch that waits
-  pub walk_wants_patch : place_of asked o.updates.patches ≡ length o.updates.patches → move.walk_started o place asked ≡ None
-  walk_wants_patch e = ap (λ p. move.walk_started_by o place (place_of asked o.updates.patches) p (slice_get o.slots place)) (slice_get_past o.updates.patches (place_of asked o.updates.patches) (omega arith))
-
-  module _ (i : ℕ) (p : Patch) (f : slice_get o.slots place ≡ Some Free) (here : i ≡ place_of asked o.updates.patches) (at : slice_get o.updates.patches i ≡ Some p) where
-    walk_started_is : move.walk_started o place asked ≡ when (move.may_walk o p.rect) (move.with_walker o place i p)
-    walk_started_is =
-        ap (λ j. move.walk_started_by o place j (slice_get o.updates.patches j) (slice_get o.slots place)) (sym here)
-        ∙ (λ k. move.walk_started_by o place i (at k) (f k))
-
-    -- a walk that may not start beside what is at work
-    pub walk_waits : move.may_walk o p.rect ≡ false → move.walk_started o place asked ≡ None
-    walk_waits may = walk_started_is ∙ ap (λ b. when b (move.with_walker o place i p)) may
-
-    -- a walk starts
-    pub walk_starts : (new : Outline) → move.may_walk o p.rect ≡ true → new ≡ move.with_walker o place i p → move.walk_started o place asked ≡ Some new
-    walk_starts new may is = walk_started_is ∙ ap (λ b. when b (move.with_walker o place i p)) may ∙ ap Some (sym is)
+  -- a walk starts
+  pub walk_starts : (new : Outline) → move.may_walk o p.rect ≡ true → new ≡ move.with_walker o place i p → move.walk_started o place asked ≡ Some new
+  walk_starts new may is = walk_started_is ∙ ap (λ b. when b (move.with_walker o place i p)) may ∙ ap Some (sym is)
 
 -- what happens in one slot alone
 slot_follows : (o new : Outline) (place : ℕ) (next : Option Outline) (inside : Option Slot) (x y : Slot) (r : Result Bool NoMemory) → next ≡ option_map (move.with_slot o place) inside → slice_get o.slots place ≡ Some x → SlotFollows r inside x y → new ≡ move.with_slot o place y → Follows r next o new
