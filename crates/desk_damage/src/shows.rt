@@ -52,16 +52,8 @@ impl TrackedMachine {
         self.machine.frames()
     }
 
-    /// The film of the frames. Of each the tiles are marked that may differ from the frame before.
-    pub fn into_film(self) -> Film
-        ensures frames { map colours_of result ≡ self.frames }
-        ensures sides { All (HasSides self.canvas) result }
-    {
-        let TrackedMachine { machine, .. } = self;
-        machine.into_film()
-    }
-
-    /// The film of the frames, as `into_film` gives it, and the outcomes so far, in order.
+    /// The film of the frames and the outcomes so far, in order. Of each frame the tiles are marked that
+    /// may differ from the frame before.
     pub fn into_results(self) -> (Film, Vec<Outcome>)
         ensures frames { map colours_of result.0 ≡ self.frames }
         ensures sides { All (HasSides self.canvas) result.0 }
