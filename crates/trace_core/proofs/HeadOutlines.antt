@@ -1,0 +1,78 @@
+-- The entry at the head, as the queue has it.
+use Rattle.std.proofs.Common.{◌≡◌, ℕ, suc, zero, false, Option, Some, None, is_some, List, [], ◌∷◌, ◌++◌, length, map, drop, refl, ap, ◌∙◌}
+use Rattle.std.specs.Option.{option_map}
+use Rattle.doc_model.specs.Strokes as doc
+use Rattle.doc_model.specs.Strokes.{Stroke, Fate, Open, Ended, Cancelled, Jobs, Strokes, Changes, Undoes, Redoes, Purges, Exports, conflict}
+use Rattle.doc_model.specs.Kept.{kept, up_to}
+use Rattle.entry_queue.specs.declared.entry.Entry.{Entry}
+use Rattle.entry_queue.specs.Pushed.{queued, kept_of}
+use Rattle.machine_model.specs.State.{first, stroke_of}
+use Rattle.machine_model.specs.Guards.{is_closed, is_cancelled, overlaps, kept_jobs}
+use Rattle.trace_core.specs.declared.head.Head.{Head}
+use Rattle.trace_core.specs.Waits.{head_of, head_in, jobs_in, other_in}
+
+-- what guards ask of a stroke
+abbrev pub told : Stroke → Head
+told t = head_of (kept_of t) (is_closed t) (is_cancelled t)
+
+fates_head : (f : Fate) (t : Stroke) (es : List Entry) → head_in (queued (Strokes (record t { fate = f })) ∷ es) ≡ Some (told (record t { fate = f }))
+fates_head Open t es = refl
+fates_head Ended t es = refl
+fates_head Cancelled t es = refl
+
+pub head_told : (es : List doc.Entry) → head_in (map queued es) ≡ option_map told (stroke_of (first es))
+head_told [] = refl
+head_told (Strokes t ∷ es) = fates_head t.fate t (map queued es)
+head_told (Changes change ∷ es) = refl
+head_told (Undoes ∷ es) = refl
+head_told (Redoes ∷ es) = refl
+head_told (Purges n ∷ es) = refl
+head_told (Exports ∷ es) = refl
+
+fates_jobs : (f : Fate) (t : Stroke) (es : List Entry) → jobs_in (queued (Strokes (record t { fate = f })) ∷ es) ≡ kept t.jobs
+fates_jobs Open t es = refl
+fates_jobs Ended t es = refl
+fates_jobs Cancelled t es = refl
+
+pub jobs_told : (es : List doc.Entry) (t : Stroke) → stroke_of (first es) ≡ Some t → jobs_in (map queued es) ≡ kept_jobs t
+jobs_told [] t h = cc
+jobs_told (Strokes u ∷ es) t h = let same : u ≡ t = cc in fates_jobs u.fate u (map queued es) ∙ ap kept_jobs same
+jobs_told (Changes change ∷ es) t h = cc
+jobs_told (Undoes ∷ es) t h = cc
+jobs_told (Redoes ∷ es) t h = cc
+jobs_told (Purges n ∷ es) t h = cc
+jobs_told (Exports ∷ es) t h = cc
+
+fates_other : (f : Fate) (t : Stroke) (es : List Entry) → other_in (queued (Strokes (record t { fate = f })) ∷ es) ≡ None
+fates_other Open t es = refl
+fates_other Ended t es = refl
+fates_other Cancelled t es = refl
+
+pub other_stroke : (t : Stroke) (es : List Entry) → other_in (queued (Strokes t) ∷ es) ≡ None
+other_stroke t es = fates_other t.fate t es
+
+-- a list without its first items, and one more
+pub drop_one_more : {A : Type 0} (n : ℕ) (xs : List A) → drop (suc n) xs ≡ drop 1 (drop n xs)
+drop_one_more zero xs = refl
+drop_one_more (suc n) [] = refl
+drop_one_more (suc n) (x ∷ xs) = drop_one_more n xs
+
+pub map_drop_one : {A B : Type 0} (f : A → B) (xs : List A) → map f (drop 1 xs) ≡ drop 1 (map f xs)
+map_drop_one f [] = refl
+map_drop_one f (x ∷ xs) = refl
+
+pub length_more : {A : Type 0} (xs : List A) (x : A) → length (xs ++ x ∷ []) ≡ suc (length xs)
+length_more [] x = refl
+length_more (y ∷ xs) x = ap suc (length_more xs x)
+
+-- the entries that are left after one more outcome
+pub left_popped : {A : Type 0} (outcomes : List A) (o : A) (es : List doc.Entry) → map queued (drop (length (outcomes ++ o ∷ [])) es) ≡ drop 1 (map queued (drop (length outcomes) es))
+left_popped outcomes o es = ap (λ n. map queued (drop n es)) (length_more outcomes o) ∙ ap (map queued) (drop_one_more (length outcomes) es) ∙ map_drop_one queued (drop (length outcomes) es)
+
+-- where no jobs conflict all are kept
+pub all_kept : (t : Stroke) → overlaps t ≡ false → kept_jobs t ≡ t.jobs
+all_kept t e = go (conflict t.jobs) e
+  where
+    go : (o : Option (ℕ × ℕ)) → is_some o ≡ false → up_to t.jobs o ≡ t.jobs
+    go None e = refl
+    go (Some pair) e = cc

@@ -1,0 +1,13 @@
+mod DocShapes
+mod Events
+mod Following
+mod HeadOutlines
+mod Intakes
+mod LastLines
+mod Outlines
+mod PaintTests
+mod Passes
+mod SlotOutlines
+mod TileSets
+mod TreeWays
+mod Works

@@ -1,0 +1,12 @@
+pub mod Tiles
+pub mod Painting
+pub mod Walking
+pub mod Slots
+pub mod Trees
+pub mod Taken
+pub mod Waits
+pub mod Outline
+pub mod Parts
+pub mod Moves
+pub mod Following
+pub mod Answers

@@ -1,0 +1,18 @@
+-- The parts of a checker, together.
+use Rattle.trace_core.specs.declared.machine.Machine.{Machine}
+use Rattle.trace_core.specs.Outline.{Outline}
+
+-- what it keeps of a state: one tree stands for the base and for the present, which differ in pixels alone
+abbrev pub parts : Machine → Outline
+parts m = record {
+  area = m.area;
+  fed = m.intake.fed;
+  left = m.intake.left;
+  past = m.past.items;
+  future = m.future.items;
+  base = m.tree;
+  present = m.tree;
+  way = m.way;
+  updates = m.updates;
+  slots = m.slots.items;
+}

@@ -1,0 +1,143 @@
+//! The machine without pixels.
+
+ghost use Rattle.std.specs.Prelude.{◌≡◌, IfOk, OnOk, Ok, length, map, replicate, slice_get, true, false, ◌&&◌, not, nat_lt, Some, None};
+ghost use Rattle.std.specs.List.{list_any, list_all};
+ghost use Rattle.doc_model.specs.Canvases.{IsOfLimits};
+ghost use Rattle.doc_model.specs.Picture.{canvas_area};
+ghost use Rattle.script_forms.specs.Ranges.{in_range};
+ghost use Rattle.machine_model.specs.State.{new_state};
+ghost use Rattle.trace_core.specs.Outline.{outline};
+ghost use Rattle.trace_core.specs.Parts.{parts};
+ghost use Rattle.trace_core.specs.Trees.{paints, group_of};
+ghost use Rattle.trace_core.specs.Slots.{is_free as slot_is_free, is_painter, is_walker};
+ghost use Rattle.trace_core.specs.Moves.{Follows, fed, no_painter, no_walker, is_clean, is_settled};
+
+use crate::history::Former;
+use crate::intake::Intake;
+use crate::slot::{Slot, all_free, some_painter, some_walker};
+use doc_model::{Canvas, Command};
+use geom_core::{NoMemory, Rect};
+use std::alloc::Global;
+use std::collections::VecDeque;
+use tree_core::Tree;
+use update_queue::Updates;
+
+/// All of the machine's state but pixels, serials and outcomes.
+#[derive(Drop)]
+pub(crate) struct Machine {
+    pub(crate) alloc: Global,
+    /// The canvas's points.
+    pub(crate) area: Rect,
+    pub(crate) intake: Intake,
+    /// The tree of the document, which painting doesn't change.
+    pub(crate) tree: Tree,
+    pub(crate) past: VecDeque<Former>,
+    pub(crate) future: VecDeque<Former>,
+    /// How many jobs of the stroke under way were started.
+    pub(crate) way: Option<u32>,
+    pub(crate) updates: Updates,
+    pub(crate) slots: Vec<Slot>,
+}
+
+/// So many free slots.
+fn free_slots(alloc: Global, n: u8) -> Result<Vec<Slot>, NoMemory>
+    ensures { IfOk result (λ slots. slots.items ≡ replicate n Slot.Free) }
+{
+    let mut slots = Vec::new(alloc);
+    for _ in 0..n {
+        slots.push(Slot::Free)?;
+    }
+    Ok(slots)
+}
+
+impl Machine {
+    /// A machine to which nothing was fed, with n free slots.
+    pub(crate) fn new(alloc: Global, canvas: &Canvas, n: u8) -> Result<Machine, NoMemory>
+        requires { IsOfLimits canvas.now }
+        ensures { IfOk result (λ m. parts m ≡ outline (new_state canvas.now n)) }
+    {
+        let slots = free_slots(alloc, n)?;
+        let area = canvas.rect();
+        Ok(Machine {
+            alloc,
+            area,
+            intake: Intake::new(alloc),
+            tree: Tree::new(),
+            past: VecDeque::new(alloc),
+            future: VecDeque::new(alloc),
+            way: None,
+            updates: Updates::new(area),
+            slots,
+        })
+    }
+
+    /// A command is fed.
+    pub(crate) fn feed(&mut self, command: &Command) -> Result<bool, NoMemory>
+        requires { in_range command.now ≡ true }
+        ensures { Follows result (fed (parts self.old) command.now) (parts self.old) (parts self.new) }
+    {
+        self.intake.feed(command)
+    }
+
+    /// Whether every entry has its outcome, and nothing runs or waits.
+    pub(crate) fn is_settled(&self) -> bool
+        ensures { result ≡ is_settled (parts self.now) }
+    {
+        self.intake.is_done() && (all_free(&self.slots) && self.is_clean())
+    }
+
+    /// The commands that were fed.
+    pub(crate) fn commands(&self) -> &[Command]
+        ensures commands { result.now ≡ self.now.intake.fed }
+        ensures ranges { list_all in_range self.now.intake.fed ≡ true }
+    {
+        self.intake.commands()
+    }
+
+    /// Whether the document has such a paint layer.
+    pub(crate) fn paints(&self, layer: u16) -> bool
+        ensures { result ≡ paints layer self.now.tree }
+    {
+        let _count = self.tree.node_count();
+        self.tree.has(layer) && !self.tree.is_group(layer)
+    }
+
+    /// The group round a layer.
+    pub(crate) fn group_of(&self, layer: u16) -> u16
+        ensures { result ≡ group_of layer self.now.tree }
+    {
+        self.tree.parent(layer).unwrap_or(0)
+    }
+
+    /// Whether no job is at work.
+    pub(crate) fn no_painter(&self) -> bool
+        ensures { result ≡ no_painter (parts self.now) }
+    {
+        !some_painter(&self.slots)
+    }
+
+    /// Whether no walk is at work.
+    pub(crate) fn no_walker(&self) -> bool
+        ensures { result ≡ no_walker (parts self.now) }
+    {
+        !some_walker(&self.slots)
+    }
+
+    /// Whether no patch waits.
+    pub(crate) fn is_clean(&self) -> bool
+        ensures { result ≡ is_clean (parts self.now) }
+    {
+        self.updates.len() == 0
+    }
+
+    /// Whether that slot is there and free.
+    pub(crate) fn is_free(&self, place: u8) -> bool
+        ensures yes { result ≡ true → slice_get self.now.slots.items place ≡ Some Slot.Free }
+        ensures no { result ≡ false → slice_get self.now.slots.items place ≡ Some Slot.Free → ⊥ }
+    {
+        match self.slots.get(place as usize) {
+            Some(Slot::Free) => true,
+            _ => false,
+        }
+    }
+}

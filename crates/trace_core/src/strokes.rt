@@ -1,0 +1,161 @@
+//! The stroke at the head.
+
+ghost use Rattle.std.specs.Prelude.{◌≡◌, Ok, OnOk, true, All, take};
+ghost use Rattle.doc_model.specs.Jobs.{checks};
+ghost use Rattle.entry_queue.specs.Pushed.{may_leave};
+ghost use Rattle.trace_core.specs.Parts.{parts};
+ghost use Rattle.trace_core.specs.Waits.{head_in, jobs_in};
+ghost use Rattle.trace_core.specs.declared.head.Head.{Head};
+ghost use Rattle.trace_core.specs.Trees.{group_of};
+ghost use Rattle.trace_core.specs.Tiles.{round};
+ghost use Rattle.trace_core.specs.Moves.{Follows, may_begin, begun, may_finish, has_ended, with_change, finished, may_cancel, started_of, widened, without_change, cancelled, popped};
+
+use crate::head::Head;
+use crate::history::{Former, Reach};
+use crate::machine::Machine;
+use crate::tiles::round;
+use crate::work::is_alive;
+use doc_model::{Job, Kind, Walk};
+use geom_core::{NoMemory, Rect};
+use update_queue::Updates;
+
+/// The rectangle, or none, waits for the group and those above it.
+pub(crate) fn widen(updates: &mut Updates, group: u16, rect: Option<Rect>)
+    ensures { updates.new ≡ widened updates.old group rect }
+{
+    match rect {
+        Some(rect) => updates.add(Walk::Up(group), rect),
+        None => {}
+    }
+}
+
+/// Of these jobs the first so many.
+fn front(jobs: &[(Kind, Job)], n: u32) -> &[(Kind, Job)]
+    ensures { result.now ≡ take n jobs.now }
+{
+    match jobs.get(..n as usize) {
+        Some(front) => front,
+        None => jobs,
+    }
+}
+
+impl Machine {
+    /// Whether the stroke at the head may begin, where none is under way.
+    fn may_begin(&self, head: &Head) -> bool
+        ensures { result ≡ may_begin (parts self.now) head.now }
+    {
+        is_alive(head) && (self.paints(head.layer) && (!head.exclusive || self.no_walker()))
+    }
+
+    /// The stroke at the head begins.
+    pub(crate) fn begin(&mut self) -> bool
+        ensures { Follows (Ok result) (begun (parts self.old)) (parts self.old) (parts self.new) }
+    {
+        let Some(head) = self.intake.head() else {
+            return false;
+        };
+        if self.way.is_some() || !self.may_begin(&head) {
+            return false;
+        }
+        self.way = Some(0);
+        true
+    }
+
+    /// Whether all jobs of the stroke at the head have ended.
+    fn has_ended(&self, head: &Head) -> bool
+        ensures { result ≡ has_ended (parts self.now) head.now }
+    {
+        match self.way {
+            Some(n) => n == head.jobs && self.no_painter(),
+            None => false,
+        }
+    }
+
+    /// Whether the stroke at the head may finish.
+    fn may_finish(&self, head: &Head) -> bool
+        ensures { result ≡ may_finish (parts self.now) head.now }
+    {
+        let ended = head.closed && !head.cancelled;
+        ended && (!head.overlaps && (!self.paints(head.layer) || self.has_ended(head)))
+    }
+
+    /// The stroke at the head becomes the newest change, and leaves the queue.
+    fn keep_change(&mut self, head: &Head) -> Result<(), NoMemory>
+        requires { may_leave self.old.intake.left ≡ true }
+        ensures { OnOk result (parts self.new ≡ popped (with_change (parts self.old) head.now)) }
+    {
+        let bound = round(self.alloc, self.intake.jobs())?;
+        self.past.push_front(Former {
+            tree: self.tree.copy(),
+            reach: Reach::Part(head.layer, bound),
+        })?;
+        self.future.clear();
+        self.way = None;
+        self.intake.pop();
+        Ok(())
+    }
+
+    /// The stroke at the head finishes.
+    pub(crate) fn finish(&mut self) -> Result<bool, NoMemory>
+        ensures { Follows result (finished (parts self.old)) (parts self.old) (parts self.new) }
+    {
+        let Some(head) = self.intake.head() else {
+            return Ok(false);
+        };
+        if !self.may_finish(&head) {
+            return Ok(false);
+        }
+        if self.paints(head.layer) {
+            self.keep_change(&head)?;
+            return Ok(true);
+        }
+        self.intake.pop();
+        Ok(true)
+    }
+
+    /// Whether the stroke at the head may be taken back.
+    fn may_cancel(&self, head: &Head) -> bool
+        ensures { result ≡ may_cancel (parts self.now) head.now }
+    {
+        head.closed && ((head.cancelled || head.overlaps) && self.no_painter())
+    }
+
+    /// The jobs of the stroke at the head that were started.
+    fn started_jobs(&self) -> &[(Kind, Job)]
+        ensures value { result.now ≡ started_of (jobs_in self.now.intake.left) self.now.way }
+        ensures checked { All (λ job. checks job.1 ≡ true) result.now }
+    {
+        let jobs = self.intake.jobs();
+        match self.way {
+            Some(n) => front(jobs, n),
+            None => &[],
+        }
+    }
+
+    /// What the stroke at the head has painted is taken back, and it leaves the queue.
+    fn drop_change(&mut self, head: &Head) -> Result<(), NoMemory>
+        requires { may_leave self.old.intake.left ≡ true }
+        ensures { OnOk result (parts self.new ≡ popped (without_change (parts self.old) head.now)) }
+    {
+        let bound = round(self.alloc, self.started_jobs())?;
+        let group = self.group_of(head.layer);
+        widen(&mut self.updates, group, bound);
+        self.way = None;
+        self.intake.pop();
+        Ok(())
+    }
+
+    /// The stroke at the head leaves nothing.
+    pub(crate) fn cancel(&mut self) -> Result<bool, NoMemory>
+        ensures { Follows result (cancelled (parts self.old)) (parts self.old) (parts self.new) }
+    {
+        let Some(head) = self.intake.head() else {
+            return Ok(false);
+        };
+        if !self.may_cancel(&head) {
+            return Ok(false);
+        }
+        self.drop_change(&head)?;
+        Ok(true)
+    }
+}

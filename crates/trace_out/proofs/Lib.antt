@@ -1,0 +1,13 @@
+pub mod Events
+pub mod Ties
+pub mod Beginning
+pub mod Busy
+pub mod Fits
+pub mod Works
+pub mod Taken
+pub mod Going
+pub mod Tiles
+pub mod AtOnce
+pub mod Feeding
+pub mod Resting
+pub mod Whole

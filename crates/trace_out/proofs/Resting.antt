@@ -1,0 +1,18 @@
+-- Where nothing may be done any more, nothing is left to do.
+use Rattle.std.proofs.Common.{◌≡◌, Bool, true, false, refl}
+use Rattle.std.specs.List.{list_all}
+use Rattle.doc_model.specs.Lawful.{is_closed_entry}
+use Rattle.doc_model.specs.Strokes.{entries}
+use Rattle.machine_model.specs.State.{State, IsSettled}
+use Rattle.machine_model.specs.Sound.{IsOrderly}
+use Rattle.desk_parts.proofs.SettlingRuns.{never_idle}
+use Rattle.trace_model.specs.Replays.{is_settled}
+use Rattle.trace_model.proofs.Turns.{settled_tells}
+use Rattle.trace_out.specs.Goes.{MayRest}
+
+pub rests_settled : (s : State) → IsOrderly s → list_all is_closed_entry (entries s.fed) ≡ true → MayRest s → IsSettled s
+rests_settled s orderly closed rest = go (is_settled s) (settled_tells.settled s) (settled_tells.told s)
+  where
+    go : (b : Bool) → (b ≡ true → IsSettled s) → (IsSettled s → b ≡ true) → IsSettled s
+    go true yes no = yes refl
+    go false yes no = absurd (never_idle s orderly rest.free closed (rest.waits (λ settled. let e : false ≡ true = no settled in cc)))

@@ -1,0 +1,179 @@
+//! What is done of the work at hand.
+
+ghost use Rattle.std.specs.Prelude.{◌≡◌, ◌∷◌, [], true, false, slice_get, IsSomeAnd, OnOk};
+ghost use Rattle.std.specs.List.{list_any};
+ghost use Rattle.geom_core.specs.Grid.{IsWorldKey, same_key, keys_of};
+ghost use Rattle.machine_model.specs.State.{is_free};
+ghost use Rattle.desk_parts.specs.After.{busy_painter, busy_walker};
+ghost use Rattle.trace_out.specs.Writing.{IsTied};
+ghost use Rattle.trace_out.specs.Lent.{IsLent, IsLentWalk, LacksTile, LacksPair, walk_of, MayEndLent};
+ghost use Rattle.trace_out.specs.Goes.{GoesOnWriting, GoesOnPutting, SettlesPutting};
+
+use crate::scribe::Scribe;
+use desk_core::{Ended, Published, SlotId};
+use desk_parts::{Newest, Painter, Walker, Work, has_pair};
+use desk_work::{next_pair, next_tile};
+use geom_core::{NoMemory, TileKey};
+use job_core::paint_tile;
+use trace_forms::Line;
+use trace_text::add_line;
+use walker_core::{Composed, compose_key};
+
+impl Scribe {
+    /// Publishes one more tile of the work at that place, or ends it where all are published.
+    pub(crate) fn work_at(&mut self, place: u8) -> Result<(), NoMemory>
+        requires tied { IsTied self.old.held self.old.desk }
+        requires busy { IsSomeAnd (slice_get self.old.desk.slots place) (λ slot. is_free slot ≡ false) }
+        ensures { OnOk result (GoesOnWriting self.old.desk self.old.out.items self.new) }
+    {
+        match self.held.clear(place) {
+            Some(Work::Paint(painter)) => self.paint_at(place, painter),
+            Some(Work::Walk(walker)) => self.compose_at(place, walker),
+            None => unreachable!(),
+        }
+    }
+
+    /// The same of a job.
+    fn paint_at(&mut self, place: u8, painter: Painter) -> Result<(), NoMemory>
+        requires { IsLent self.old.held place (busy_painter painter) self.old.desk }
+        ensures { OnOk result (GoesOnWriting self.old.desk self.old.out.items self.new) }
+    {
+        match next_tile(&painter) {
+            Some(key) => self.publish(place, painter, key),
+            None => {
+                let serial = painter.serial;
+                self.end(SlotId { place, serial })
+            }
+        }
+    }
+
+    /// Publishes a tile of a job.
+    fn publish(&mut self, place: u8, mut painter: Painter, key: TileKey) -> Result<(), NoMemory>
+        requires lent { IsLent self.old.held place (busy_painter painter) self.old.desk }
+        requires lacks { LacksTile painter key }
+        ensures { OnOk result (GoesOnWriting self.old.desk self.old.out.items self.new) }
+    {
+        let slot = SlotId {
+            place,
+            serial: painter.serial,
+        };
+        let painted = paint_tile(self.alloc, &painter.job, &painter.shot, key)?;
+        let _known = painted.key();
+        match self.desk.publish(slot, &painted)? {
+            Published::Stored => {
+                painter.published.note(key)?;
+                self.held.put(place, Work::Paint(painter), None);
+                add_line(&mut self.out, &Line::Publish(place, key))?;
+                Ok(())
+            }
+            Published::Nothing => unreachable!(),
+        }
+    }
+
+    /// Ends work whose tiles are all published.
+    fn end(&mut self, slot: SlotId) -> Result<(), NoMemory>
+        requires { MayEndLent self.old.held slot self.old.desk }
+        ensures { OnOk result (GoesOnWriting self.old.desk self.old.out.items self.new) }
+    {
+        match self.desk.end(slot) {
+            Ended::Done => {
+                add_line(&mut self.out, &Line::End(slot.place))?;
+                Ok(())
+            }
+            Ended::Nothing => unreachable!(),
+        }
+    }
+
+    /// Publishes a tile of a walk of all its groups of which it isn't published, or ends the walk.
+    fn compose_at(&mut self, place: u8, walker: Walker) -> Result<(), NoMemory>
+        requires { IsLent self.old.held place (busy_walker walker) self.old.desk }
+        ensures { OnOk result (GoesOnWriting self.old.desk self.old.out.items self.new) }
+    {
+        match next_pair(&walker) {
+            Some((group, key)) => self.publish_groups(place, walker, group, key),
+            None => {
+                let serial = walker.serial;
+                self.end(SlotId { place, serial })
+            }
+        }
+    }
+
+    /// Publishes a tile of a walk, first of the given group and then of the others of which it isn't published.
+    fn publish_groups(
+        &mut self,
+        place: u8,
+        walker: Walker,
+        group: u16,
+        key: TileKey,
+    ) -> Result<(), NoMemory>
+        requires lent { IsLent self.old.held place (busy_walker walker) self.old.desk }
+        requires lacks { LacksPair walker group key }
+        ensures { OnOk result (GoesOnWriting self.old.desk self.old.out.items self.new) }
+    {
+        let Walker {
+            serial,
+            inputs,
+            mut published,
+        } = walker;
+        let slot = SlotId { place, serial };
+        let rect = inputs.patch().rect;
+        let composed = compose_key(self.alloc, &inputs, key)?;
+        self.put(slot, &composed, &mut published, group, key)?;
+        self.put_others(slot, &composed, &mut published, key)?;
+        let walker = Walker {
+            serial,
+            inputs,
+            published,
+        };
+        self.held.put(place, Work::Walk(walker), Some(rect));
+        Ok(())
+    }
+
+    /// Publishes a group's tile of a walk.
+    fn put(
+        &mut self,
+        slot: SlotId,
+        composed: &Composed<'_>,
+        published: &mut Newest<(u16, TileKey)>,
+        group: u16,
+        key: TileKey,
+    ) -> Result<(), NoMemory>
+        requires composed { composed.now.keys ≡ key ∷ [] }
+        requires lent { IsLentWalk self.old.held slot composed.now published.old self.old.desk }
+        requires lacks { LacksPair (walk_of slot composed.now published.old) group key }
+        ensures goes { OnOk result (GoesOnPutting self.old.desk self.old.out.items self.new.desk self.new.out.items) }
+        ensures lent { OnOk result (IsLentWalk self.new.held slot composed.now published.new self.new.desk) }
+    {
+        match self.desk.publish_walk(slot, composed, group, key)? {
+            Published::Stored => {
+                published.note((group, key))?;
+                add_line(&mut self.out, &Line::Put(slot.place, group, key))?;
+                Ok(())
+            }
+            Published::Nothing => unreachable!(),
+        }
+    }
+
+    /// Publishes a tile of a walk of all its groups of which it isn't published.
+    fn put_others(
+        &mut self,
+        slot: SlotId,
+        composed: &Composed<'_>,
+        published: &mut Newest<(u16, TileKey)>,
+        key: TileKey,
+    ) -> Result<(), NoMemory>
+        requires composed { composed.now.keys ≡ key ∷ [] }
+        requires world { IsWorldKey key }
+        requires in_patch { list_any (same_key key) (keys_of composed.now.readings.patch.rect) ≡ true }
+        requires lent { IsLentWalk self.old.held slot composed.now published.old self.old.desk }
+        ensures goes { OnOk result (SettlesPutting self.old.desk self.old.out.items self.new.desk self.new.out.items) }
+        ensures lent { OnOk result (IsLentWalk self.new.held slot composed.now published.new self.new.desk) }
+    {
+        for group in composed.inputs().path() {
+            if !has_pair(published, *group, key) {
+                self.put(slot, composed, published, *group, key)?;
+            }
+        }
+        Ok(())
+    }
+}
