@@ -1,9 +1,14 @@
 -- What a parse by the command's options gives.
-use Rattle.std.proofs.Common.{◌≡◌, ◌<◌, ◌≤◌, ◌+◌, ◌^◌, ℕ, List, [], ◌∷◌, Bool, true, false, Option, Some, None, option_map, Result, Ok, Err, refl, sym, ap, subst, arith}
+use Rattle.std.proofs.Common.{◌≡◌, ◌≢◌, ◌<◌, ◌≤◌, ◌+◌, ◌^◌, ◌&&◌, nat_le, codes, unwrap_or, ℕ, List, [], ◌∷◌, Bool, true, false, Option, Some, None, option_map, Result, Ok, Err, refl, sym, ap, subst, arith}
 use Rattle.std.specs.Result.{IfOk, result_ok}
-use Rattle.std.specs.Str.Parse.{ParsesUnsigned, ExplainsUnsignedError, HasUnsignedDigitsIfOk, digits_value, without_leading_plus}
+use Rattle.std.specs.Option.{option_map_or}
+use Rattle.std.specs.Str.{bytes_eq}
+use Rattle.std.specs.Str.Parse.{ParsesUnsigned, ExplainsUnsignedError, HasUnsignedDigitsIfOk, ParsesBool, digits_value, without_leading_plus}
+use Rattle.std.specs.declared.str.ParseBoolError.{ParseBoolError}
 use Rattle.std.specs.declared.num.ParseIntError.{ParseIntError}
 use Rattle.std.proofs.lemmas.Bool.Decides.{nat_tests}
+use Rattle.std.proofs.lemmas.Slice.Eq.{bytes_eq-Decides}
+use Rattle.script_lines.proofs.FieldLemmas.{first, second}
 use Rattle.clap.specs.Matches.{TriesOne}
 use Rattle.clap.specs.Kinds.{Kinds, IsAmong}
 use Rattle.clap.specs.Walk.{Text}
@@ -16,12 +21,12 @@ use Rattle.clap.specs.declared.error.kind.ErrorKind.{ErrorKind}
 use Rattle.clap.proofs.OnLiterals.{clap_on_literals}
 use Rattle.clap.proofs.ValueTestLemmas.{accepts-Accepts, Accepts-accepts}
 use Rattle.strokes_top.specs.declared.choice.Emit.{Emit}
-use Rattle.strokes_top.specs.declared.choice.Emit.TheVariants.{Picture, Log, Sum, Live}
+use Rattle.strokes_top.specs.declared.choice.Emit.TheVariants.{Picture, Log, Sum, Live, Trace}
 use Rattle.strokes_top.specs.declared.choice.UnknownEmit.{UnknownEmit}
 use Rattle.strokes_top.specs.declared.asked.Asked.{Asked}
 use Rattle.strokes_top.specs.declared.choice.Choice.{Choice}
 use Rattle.strokes_top.specs.declared.choice.ChoiceError.{ChoiceError}
-use Rattle.strokes_top.specs.Choice.{command, choice, choice_by, emit_of, number_of, number_or_none, is_fit, unless_fault}
+use Rattle.strokes_top.specs.Choice.{command, choice, choice_by, emit_of, number_of, number_or_none, flag_of, is_of_artists, is_trace, lets_draw, is_fit, unless_fault}
 use Rattle.strokes_top.specs.Named.{IsNamed}
 
 pub is_free : is_simple_and_free command ≡ true
@@ -107,13 +112,74 @@ pub told_ok : (r : Result Asked ChoiceError) (o : Option Choice) → o ≡ optio
 told_ok (Ok a) o e = e
 told_ok (Err f) o e = tt
 
--- so many artists fit, where they are asked for
-pub fit_of : (emit : Emit) (artists : Option ℕ) (n : ℕ) → artists ≡ Some n → is_fit emit artists ≡ true → is_fit emit (Some n) ≡ true
-fit_of emit artists n is h = subst (λ a. is_fit emit a ≡ true) is h
+-- what a reading of a flag's text tells
+pub flag_told : (o : Option Text) (flag : Option Bool) → (o ≡ None → ◌≡◌ {A = Result (Option Bool) ParseBoolError} (Ok flag) (Ok None))
+    → ((t : Text) → o ≡ Some t → TriesOne ParsesBool t (Ok flag)) → Some (unwrap_or flag false) ≡ flag_of o
+flag_told None flag none value =
+    let same : ◌≡◌ {A = Result (Option Bool) ParseBoolError} (Ok flag) (Ok None) = none refl in
+    let is : flag ≡ None = cc in
+    ap (λ f. Some (unwrap_or f false)) is
+flag_told (Some t) None none value = absurd (value t refl)
+flag_told (Some t) (Some true) none value = rw (value t refl) refl
+flag_told (Some t) (Some false) none value = rw (value t refl) refl
 
--- artists that fit are 1 to 16
-pub fit_few : (emit : Emit) (n : ℕ) → is_fit emit (Some n) ≡ true → (1 ≤ n) × (n ≤ 16)
-fit_few Picture n h = (grind (arith, nat_tests), grind (arith, nat_tests))
-fit_few Log n h = (grind (arith, nat_tests), grind (arith, nat_tests))
-fit_few Sum n h = (grind (arith, nat_tests), grind (arith, nat_tests))
-fit_few Live n h = cc
+unequal : (a b : Text) → a ≢ b → bytes_eq a b ≡ false
+unequal a b h = go (bytes_eq a b) refl
+  where
+    go : (e : Bool) → bytes_eq a b ≡ e → bytes_eq a b ≡ false
+    go false is = is
+    go true is = absurd (h ((bytes_eq-Decides a b).0 is))
+
+pub flag_untold : (o : Option Text) (e : ParseBoolError) → (o ≡ None → ◌≡◌ {A = Result (Option Bool) ParseBoolError} (Err e) (Ok None))
+    → ((t : Text) → o ≡ Some t → TriesOne ParsesBool t (Err e)) → None ≡ flag_of o
+flag_untold None e none value =
+    let bad : ◌≡◌ {A = Result (Option Bool) ParseBoolError} (Err e) (Ok None) = none refl in
+    cc
+flag_untold (Some t) e none value =
+    let other = value t refl in
+    rw (unequal t (codes "true") other.0, unequal t (codes "false") other.1) refl
+
+-- so many workers fit
+pub fit_workers : (c : Choice) → is_fit c ≡ true → c.workers ≤ 16
+fit_workers c h = few (first (nat_le c.workers 16) _ (first (nat_le c.workers 16 && option_map_or (lets_draw c) c.artists true) _ h))
+  where
+    few : nat_le c.workers 16 ≡ true → c.workers ≤ 16
+    few e = grind (arith, nat_tests)
+
+drawing : (c : Choice) → is_fit c ≡ true → option_map_or (lets_draw c) c.artists true ≡ true
+drawing c h = second (nat_le c.workers 16) _ (first (nat_le c.workers 16 && option_map_or (lets_draw c) c.artists true) _ h)
+
+-- artists that are asked for may draw
+pub fit_draws : (c : Choice) (n : ℕ) → c.artists ≡ Some n → is_fit c ≡ true → lets_draw c n ≡ true
+fit_draws c n is h = subst (λ a. option_map_or (lets_draw c) a true ≡ true) is (drawing c h)
+
+-- and they are 1 to 16, and draw what may be written of them
+pub draws_some : (c : Choice) (n : ℕ) → lets_draw c n ≡ true → 1 ≤ n
+draws_some c n h = some (first (nat_le 1 n) _ (first (nat_le 1 n && nat_le n 16) _ (first ((nat_le 1 n && nat_le n 16) && is_of_artists c.emit) _ h)))
+  where
+    some : nat_le 1 n ≡ true → 1 ≤ n
+    some e = grind (arith, nat_tests)
+
+pub draws_few : (c : Choice) (n : ℕ) → lets_draw c n ≡ true → n ≤ 16
+draws_few c n h = few (second (nat_le 1 n) _ (first (nat_le 1 n && nat_le n 16) _ (first ((nat_le 1 n && nat_le n 16) && is_of_artists c.emit) _ h)))
+  where
+    few : nat_le n 16 ≡ true → n ≤ 16
+    few e = grind (arith, nat_tests)
+
+pub draws_of : (c : Choice) (n : ℕ) → lets_draw c n ≡ true → is_of_artists c.emit ≡ true
+draws_of c n h = second (nat_le 1 n && nat_le n 16) _ (first ((nat_le 1 n && nat_le n 16) && is_of_artists c.emit) _ h)
+
+no_trace : (e : Emit) → is_trace e ≡ true → is_of_artists e ≡ true → ⊥
+no_trace Picture h k = cc
+no_trace Log h k = cc
+no_trace Sum h k = cc
+no_trace Live h k = cc
+no_trace Trace h k = cc
+
+-- no artist draws where a trace is written
+pub trace_alone : (c : Choice) → is_fit c ≡ true → is_trace c.emit ≡ true → c.artists ≡ None
+trace_alone c h t = go c.artists refl
+  where
+    go : (a : Option ℕ) → c.artists ≡ a → c.artists ≡ None
+    go None is = is
+    go (Some n) is = absurd (no_trace c.emit t (draws_of c n (fit_draws c n is h)))

@@ -1,5 +1,5 @@
 -- What a painted script shows is what is written of it.
-use Rattle.std.proofs.Common.{◌≡◌, ◌≤◌, ◌∙◌, ◌*◌, ◌⊎◌, inl, inr, ℕ, List, [], ◌∷◌, ◌++◌, length, map, Option, Some, true, Result, OnOk, refl, ap, ap₂, subst, arith}
+use Rattle.std.proofs.Common.{◌≡◌, ◌≤◌, ◌∙◌, ◌*◌, ◌⊎◌, inl, inr, ℕ, List, [], ◌∷◌, ◌++◌, length, map, ◌+◌, Option, Some, true, false, Result, OnOk, refl, ap, ap₂, subst, arith}
 use Rattle.std.specs.List.{All, flat_map}
 use Rattle.std.proofs.lemmas.List.{append-nil}
 use Rattle.std.proofs.lemmas.List.Elements.{All-nil, All-cons, All-head, All-tail}
@@ -20,9 +20,11 @@ use Rattle.ppm_out.specs.Sides.{HasSides}
 use Rattle.crew_run.specs.Shows.{Shows}
 use Rattle.strokes_top.specs.declared.choice.Emit.{Emit}
 use Rattle.strokes_top.specs.declared.choice.Emit.TheVariants as emit
-use Rattle.strokes_top.specs.Choice.{is_fit}
+use Rattle.strokes_top.specs.declared.choice.Choice.{Choice}
+use Rattle.strokes_top.specs.Choice.{is_of_artists, is_trace}
 use Rattle.strokes_top.specs.Output.{HasRoom, ShowsFor}
-use Rattle.strokes_top.specs.Run.{output}
+use Rattle.strokes_top.specs.Run.{IsWhole, lead, output}
+use Rattle.trace_out.specs.Traces.{IsTraceOf}
 
 -- pictures are asked for
 abbrev IsPictures : Emit → Type 0
@@ -35,6 +37,10 @@ no_pictures_in_log (inr h) = cc
 no_pictures_in_sum : IsPictures emit.Sum → ⊥
 no_pictures_in_sum (inl h) = cc
 no_pictures_in_sum (inr h) = cc
+
+no_pictures_in_trace : IsPictures emit.Trace → ⊥
+no_pictures_in_trace (inl h) = cc
+no_pictures_in_trace (inr h) = cc
 
 -- a frame with the canvas's columns and rows
 abbrev sheet : Canvas → Frame → Sheet
@@ -67,13 +73,15 @@ pictures_are emit.Live script scenes outcomes which h =
     pixmaps_are script.canvas scenes h.sides ∙ ap (flat_map (frame_bytes script.canvas.w script.canvas.h)) h.colours ∙ append-nil (output emit.Live script)
 pictures_are emit.Log script scenes outcomes which h = absurd (no_pictures_in_log which)
 pictures_are emit.Sum script scenes outcomes which h = absurd (no_pictures_in_sum which)
+pictures_are emit.Trace script scenes outcomes which h = absurd (no_pictures_in_trace which)
 
 -- each frame has the canvas's sides
-pub sides_of : (e : Emit) (script : Contents) (scenes : List Scene) (outcomes : List Outcome) → ShowsFor e script scenes outcomes → All (HasSides script.canvas) scenes
-sides_of emit.Picture script scenes outcomes h = h.sides
-sides_of emit.Live script scenes outcomes h = h.sides
-sides_of emit.Log script scenes outcomes h = h.sides
-sides_of emit.Sum script scenes outcomes h = h.sides
+pub sides_of : (e : Emit) (script : Contents) (scenes : List Scene) (outcomes : List Outcome) → IsPictures e → ShowsFor e script scenes outcomes → All (HasSides script.canvas) scenes
+sides_of emit.Picture script scenes outcomes which h = h.sides
+sides_of emit.Live script scenes outcomes which h = h.sides
+sides_of emit.Log script scenes outcomes which h = absurd (no_pictures_in_log which)
+sides_of emit.Sum script scenes outcomes which h = absurd (no_pictures_in_sum which)
+sides_of emit.Trace script scenes outcomes which h = absurd (no_pictures_in_trace which)
 
 -- and there is room for one
 pub room_of : (e : Emit) (canvas : Canvas) (room : List ℕ) → IsPictures e → HasRoom e canvas room → 3 * (canvas.w * canvas.h) ≤ length room
@@ -81,6 +89,7 @@ room_of emit.Picture canvas room which h = h
 room_of emit.Live canvas room which h = h
 room_of emit.Log canvas room which h = absurd (no_pictures_in_log which)
 room_of emit.Sum canvas room which h = absurd (no_pictures_in_sum which)
+room_of emit.Trace canvas room which h = absurd (no_pictures_in_trace which)
 
 -- room for a picture of the canvas's sides is room for each frame
 pub room_each : (canvas : Canvas) (n : ℕ) (scenes : List Scene) → 3 * (canvas.w * canvas.h) ≤ n → All (HasSides canvas) scenes → All (λ (f : Scene). 3 * (f.width * f.height) ≤ n) scenes
@@ -101,8 +110,32 @@ pub whole_is : (r : Result (Unit {0}) Failed) (a b : Option (List ℕ)) (xs ys :
 whole_is r a b xs ys h e = subst (λ l. OnOk r (Appends a b l)) e h
 
 -- where artists draw, frames are those of the exports
-pub shows_fit : (e : Emit) (n : ℕ) (script : Contents) (scenes : List Scene) (outcomes : List Outcome) → is_fit e (Some n) ≡ true → Shows script scenes outcomes → ShowsFor e script scenes outcomes
-shows_fit emit.Picture n script scenes outcomes fit h = h
-shows_fit emit.Log n script scenes outcomes fit h = h
-shows_fit emit.Sum n script scenes outcomes fit h = h
-shows_fit emit.Live n script scenes outcomes fit h = cc
+pub shows_drawn : (e : Emit) (script : Contents) (scenes : List Scene) (outcomes : List Outcome) → is_of_artists e ≡ true → Shows script scenes outcomes → ShowsFor e script scenes outcomes
+shows_drawn emit.Picture script scenes outcomes fit h = h
+shows_drawn emit.Log script scenes outcomes fit h = h
+shows_drawn emit.Sum script scenes outcomes fit h = h
+shows_drawn emit.Live script scenes outcomes fit h = cc
+shows_drawn emit.Trace script scenes outcomes fit h = cc
+
+-- a trace is all that is written where one is asked for
+pub trace_whole : (e : Emit) (asked : Choice) (s : Contents) (bytes : List ℕ) → is_trace e ≡ true → IsTraceOf s (asked.workers + 1) bytes → IsWhole e asked s (bytes ++ output e s)
+trace_whole emit.Trace asked s bytes is h = subst (IsTraceOf s (asked.workers + 1)) (sym (append-nil bytes)) h
+trace_whole emit.Picture asked s bytes is h = cc
+trace_whole emit.Log asked s bytes is h = cc
+trace_whole emit.Sum asked s bytes is h = cc
+trace_whole emit.Live asked s bytes is h = cc
+
+pub shown_whole : (e : Emit) (asked : Choice) (s : Contents) (bytes : List ℕ) → is_trace e ≡ false → bytes ≡ lead asked.artists s → IsWhole e asked s (bytes ++ output e s)
+shown_whole emit.Picture asked s bytes other is = ap (λ l. l ++ output emit.Picture s) is
+shown_whole emit.Log asked s bytes other is = ap (λ l. l ++ output emit.Log s) is
+shown_whole emit.Sum asked s bytes other is = ap (λ l. l ++ output emit.Sum s) is
+shown_whole emit.Live asked s bytes other is = ap (λ l. l ++ output emit.Live s) is
+shown_whole emit.Trace asked s bytes other is = cc
+
+-- nothing of a trace is shown
+pub trace_shows : (e : Emit) (script : Contents) (scenes : List Scene) (outcomes : List Outcome) → is_trace e ≡ true → ShowsFor e script scenes outcomes
+trace_shows emit.Trace script scenes outcomes is = tt
+trace_shows emit.Picture script scenes outcomes is = cc
+trace_shows emit.Log script scenes outcomes is = cc
+trace_shows emit.Sum script scenes outcomes is = cc
+trace_shows emit.Live script scenes outcomes is = cc

@@ -1,22 +1,27 @@
 -- What the words of a command line ask for.
-use Rattle.std.specs.Prelude.{ℕ, ℤ, ◌&&◌, Bool, pos, true, false, not, nat_le, Option, Some, None, option_map, if◌then◌else◌, List, [], ◌∷◌, codes}
+use Rattle.std.specs.Prelude.{ℕ, ℤ, ◌&&◌, ◌||◌, Bool, pos, true, false, not, nat_le, Option, Some, None, is_some, option_map, unwrap_or, if◌then◌else◌, List, [], ◌∷◌, codes}
 use Rattle.std.specs.Option.{option_map_or}
 use Rattle.std.specs.Map.{lookup}
 use Rattle.std.specs.Str.{bytes_eq}
 use Rattle.std.specs.Str.Parse.{digits_value, without_leading_plus}
 use Rattle.clap.specs.declared.builder.value_parser.ValueParser.TheVariants as parser
+use Rattle.clap.specs.declared.builder.action.ArgAction.TheVariants.{SetTrue}
 use Rattle.clap.specs.Walk.{Text, Rule, Row, one_of}
 use Rattle.clap.specs.Simple.{App, new_app, new_rule, on_top, with_rule, matches_of}
 use Rattle.clap.specs.Kinds.{Kinds}
 use Rattle.clap.specs.Faults.{fault_of}
 use Rattle.clap.specs.ValueTests.{is_unsigned_in}
 use Rattle.strokes_top.specs.declared.choice.Emit.{Emit}
-use Rattle.strokes_top.specs.declared.choice.Emit.TheVariants.{Picture, Log, Sum, Live}
+use Rattle.strokes_top.specs.declared.choice.Emit.TheVariants.{Picture, Log, Sum, Live, Trace}
 use Rattle.strokes_top.specs.declared.choice.Choice.{Choice}
 
 -- the option of a long name, which takes one value and may be left out
 abbrev pub option : Text → Rule
 option name = record (new_rule name) { long = Some name }
+
+-- a word of that name alone, which may be left out
+abbrev pub flag : Text → Rule
+flag name = record (option name) { action = Some SetTrue }
 
 -- a whole number from the least to the most
 abbrev pub number_option : Text → ℤ → ℤ → Rule
@@ -28,12 +33,12 @@ named = on_top (λ s. record s { no_binary_name = true }) (new_app (codes "strok
 
 -- the command with its options
 abbrev pub command : App
-command = with_rule (with_rule (with_rule (with_rule named (number_option (codes "workers") (pos 0) (pos 16))) (option (codes "emit")))
-    (number_option (codes "demo") (pos 0) (pos 4294967295))) (number_option (codes "artists") (pos 1) (pos 16))
+command = with_rule (with_rule (with_rule (with_rule (with_rule named (number_option (codes "workers") (pos 0) (pos 16))) (option (codes "emit")))
+    (number_option (codes "demo") (pos 0) (pos 4294967295))) (number_option (codes "artists") (pos 1) (pos 16))) (flag (codes "replay"))
 
 -- what a text names
 abbrev pub emit_named : Text → Option Emit
-emit_named text = lookup (bytes_eq text) ((codes "picture", Picture) ∷ (codes "log", Log) ∷ (codes "sum", Sum) ∷ (codes "live", Live) ∷ [])
+emit_named text = lookup (bytes_eq text) ((codes "picture", Picture) ∷ (codes "log", Log) ∷ (codes "sum", Sum) ∷ (codes "trace", Trace) ∷ (codes "live", Live) ∷ [])
 
 -- the picture is written where nothing is named
 abbrev pub emit_of : Option Text → Option Emit
@@ -55,24 +60,49 @@ demo_of = number_or_none 4294967295
 abbrev pub artists_of : Option Text → Option (Option ℕ)
 artists_of = number_or_none 255
 
-abbrev pub is_live : Emit → Bool
-is_live Live = true
-is_live emit = false
+-- how many workers paint beside the caller, 4 where the words don't tell
+abbrev pub workers_of : Option Text → Option ℕ
+workers_of text = option_map (λ n. unwrap_or n 4) (number_or_none 255 text)
 
--- artists are 1 to 16, and there is no live view of what they draw
-abbrev pub is_fit : Emit → Option ℕ → Bool
-is_fit emit artists = option_map_or (λ n. not (is_live emit) && (nat_le 1 n && nat_le n 16)) artists true
+-- whether a flag is set
+abbrev pub flag_of : Option Text → Option Bool
+flag_of text = option_map_or (λ t. lookup (bytes_eq t) ((codes "true", true) ∷ (codes "false", false) ∷ [])) text (Some false)
+
+-- whether it is written of what artists draw too
+abbrev pub is_of_artists : Emit → Bool
+is_of_artists Live = false
+is_of_artists Trace = false
+is_of_artists emit = true
+
+abbrev pub is_trace : Emit → Bool
+is_trace Trace = true
+is_trace emit = false
+
+-- artists are 1 to 16 and draw a script, and there is no live view and no trace of what they draw
+abbrev pub lets_draw : Choice → ℕ → Bool
+lets_draw c n = ((nat_le 1 n && nat_le n 16) && is_of_artists c.emit) && not c.replay
+
+-- a trace that is checked takes the place of a generated script, and isn't written again
+abbrev pub lets_replay : Choice → Bool
+lets_replay c = not c.replay || (not (is_some c.demo) && not (is_trace c.emit))
+
+-- whether the values fit together: there are at most 16 workers, artists draw where they may, and a trace is checked where it may be
+abbrev pub is_fit : Choice → Bool
+is_fit c = (nat_le c.workers 16 && option_map_or (lets_draw c) c.artists true) && lets_replay c
+
+abbrev pub if_fit : Choice → Option Choice
+if_fit c = if is_fit c then Some c else None
 
 -- what the values of the options ask for, where each can be read and they fit together
-abbrev pub choice_of_values : Option Emit → Option (Option ℕ) → Option (Option ℕ) → Option Choice
-choice_of_values (Some emit) (Some demo) (Some artists) =
-    if is_fit emit artists then Some (record { emit = emit; demo = demo; artists = artists }) else None
-choice_of_values emit demo artists = None
+abbrev pub choice_of_values : Option Emit → Option (Option ℕ) → Option Bool → Option (Option ℕ) → Option ℕ → Option Choice
+choice_of_values (Some emit) (Some demo) (Some replay) (Some artists) (Some workers) =
+    if_fit (record { emit = emit; demo = demo; replay = replay; artists = artists; workers = workers })
+choice_of_values emit demo replay artists workers = None
 
 -- what these rows of values ask for
 abbrev pub choice_by : List Row → Option Choice
-choice_by rows = choice_of_values (emit_of (one_of (codes "emit") rows)) (demo_of (one_of (codes "demo") rows))
-    (artists_of (one_of (codes "artists") rows))
+choice_by rows = choice_of_values (emit_of (one_of (codes "emit") rows)) (demo_of (one_of (codes "demo") rows)) (flag_of (one_of (codes "replay") rows))
+    (artists_of (one_of (codes "artists") rows)) (workers_of (one_of (codes "workers") rows))
 
 abbrev pub unless_fault : Kinds → Option Choice → Option Choice
 unless_fault [] choice = choice

@@ -2,23 +2,40 @@
 use Rattle.std.specs.Prelude.{Bool, true, false}
 use Rattle.script_text.specs.declared.script.ReadRefusal.{ReadRefusal}
 use Rattle.script_text.specs.declared.script.ReadRefusal.TheVariants as refusal
+use Rattle.trace_core.specs.declared.refusal.ReplayRefusal.{ReplayRefusal}
+use Rattle.trace_core.specs.declared.refusal.ReplayRefusal.TheVariants as replay
 use Rattle.strokes_top.specs.declared.transfer.ReadError.{ReadError}
 use Rattle.strokes_top.specs.declared.transfer.ReadError.TheVariants as read
 use Rattle.strokes_top.specs.declared.status.Status.{Status}
-use Rattle.strokes_top.specs.declared.status.Status.TheVariants.{Done, DoneWithRefusals, Script, ReadFault, WriteFault, NoMemory, TooLong}
+use Rattle.strokes_top.specs.declared.status.Status.TheVariants.{Done, DoneWithRefusals, Script, ReadFault, WriteFault, NoMemory, TooLong, Trace}
 
--- whether the script is at fault
+-- whether the script or the trace is at fault
 abbrev pub is_script : Status → Bool
 is_script (Script line cause) = true
+is_script (Trace line cause) = true
 is_script s = false
 
 -- whether taking the script may end so
 abbrev pub is_of_script : Status → Bool
 is_of_script (Script line cause) = true
+is_of_script (Trace line cause) = true
 is_of_script ReadFault = true
 is_of_script TooLong = true
 is_of_script NoMemory = true
 is_of_script s = false
+
+-- whether reading all of a source may end so
+abbrev pub is_of_read : Status → Bool
+is_of_read ReadFault = true
+is_of_read TooLong = true
+is_of_read NoMemory = true
+is_of_read s = false
+
+-- whether checking a trace may end so
+abbrev pub is_of_trace : Status → Bool
+is_of_trace (Trace line cause) = true
+is_of_trace NoMemory = true
+is_of_trace s = false
 
 -- whether painting and writing may end so
 abbrev pub is_painted : Status → Bool
@@ -37,3 +54,8 @@ of_read read.TooLong = TooLong
 abbrev pub of_refusal : ReadRefusal → Status
 of_refusal (refusal.Fault f) = Script f.line f.cause
 of_refusal refusal.NoMemory = NoMemory
+
+-- how a run ends whose trace isn't taken
+abbrev pub of_replay : ReplayRefusal → Status
+of_replay (replay.Fault line cause) = Trace line cause
+of_replay replay.NoMemory = NoMemory

@@ -1,16 +1,13 @@
 //! What a run is asked for.
 
-ghost use Rattle.std.specs.Prelude.{◌≡◌, ◌≤◌, true};
+ghost use Rattle.std.specs.Prelude.{◌≡◌, true};
 ghost use Rattle.strokes_top.specs.Choice.{is_fit};
 
 use crate::choice::Choice;
 
-/// What the words ask for, and how many threads are to paint beside the caller, which changes nothing
-/// of what is written.
+/// What the words ask for, which fits together.
 #[derive(Clone, Copy)]
 pub(crate) struct Asked {
     pub(crate) choice: Choice,
-    pub(crate) workers: u8,
-    ghost few: { workers ≤ 16 },
-    ghost fit: { is_fit choice.emit choice.artists ≡ true },
+    ghost fit: { is_fit choice ≡ true },
 }

@@ -1,10 +1,10 @@
 //! What the words of a command line ask for.
 
-ghost use Rattle.std.specs.Prelude.{◌≡◌, ◌≤◌, option_map, ℕ, List, Option, Result, Ok, Err, Some, None, true, false, IfOk, IfSome, IsErrOf, codes};
+ghost use Rattle.std.specs.Prelude.{◌≡◌, option_map, Bool, ℕ, List, Option, Result, Ok, Err, Some, None, true, false, IfOk, IsErrOf, codes};
 ghost use Rattle.clap.specs.Simple.{app_of};
 ghost use Rattle.clap.specs.Matches.{found_of};
 ghost use Rattle.clap.specs.Walk.{rows_of, rule_of, one_of};
-ghost use Rattle.strokes_top.specs.Choice.{command as said_command, number_option as said_option, choice, choice_by, emit_of, demo_of, artists_of, is_fit as said_fit};
+ghost use Rattle.strokes_top.specs.Choice.{command as said_command, number_option as said_option, choice, choice_by, emit_of, demo_of, artists_of, workers_of, flag_of, if_fit, is_fit as said_fit, lets_draw as said_draw, is_of_artists as said_of_artists, is_trace as said_trace, lets_replay as said_replay};
 ghost use Rattle.strokes_top.specs.Named.{IsNamed};
 ghost use Rattle.strokes_top.specs.declared.asked.Asked.{Asked};
 
@@ -12,7 +12,7 @@ use crate::asked::Asked;
 use crate::words::Words;
 use clap::builder::ValueParser;
 use clap::error::ErrorKind;
-use clap::{Arg, ArgMatches, Command};
+use clap::{Arg, ArgAction, ArgMatches, Command};
 use std::alloc::{AllocError, Global};
 use std::str::FromStr;
 
@@ -28,6 +28,8 @@ pub enum Emit {
     Log,
     /// A short summary.
     Sum,
+    /// A trace: the script with one order of the steps that paint it.
+    Trace,
     /// A pixmap of what a live view shows at the end: the document that the script makes.
     Live,
 }
@@ -39,8 +41,12 @@ pub struct Choice {
     pub emit: Emit,
     /// The number of the generated script, where it takes the source's place.
     pub demo: Option<u32>,
+    /// Whether the source has a trace in the place of a script.
+    pub replay: bool,
     /// How many artists draw the script, where artists are to draw it.
     pub artists: Option<u8>,
+    /// How many threads paint beside the caller. Of what is written they change the slots of a trace alone.
+    pub workers: u8,
 }
 
 /// Why there is no choice.
@@ -68,6 +74,8 @@ impl FromStr for Emit {
             Ok(Emit::Log)
         } else if text == "sum" {
             Ok(Emit::Sum)
+        } else if text == "trace" {
+            Ok(Emit::Trace)
         } else if text == "live" {
             Ok(Emit::Live)
         } else {
@@ -94,12 +102,16 @@ fn command<'a>(alloc: Global) -> Result<Command<'a>, AllocError>
     let emit = Arg::new(alloc, "emit").long("emit");
     let demo = number_option(alloc, "demo", 0, 4_294_967_295);
     let artists = number_option(alloc, "artists", 1, 16);
+    let replay = Arg::new(alloc, "replay")
+        .long("replay")
+        .action(ArgAction::SetTrue);
     Command::new(alloc, "strokes")
         .no_binary_name(true)
         .arg(workers)?
         .arg(emit)?
         .arg(demo)?
-        .arg(artists)
+        .arg(artists)?
+        .arg(replay)
 }
 
 /// What is to be written.
@@ -133,59 +145,101 @@ fn artists_in(matches: &ArgMatches<'_>) -> Option<Option<u8>>
     }
 }
 
-/// Whether artists are 1 to 16, and there is no live view of what they draw.
-fn is_fit(emit: Emit, artists: Option<u8>) -> bool
-    ensures { result ≡ said_fit emit artists }
-{
-    let Some(artists) = artists else {
-        return true;
-    };
-    match emit {
-        Emit::Live => false,
-        Emit::Picture | Emit::Log | Emit::Sum => 1 <= artists && artists <= 16,
-    }
-}
-
-/// What the values of the options ask for, if they fit together.
-fn choice_in(matches: &ArgMatches<'_>) -> Option<Choice>
-    ensures value { result ≡ choice_by (rows_of (found_of matches.now)) }
-    ensures fit { IfSome result (λ c. said_fit c.emit c.artists ≡ true) }
-{
-    let emit = emit_in(matches)?;
-    let demo = demo_in(matches)?;
-    let artists = artists_in(matches)?;
-    if !is_fit(emit, artists) {
-        return None;
-    }
-    Some(Choice {
-        emit,
-        demo,
-        artists,
-    })
-}
-
-/// How many workers are asked for.
-fn workers_in(matches: &ArgMatches<'_>) -> u8
-    ensures { result ≤ 16 }
+/// How many threads are to paint beside the caller.
+fn workers_in(matches: &ArgMatches<'_>) -> Option<u8>
+    ensures { result ≡ workers_of (one_of (codes "workers") (rows_of (found_of matches.now))) }
 {
     match matches.try_get_one::<u8>("workers") {
-        Ok(Some(workers)) => workers.min(16),
-        Ok(None) => WORKERS,
-        Err(_) => WORKERS,
+        Ok(workers) => Some(workers.unwrap_or(WORKERS)),
+        Err(_) => None,
     }
 }
 
-/// What the values of the options ask for, with the number of workers.
+/// Whether the source has a trace.
+fn replay_in(matches: &ArgMatches<'_>) -> Option<bool>
+    ensures { result ≡ flag_of (one_of (codes "replay") (rows_of (found_of matches.now))) }
+{
+    match matches.try_get_one::<bool>("replay") {
+        Ok(replay) => Some(replay.unwrap_or(false)),
+        Err(_) => None,
+    }
+}
+
+/// Whether a trace is written.
+pub(crate) fn is_trace(emit: Emit) -> bool
+    ensures { result ≡ said_trace emit }
+{
+    matches!(emit, Emit::Trace)
+}
+
+/// Whether it is written of what artists draw too.
+fn is_of_artists(emit: Emit) -> bool
+    ensures { result ≡ said_of_artists emit }
+{
+    match emit {
+        Emit::Live | Emit::Trace => false,
+        Emit::Picture | Emit::Log | Emit::Sum => true,
+    }
+}
+
+impl Choice {
+    /// Whether so many artists may draw.
+    fn lets_draw(&self, artists: u8) -> bool
+        ensures { result ≡ said_draw self.now artists }
+    {
+        1 <= artists && artists <= 16 && is_of_artists(self.emit) && !self.replay
+    }
+
+    /// Whether a trace may be checked, where one is to be.
+    fn lets_replay(&self) -> bool
+        ensures { result ≡ said_replay self.now }
+    {
+        !self.replay || self.demo.is_none() && !is_trace(self.emit)
+    }
+
+    /// Whether the values fit together.
+    fn is_fit(&self) -> bool
+        ensures { result ≡ said_fit self.now }
+    {
+        let draws = match self.artists {
+            Some(artists) => self.lets_draw(artists),
+            None => true,
+        };
+        self.workers <= 16 && draws && self.lets_replay()
+    }
+}
+
+/// What the values of the options ask for, where they fit together.
+fn asked_by(choice: Choice) -> Option<Asked>
+    ensures { option_map (λ (a : Asked). a.choice) result ≡ if_fit choice }
+{
+    if !choice.is_fit() {
+        return None;
+    }
+    Some(Asked { choice })
+}
+
+/// What the values of the options ask for, where each can be read and they fit together.
 fn asked_in(matches: &ArgMatches<'_>) -> Option<Asked>
     ensures { option_map (λ (a : Asked). a.choice) result ≡ choice_by (rows_of (found_of matches.now)) }
 {
-    let choice = choice_in(matches)?;
-    let workers = workers_in(matches);
-    Some(Asked { choice, workers })
+    let emit = emit_in(matches)?;
+    let demo = demo_in(matches)?;
+    let replay = replay_in(matches)?;
+    let artists = artists_in(matches)?;
+    let workers = workers_in(matches)?;
+    asked_by(Choice {
+        emit,
+        demo,
+        replay,
+        artists,
+        workers,
+    })
 }
 
-/// What the words ask for: `--workers N`, 0 to 16, `--emit WHAT`, `--demo NUMBER`, and `--artists N`, 1 to 16
-/// and not with the live view, each at most once.
+/// What the words ask for: `--workers N`, 0 to 16, `--emit WHAT`, `--demo NUMBER`, `--artists N`, 1 to 16, and
+/// `--replay`, each at most once. Artists draw a script, not a trace, and neither a live view nor a trace is
+/// written of what they draw; `--replay` goes with neither `--demo` nor `--emit trace`.
 ///
 /// # Errors
 /// `Usage` exactly where the command doesn't take the words, and `NoMemory` where memory ran out.

@@ -5,7 +5,8 @@ ghost use Rattle.std.specs.Io.KnownBytes.{Keeps, Appends};
 ghost use Rattle.io_edge.specs.Told.{AppendsPrefix, Rose};
 ghost use Rattle.script_lines.specs.declared.cause.Cause.{Cause};
 ghost use Rattle.strokes_top.specs.Choice.{choice};
-ghost use Rattle.strokes_top.specs.Run.{IsAnswered, IsFaulty, asks_for_demo, IsOutput, IsBegun, ConsumesMore, ConsumesAtMost};
+ghost use Rattle.trace_forms.specs.declared.line.TraceCause.{TraceCause};
+ghost use Rattle.strokes_top.specs.Run.{IsAnswered, IsFaulty, IsFaultyTrace, asks_for_demo, limit_for, IsOutput, IsBegun, ConsumesMore, ConsumesAtMost};
 ghost use Rattle.strokes_top.specs.Status.{is_done, may_write, told_by};
 ghost use Rattle.strokes_top.specs.Ends.{is_painted};
 ghost use Rattle.doc_model.specs.Meaning.{some_refused as said_refused};
@@ -16,7 +17,7 @@ use crate::painting::painted;
 use crate::source::take_script;
 use crate::status::Status;
 use crate::telling::report;
-use crate::transfer::{CHUNK, LIMIT};
+use crate::transfer::CHUNK;
 use crate::words::Words;
 use crate::writing::{room_for, write_painting};
 use doc_model::Outcome;
@@ -80,8 +81,9 @@ fn answer<R: Threads + Wait + Sync, S: Source, K: Sink, G: Gate>(
     ensures usage { result ≡ Status.Usage → choice words.now ≡ None }
     ensures taken_words { result ≢ Status.Usage → result ≢ Status.NoMemory → is_some (choice words.now) ≡ true }
     ensures script { (line : ℕ) (cause : Cause) → result ≡ Status.Script line cause → IsFaulty (record { line = line; cause = cause }) words.now (S.left source.old) (S.left source.new) }
-    ensures too_long { result ≡ Status.TooLong → ConsumesMore LIMIT CHUNK (S.left source.old) (S.left source.new) }
-    ensures within_limit { result ≢ Status.TooLong → ConsumesAtMost LIMIT (S.left source.old) (S.left source.new) }
+    ensures trace { (line : ℕ) (cause : TraceCause) → result ≡ Status.Trace line cause → IsFaultyTrace (record { line = line; cause = cause }) words.now (S.left source.old) (S.left source.new) }
+    ensures too_long { result ≡ Status.TooLong → ConsumesMore (limit_for words.now) CHUNK (S.left source.old) (S.left source.new) }
+    ensures within_limit { result ≢ Status.TooLong → ConsumesAtMost (limit_for words.now) (S.left source.old) (S.left source.new) }
     ensures read_fault { result ≡ Status.ReadFault → Rose (S.faults source.old) (S.faults source.new) }
     ensures write_fault { result ≡ Status.WriteFault → Rose (K.faults out.old) (K.faults out.new) }
     ensures usage_reads_nothing { result ≡ Status.Usage → (S.left source.new ≡ S.left source.old) × (S.faults source.new ≡ S.faults source.old) }
@@ -96,18 +98,20 @@ fn answer<R: Threads + Wait + Sync, S: Source, K: Sink, G: Gate>(
         Err(ChoiceError::Usage) => return Status::Usage,
         Err(ChoiceError::NoMemory) => return Status::NoMemory,
     };
-    match take_script(alloc, asked.choice.demo, source) {
+    match take_script(alloc, &asked.choice, source) {
         Ok(script) => paint(rt, alloc, &asked, script, out, gate),
         Err(status) => status,
     }
 }
 
 /// Runs the command: `words` are the command line's without the program's name. The script comes
-/// from `source`, or is the generated one where `--demo` is given. It is painted by the caller and as
-/// many workers as `--workers` names, and what `--emit` names goes to `out`: a pixmap for each export, a
-/// line for each entry, a summary, or a pixmap of the document that the script makes. With `--artists` so
-/// many artists draw the script side by side, what came of it goes to `out` as a script, and then what
-/// `--emit` names of that. One line on what went wrong goes to `err`, whose faults change no status.
+/// from `source`, or is the generated one where `--demo` is given; with `--replay` the source has a trace,
+/// which is checked, and the script is that of its commands. It is painted by the caller and as many workers
+/// as `--workers` names, and what `--emit` names goes to `out`: a pixmap for each export, a line for each
+/// entry, a summary, a pixmap of the document that the script makes, or a trace of the script with a slot for
+/// the caller and one for each worker. With `--artists` so many artists draw the script side by side, what
+/// came of it goes to `out` as a script, and then what `--emit` names of that. One line on what went wrong
+/// goes to `err`, whose faults change no status.
 pub fn run<R: Threads + Wait + Sync, S: Source, K: Sink, E: Sink, G: Gate>(
     rt: &R,
     alloc: Global,
@@ -117,8 +121,9 @@ pub fn run<R: Threads + Wait + Sync, S: Source, K: Sink, E: Sink, G: Gate>(
     err: &mut E,
     gate: &G,
 ) -> Status
-    // The words were taken, the script was read or generated, and just what is asked for was written: of that script, or of
-    // what artists drew of it. Where the source doesn't tell what it has left, that is so of some bytes.
+    // The words were taken, the script was read, generated or given by a trace without a fault, and just what is asked for was
+    // written: of that script, or of what artists drew of it. Where the source doesn't tell what it has left, that is so of
+    // some bytes.
     ensures done { result ≡ Status.Done → IsAnswered (IsOutput false (K.taken out.old) (K.taken out.new)) words.now (S.left source.old) (S.left source.new) }
     ensures done_with_refusals { result ≡ Status.DoneWithRefusals → IsAnswered (IsOutput true (K.taken out.old) (K.taken out.new)) words.now (S.left source.old) (S.left source.new) }
 
@@ -126,8 +131,9 @@ pub fn run<R: Threads + Wait + Sync, S: Source, K: Sink, E: Sink, G: Gate>(
     ensures usage { result ≡ Status.Usage → choice words.now ≡ None }
     ensures taken_words { result ≢ Status.Usage → result ≢ Status.NoMemory → is_some (choice words.now) ≡ true }
     ensures script { (line : ℕ) (cause : Cause) → result ≡ Status.Script line cause → IsFaulty (record { line = line; cause = cause }) words.now (S.left source.old) (S.left source.new) }
-    ensures too_long { result ≡ Status.TooLong → ConsumesMore LIMIT CHUNK (S.left source.old) (S.left source.new) }
-    ensures within_limit { result ≢ Status.TooLong → ConsumesAtMost LIMIT (S.left source.old) (S.left source.new) }
+    ensures trace { (line : ℕ) (cause : TraceCause) → result ≡ Status.Trace line cause → IsFaultyTrace (record { line = line; cause = cause }) words.now (S.left source.old) (S.left source.new) }
+    ensures too_long { result ≡ Status.TooLong → ConsumesMore (limit_for words.now) CHUNK (S.left source.old) (S.left source.new) }
+    ensures within_limit { result ≢ Status.TooLong → ConsumesAtMost (limit_for words.now) (S.left source.old) (S.left source.new) }
     ensures read_fault { result ≡ Status.ReadFault → Rose (S.faults source.old) (S.faults source.new) }
     ensures write_fault { result ≡ Status.WriteFault → Rose (K.faults out.old) (K.faults out.new) }
 

@@ -1,16 +1,18 @@
-//! Painting a script, by a crew or by artists.
+//! Painting a script, by a crew, by artists or with a trace.
 
-ghost use Rattle.std.specs.Prelude.{◌≡◌, ◌≤◌, length, Some, None, IfOk};
+ghost use Rattle.std.specs.Prelude.{◌≡◌, ◌≤◌, ◌++◌, length, true, Some, None, IfOk};
 ghost use Rattle.script_text.specs.Text.{text};
 ghost use Rattle.script_text.specs.Reading.{script as script_in};
 ghost use Rattle.machine_model.specs.State.{IsSettled};
 ghost use Rattle.script_text.specs.Script.{Contents, meaning_of};
 ghost use Rattle.crew_run.specs.Shows.{Shows};
 ghost use Rattle.strokes_top.specs.Output.{ShowsFor};
-ghost use Rattle.strokes_top.specs.Run.{IsDrawn, lead};
+ghost use Rattle.strokes_top.specs.Run.{IsDrawn, IsWhole, lead, output};
+ghost use Rattle.trace_out.specs.Traces.{IsTraceOf};
+ghost use Rattle.strokes_top.specs.Choice.{is_fit};
 
 use crate::asked::Asked;
-use crate::choice::Emit;
+use crate::choice::{Choice, Emit, is_trace};
 use crate::size::is_for_many;
 use artists::{Drawn, paint_together};
 use crew_run::{Shown, run_shown};
@@ -18,10 +20,12 @@ use desk_core::{Desk, settled_has_meaning};
 use geom_core::NoMemory;
 use io_edge::Gate;
 use live_run::run_live_shown;
+use tile_core::Film;
 use script_text::{Script, print, printed_reads_back};
 use std::alloc::Global;
 use std::sync::Wait;
 use std::thread::Threads;
+use trace_out::{Traced, trace_of};
 
 /// How many commands a desk takes at most.
 const MOST: usize = 4_294_967_295;
@@ -63,7 +67,9 @@ fn shown_by_crew<R: Threads + Wait + Sync, G: Gate>(
 {
     match emit {
         Emit::Live => run_live_shown(rt, alloc, script, workers, gate),
-        Emit::Picture | Emit::Log | Emit::Sum => run_shown(rt, alloc, script, workers, gate),
+        Emit::Picture | Emit::Log | Emit::Sum | Emit::Trace => {
+            run_shown(rt, alloc, script, workers, gate)
+        }
     }
 }
 
@@ -148,7 +154,54 @@ fn painted_by_artists<R: Threads + Wait + Sync, G: Gate>(
     })
 }
 
+/// A trace of the script on so many slots, and nothing that it shows.
+///
+/// # Errors
+/// `NoMemory`.
+fn traced(alloc: Global, script: Script, slots: u8) -> Result<Painting, NoMemory>
+    requires some { 1 ≤ slots }
+    requires slots { slots ≤ 17 }
+    requires few { length script.commands ≤ MOST }
+    ensures drawn { IfOk result (λ p. IsDrawn None script p.script) }
+    ensures trace { IfOk result (λ p. IsTraceOf p.script slots p.lead.items) }
+    ensures outcomes { IfOk result (λ p. p.shown.outcomes.items ≡ (meaning_of p.script).outcomes) }
+{
+    let Traced { text, outcomes } = trace_of(alloc, &script, slots)?;
+    let film = Film::new(alloc);
+    Ok(Painting {
+        script,
+        lead: text,
+        shown: Shown { film, outcomes },
+    })
+}
+
 /// What is asked for of the script, by as many artists as are asked for, or by a crew.
+///
+/// # Errors
+/// `NoMemory`.
+fn painted_to_show<R: Threads + Wait + Sync, G: Gate>(
+    rt: &R,
+    alloc: Global,
+    choice: &Choice,
+    script: Script,
+    gate: &G,
+) -> Result<Painting, NoMemory>
+    requires fit { is_fit choice.now ≡ true }
+    requires few { length script.commands ≤ MOST }
+    ensures drawn { IfOk result (λ p. IsDrawn choice.now.artists script p.script) }
+    ensures lead { IfOk result (λ p. p.lead.items ≡ lead choice.now.artists p.script) }
+    ensures shows { IfOk result (λ p. ShowsFor choice.now.emit p.script p.shown.film p.shown.outcomes.items) }
+    ensures outcomes { IfOk result (λ p. p.shown.outcomes.items ≡ (meaning_of p.script).outcomes) }
+{
+    let workers = workers_for(&script, choice.workers);
+    match choice.artists {
+        Some(artists) => painted_by_artists(rt, alloc, script, artists, workers, gate),
+        None => painted_by_crew(rt, alloc, choice.emit, script, workers, gate),
+    }
+}
+
+/// What is asked for of the script: what it shows, or a trace of it with a slot for the caller and one for
+/// each worker.
 ///
 /// # Errors
 /// `NoMemory`, also where there are more commands than a desk takes.
@@ -160,16 +213,16 @@ pub(crate) fn painted<R: Threads + Wait + Sync, G: Gate>(
     gate: &G,
 ) -> Result<Painting, NoMemory>
     ensures drawn { IfOk result (λ p. IsDrawn asked.now.choice.artists script p.script) }
-    ensures lead { IfOk result (λ p. p.lead.items ≡ lead asked.now.choice.artists p.script) }
+    ensures whole { IfOk result (λ p. IsWhole asked.now.choice.emit asked.now.choice p.script (p.lead.items ++ output asked.now.choice.emit p.script)) }
     ensures shows { IfOk result (λ p. ShowsFor asked.now.choice.emit p.script p.shown.film p.shown.outcomes.items) }
     ensures outcomes { IfOk result (λ p. p.shown.outcomes.items ≡ (meaning_of p.script).outcomes) }
 {
     if script.len() > MOST {
         return Err(NoMemory);
     }
-    let workers = workers_for(&script, asked.workers);
-    match asked.choice.artists {
-        Some(artists) => painted_by_artists(rt, alloc, script, artists, workers, gate),
-        None => painted_by_crew(rt, alloc, asked.choice.emit, script, workers, gate),
+    if is_trace(asked.choice.emit) {
+        traced(alloc, script, asked.choice.workers + 1)
+    } else {
+        painted_to_show(rt, alloc, &asked.choice, script, gate)
     }
 }

@@ -4,6 +4,7 @@ ghost use Rattle.std.specs.Prelude.{◌≡◌};
 
 use crate::transfer::ReadError;
 use script_text::{Cause, ReadRefusal, ScriptFault};
+use trace_core::{ReplayRefusal, TraceCause};
 
 /// How a run ended.
 #[derive(Clone, Copy, Debug, PartialEq, Eq)]
@@ -22,8 +23,10 @@ pub enum Status {
     WriteFault,
     /// Memory ran out.
     NoMemory,
-    /// The script is longer than it may be.
+    /// The script or the trace is longer than it may be.
     TooLong,
+    /// The trace's first line that is refused, whose number counts from 1, and its cause.
+    Trace { line: u32, cause: TraceCause },
 }
 
 impl Status {
@@ -52,6 +55,7 @@ impl Status {
             Status::WriteFault => 5,
             Status::NoMemory => 6,
             Status::TooLong => 7,
+            Status::Trace { .. } => 8,
         }
     }
 }
@@ -78,6 +82,19 @@ impl From<ReadRefusal> for Status {
         match refusal {
             ReadRefusal::Fault(fault) => Status::of_fault(fault),
             ReadRefusal::NoMemory => Status::NoMemory,
+        }
+    }
+}
+
+impl From<ReplayRefusal> for Status {
+    ghost use Rattle.strokes_top.specs.Ends.{of_replay};
+
+    ghost from_gives = { λ refusal status. status ≡ of_replay refusal };
+
+    fn from(refusal: ReplayRefusal) -> Status {
+        match refusal {
+            ReplayRefusal::Fault { line, cause } => Status::Trace { line, cause },
+            ReplayRefusal::NoMemory => Status::NoMemory,
         }
     }
 }

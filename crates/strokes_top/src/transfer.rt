@@ -10,6 +10,9 @@ use io_edge::{Failed, Source};
 /// The most bytes that a script may have.
 pub const LIMIT: usize = 1_048_576;
 
+/// The most bytes that a trace may have.
+pub const TRACE_LIMIT: usize = 16_777_216;
+
 /// How many bytes are asked for at once.
 pub const CHUNK: usize = 16_384;
 
@@ -18,30 +21,31 @@ pub const CHUNK: usize = 16_384;
 pub enum ReadError {
     /// A read failed.
     Failed,
-    /// There are more than `LIMIT` bytes.
+    /// There are more bytes than there may be.
     TooLong,
 }
 
 /// Reads the next bytes into the front of the chunk, where `count` were read before, and says how
-/// many: 0 only at the end.
+/// many: 0 only at the end. There may be `limit` in all.
 pub fn next_piece<S: Source>(
     source: &mut S,
     chunk: &mut [u8],
     count: usize,
+    limit: usize,
 ) -> Result<usize, ReadError>
     requires room { length chunk.old ≡ CHUNK }
-    requires count { count ≤ LIMIT }
+    requires count { count ≤ limit }
     ensures bytes { IfOk result (λ n. Consumes (S.left source.old) (S.left source.new) (take n chunk.new)) }
     ensures bound { IfOk result (λ n. n ≤ length chunk.new) }
-    ensures short { IfOk result (λ n. count + n ≤ LIMIT) }
+    ensures short { IfOk result (λ n. count + n ≤ limit) }
     ensures to_the_end { result ≡ Ok 0 → IsAtEnd (S.left source.new) }
-    ensures too_long { IsErrOf result ReadError.TooLong → ConsumesMore (LIMIT - count) CHUNK (S.left source.old) (S.left source.new) }
-    ensures within_limit { result ≢ Err ReadError.TooLong → ConsumesAtMost (LIMIT - count) (S.left source.old) (S.left source.new) }
+    ensures too_long { IsErrOf result ReadError.TooLong → ConsumesMore (limit - count) CHUNK (S.left source.old) (S.left source.new) }
+    ensures within_limit { result ≢ Err ReadError.TooLong → ConsumesAtMost (limit - count) (S.left source.old) (S.left source.new) }
     ensures failed { IsErrOf result ReadError.Failed → Rose (S.faults source.old) (S.faults source.new) }
     ensures later { S.faults source.old ≤ S.faults source.new }
 {
     match source.read(chunk) {
-        Ok(n) if n > LIMIT - count => Err(ReadError::TooLong),
+        Ok(n) if n > limit - count => Err(ReadError::TooLong),
         Ok(n) => Ok(n),
         Err(Failed) => Err(ReadError::Failed),
     }
@@ -62,7 +66,7 @@ pub fn skip_rest<S: Source>(
     ensures later { S.faults source.old ≤ S.faults source.new }
 {
     loop {
-        let n = next_piece(source, chunk, count)?;
+        let n = next_piece(source, chunk, count, LIMIT)?;
         if n == 0 {
             return Ok(());
         }

@@ -24,7 +24,7 @@ pub(crate) fn room_for(alloc: Global, emit: Emit, canvas: Canvas) -> Result<Vec<
     let colours = 3 * (canvas.w as usize * canvas.h as usize);
     match emit {
         Emit::Picture | Emit::Live => vec![in alloc; 0; colours],
-        Emit::Log | Emit::Sum => Ok(Vec::new(alloc)),
+        Emit::Log | Emit::Sum | Emit::Trace => Ok(Vec::new(alloc)),
     }
 }
 
@@ -49,6 +49,7 @@ fn write_output<K: Sink>(
         Emit::Picture | Emit::Live => write_frames(&shown.film, room, out),
         Emit::Log => write_log(script, &shown.outcomes, out),
         Emit::Sum => write_sum(shown.film.frames(), &shown.outcomes, out),
+        Emit::Trace => Ok(()),
     }
 }
 

@@ -8,4 +8,4 @@ mod tests;
 mod trace;
 mod works;
 
-pub use trace::trace_of;
+pub use trace::{Traced, trace_of};

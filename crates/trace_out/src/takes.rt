@@ -96,6 +96,7 @@ impl Scribe {
             job,
             work,
             shot,
+            since: _,
         } = ticket;
         let painter = Painter {
             serial: slot.serial,

@@ -8,16 +8,26 @@ ghost use Rattle.machine_model.specs.State.{IsSettled, is_free};
 ghost use Rattle.trace_out.specs.Writing.{IsTied, Writes};
 ghost use Rattle.trace_out.specs.Goes.{GoesOnWriting, SettlesWriting, MayRest};
 ghost use Rattle.trace_out.specs.Traces.{IsTraceOf};
+ghost use Rattle.script_text.specs.Script.{meaning_of};
 
 use crate::scribe::Scribe;
 use crate::takes::Took;
 use demo_gen::draw;
+use desk_core::settled_has_meaning;
+use doc_model::Outcome;
 use geom_core::NoMemory;
 use memento_core::Steps;
 use script_text::Script;
 use std::alloc::Global;
 use std::marker::Brand;
 use std::sync::ledger::{Blank, Ledger};
+
+/// A trace of a script, and how its entries ended.
+#[derive(Drop)]
+pub struct Traced {
+    pub text: Vec<u8>,
+    pub outcomes: Vec<Outcome>,
+}
 
 /// Makes events, either of the work at hand or taken from the desk, as draws say. `false` exactly where
 /// nothing is at hand and nothing may be taken.
@@ -131,11 +141,12 @@ fn settle<L: Ledger>(
 ///
 /// # Errors
 /// `NoMemory` where no memory is left.
-pub fn trace_of(alloc: Global, script: &Script, slots: u8) -> Result<Vec<u8>, NoMemory>
+pub fn trace_of(alloc: Global, script: &Script, slots: u8) -> Result<Traced, NoMemory>
     requires some { 1 ≤ slots }
     requires few { slots ≤ 17 }
     requires commands { length script.now.commands ≤ 2 ^ 32 - 1 }
-    ensures { IfOk result (λ v. IsTraceOf script.now slots v.items) }
+    ensures trace { IfOk result (λ t. IsTraceOf script.now slots t.text.items) }
+    ensures outcomes { IfOk result (λ t. t.outcomes.items ≡ (meaning_of script.now).outcomes) }
 {
     trace_on::<Brand>(alloc, script, slots, Blank::new(1))
 }
@@ -146,14 +157,15 @@ fn trace_on<L: Ledger>(
     script: &Script,
     slots: u8,
     blank: Blank,
-) -> Result<Vec<u8>, NoMemory>
+) -> Result<Traced, NoMemory>
     requires some { 1 ≤ slots }
     requires few { slots ≤ 17 }
     requires commands { length script.now.commands ≤ 2 ^ 32 - 1 }
     requires name { blank.name ≡ L.name }
     requires parts { blank.parts ≡ L.parts }
     requires blank { 0 < blank.parts }
-    ensures { IfOk result (λ v. IsTraceOf script.now slots v.items) }
+    ensures trace { IfOk result (λ t. IsTraceOf script.now slots t.text.items) }
+    ensures outcomes { IfOk result (λ t. t.outcomes.items ≡ (meaning_of script.now).outcomes) }
 {
     let mut steps = Steps::<L>::new(blank);
     let _known = script.commands();
@@ -161,6 +173,8 @@ fn trace_on<L: Ledger>(
     let mut draws = 0;
     feed_all(&mut scribe, script, &mut draws, &mut steps)?;
     settle(&mut scribe, &mut draws, &mut steps)?;
-    let Scribe { out, .. } = scribe;
-    Ok(out)
+    let Scribe { desk, out, .. } = scribe;
+    settled_has_meaning(&desk);
+    let (_, outcomes) = desk.into_results();
+    Ok(Traced { text: out, outcomes })
 }

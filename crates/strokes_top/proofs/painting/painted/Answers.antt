@@ -1,32 +1,6 @@
 use Rattle.std.proofs.Common.{◌≡◌, IfOk, subst, sym}
 use Rattle.std.proofs.lemmas.Result.{IfOk-weaker}
-use Rattle.strokes_top.specs.Run.{IsDrawn, lead}
-use Rattle.strokes_top.proofs.Choices.{fit_few, fit_of}
-use Rattle.strokes_top.proofs.Outputs.{shows_fit}
+use Rattle.strokes_top.specs.Run.{IsDrawn}
+use Rattle.strokes_top.proofs.Choices.{fit_workers, trace_alone}
+use Rattle.strokes_top.proofs.Outputs.{trace_whole, shown_whole, trace_shows}
 use Rattle.strokes_top.proofs.painting.painted.Goals as goal
-
-pub painted_by_artists-requires-clause-some : goal.painted_by_artists-requires-clause-some
-painted_by_artists-requires-clause-some g c = λ κs lives. (fit_few c.args.asked.now.choice.emit c.in-Some.artists (fit_of _ _ _ c.in-Some.is c.args.asked.now.fit)).0
-
-pub painted_by_artists-requires-clause-artists : goal.painted_by_artists-requires-clause-artists
-painted_by_artists-requires-clause-artists g c = λ κs lives. (fit_few c.args.asked.now.choice.emit c.in-Some.artists (fit_of _ _ _ c.in-Some.is c.args.asked.now.fit)).1
-
-pub returns-in-Some-clause-drawn : goal.returns-in-Some-clause-drawn
-returns-in-Some-clause-drawn g c = subst (λ a. IfOk c.painted_by_artists.result (λ p. IsDrawn a c.args.script p.script)) (sym c.in-Some.is) c.painted_by_artists.ensures.drawn
-
-pub returns-in-Some-clause-lead : goal.returns-in-Some-clause-lead
-returns-in-Some-clause-lead g c = subst (λ a. IfOk c.painted_by_artists.result (λ p. p.lead.items ≡ lead a p.script)) (sym c.in-Some.is) c.painted_by_artists.ensures.lead
-
-pub returns-in-Some-clause-shows : goal.returns-in-Some-clause-shows
-returns-in-Some-clause-shows g c =
-    let fit = fit_of _ _ _ c.in-Some.is c.args.asked.now.fit in
-    IfOk-weaker c.painted_by_artists.result _ _ (λ p h. shows_fit c.args.asked.now.choice.emit c.in-Some.artists _ _ _ fit h) c.painted_by_artists.ensures.shows
-
-pub returns-in-Some-clause-outcomes : goal.returns-in-Some-clause-outcomes
-returns-in-Some-clause-outcomes g c = IfOk-weaker c.painted_by_artists.result _ _ (λ p h. h.outcomes_are) c.painted_by_artists.ensures.shows
-
-pub returns-in-None-clause-drawn : goal.returns-in-None-clause-drawn
-returns-in-None-clause-drawn g c = subst (λ a. IfOk c.painted_by_crew.result (λ p. IsDrawn a c.args.script p.script)) (sym c.in-None.is) c.painted_by_crew.ensures.drawn
-
-pub returns-in-None-clause-lead : goal.returns-in-None-clause-lead
-returns-in-None-clause-lead g c = subst (λ a. IfOk c.painted_by_crew.result (λ p. p.lead.items ≡ lead a p.script)) (sym c.in-None.is) c.painted_by_crew.ensures.lead

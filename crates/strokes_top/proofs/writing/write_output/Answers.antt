@@ -14,7 +14,7 @@ write_log-requires g c =
 
 pub write_frames-requires : goal.write_frames-requires
 write_frames-requires g c = record {
-  room = room_each _ _ _ (room_of c.args.emit _ _ c.in-Picture.is c.requires.room) (sides_of c.args.emit _ _ _ c.requires.shows);
+  room = room_each _ _ _ (room_of c.args.emit _ _ c.in-Picture.is c.requires.room) (sides_of c.args.emit _ _ _ c.in-Picture.is c.requires.shows);
 }
 
 pub returns-in-Picture-clause-ok : goal.returns-in-Picture-clause-ok
