@@ -14,3 +14,5 @@ mod rows;
 mod runs;
 #[cfg(test)]
 mod texts;
+#[cfg(test)]
+mod traced;

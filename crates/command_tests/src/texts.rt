@@ -73,7 +73,7 @@ const FAULTS: [(&[u8], &[u8]); 20] = [
 ];
 
 /// Scripts, the codes of their statuses, and their logs.
-const LOGS: [(&[u8], u8, &[u8]); 15] = [
+pub const LOGS: [(&[u8], u8, &[u8]); 15] = [
     (b"canvas 1 1\nexport\n", 0, b"1 export done\n"),
     (
         b"canvas 3 1\nlayer 1 0 0\nstroke 1 1\nblur 1 con 0 0 1 1 1\nblur 1 con 2 0 1 1 1\nend 1\n",
@@ -168,7 +168,7 @@ const SUMS: [(&[u8], u8, &[u8]); 3] = [
 
 /// What is told where the words aren't those of the command.
 const USAGE: &[u8] =
-    b"strokes: usage: strokes [--workers N] [--emit picture|log|sum|live] [--demo NUMBER] [--artists N]\n";
+    b"strokes: usage: strokes [--workers N] [--emit picture|log|sum|trace|live] [--demo NUMBER] [--replay] [--artists N]\n";
 
 #[test]
 fn bad_lines(rt: HostRuntime) -> Result<(), Fail> {
@@ -251,7 +251,13 @@ fn usage(rt: HostRuntime) -> Result<(), Fail> {
         "--workers",
         "--demo 4294967296",
         "--demo one",
-        "--emit trace",
+        "--emit traces",
+        "--replay 1",
+        "--replay --replay",
+        "--replay --demo 1",
+        "--replay --emit trace",
+        "--replay --artists 1",
+        "--emit trace --artists 1",
         "--artists 0",
         "--artists 17",
         "--artists",
