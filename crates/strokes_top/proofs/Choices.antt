@@ -114,7 +114,7 @@ told_ok (Err f) o e = tt
 
 -- what a reading of a flag's text tells
 pub flag_told : (o : Option Text) (flag : Option Bool) → (o ≡ None → ◌≡◌ {A = Result (Option Bool) ParseBoolError} (Ok flag) (Ok None))
-    → ((t : Text) → o ≡ Some t → TriesOne ParsesBool t (Ok flag)) → Some (unwrap_or flag false) ≡ flag_of o
+    → ((t : Text) → o ≡ Some t → TriesOne {T = Bool} {E = ParseBoolError} ParsesBool t (Ok flag)) → Some (unwrap_or flag false) ≡ flag_of o
 flag_told None flag none value =
     let same : ◌≡◌ {A = Result (Option Bool) ParseBoolError} (Ok flag) (Ok None) = none refl in
     let is : flag ≡ None = cc in
@@ -131,7 +131,7 @@ unequal a b h = go (bytes_eq a b) refl
     go true is = absurd (h ((bytes_eq-Decides a b).0 is))
 
 pub flag_untold : (o : Option Text) (e : ParseBoolError) → (o ≡ None → ◌≡◌ {A = Result (Option Bool) ParseBoolError} (Err e) (Ok None))
-    → ((t : Text) → o ≡ Some t → TriesOne ParsesBool t (Err e)) → None ≡ flag_of o
+    → ((t : Text) → o ≡ Some t → TriesOne {T = Bool} {E = ParseBoolError} ParsesBool t (Err e)) → None ≡ flag_of o
 flag_untold None e none value =
     let bad : ◌≡◌ {A = Result (Option Bool) ParseBoolError} (Err e) (Ok None) = none refl in
     cc

@@ -37,6 +37,10 @@ module _ (start : ℕ) (before now : Option (List ℕ)) (count : ℕ) (c : IsCou
   pub at_most_in_all : (limit : ℕ) → count ≤ limit → ConsumesAtMost (limit - count) now next → ConsumesAtMost (limit - start) before next
   at_most_in_all limit few m = (c.got ++ m.0, Consumes-trans before now next c.got m.0 c.consumed m.1, omega (arith, length-append c.got m.0, c.size, m.2))
 
+-- what was read is so many bytes
+pub gathered_counted : (before now : Option (List ℕ)) (bytes : List ℕ) (count : ℕ) → Consumes before now bytes → count ≡ length bytes → IsCounted 0 before now count
+gathered_counted before now bytes count h is = record { got = bytes; consumed = h; size = omega (arith, is) }
+
 -- what was read of a source, with a fault that stays its first, and then all the rest
 pub faulty_source : (before now next : Option (List ℕ)) (got : List ℕ) (limit : ℕ) (f told : ScriptFault) → f ≡ told → Consumes before now got → ((more : List ℕ) → fault (got ++ more) ≡ Some f) → ConsumesAtMost limit now next → IsAtEnd next → WasRead before next (HasFault told)
 faulty_source before now next got limit f told same h bad m end = (got ++ m.0, Consumes-trans before now next got m.0 h m.1, end, bad m.0 ∙ ap Some same)
