@@ -26,7 +26,7 @@ pub enum Line {
 }
 
 /// Why a trace is refused.
-#[derive(Clone, Copy, PartialEq, Eq)]
+#[derive(Clone, Copy, Debug, PartialEq, Eq)]
 pub enum TraceCause {
     /// The line is of no form.
     BadLine,
