@@ -45,14 +45,6 @@ impl Replayed {
     {
         self.script
     }
-
-    /// The same, given away.
-    pub fn into_script(self) -> Script
-        ensures { result ≡ self }
-    {
-        let Replayed { script } = self;
-        script
-    }
 }
 
 /// A machine as the first two lines say, its canvas, and what stands behind them.
