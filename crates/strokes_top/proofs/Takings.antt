@@ -1,16 +1,17 @@
 -- A source whose bytes are taken while they come in.
-use Rattle.std.proofs.Common.{◌≡◌, ℕ, ◌+◌, ◌≤◌, List, [], ◌++◌, length, length-append, length-take-le, take, Option, refl, ap₂, arith}
+use Rattle.std.proofs.Common.{◌≡◌, ℕ, ◌+◌, ◌≤◌, List, [], ◌++◌, length, length-append, length-take-le, take, Option, true, refl, sym, subst, ap₂, arith}
 use Rattle.std.specs.Io.KnownBytes.{Consumes}
 use Rattle.std.proofs.KnownBytes.{Consumes-nil, Consumes-trans}
 use Rattle.script_lines.specs.declared.cause.Cause.{Cause}
 use Rattle.script_text.specs.declared.script.ScriptFault.{ScriptFault}
 use Rattle.strokes_top.specs.declared.intake.Intake.{Intake}
+use Rattle.strokes_top.specs.declared.status.Status.{Status}
 use Rattle.strokes_top.specs.declared.status.Status.TheVariants as status
 use Rattle.strokes_top.specs.declared.transfer.ReadError.{ReadError}
 use Rattle.strokes_top.specs.declared.transfer.ReadError.TheVariants as read
-use Rattle.strokes_top.specs.Run.{ConsumesAtMost}
+use Rattle.strokes_top.specs.Run.{ConsumesAtMost, WasRead}
 use Rattle.strokes_top.specs.Intakes.{HasTaken}
-use Rattle.strokes_top.specs.Ends.{of_read}
+use Rattle.strokes_top.specs.Ends.{of_read, is_of_read, is_of_replay, is_of_trace}
 use Rattle.strokes_top.proofs.Transfers.{IsCounted, more_counted}
 
 -- so many bytes of a source were read, and the intake has taken them
@@ -54,3 +55,30 @@ same_fault f line cause e =
     let same_line : f.line ≡ line = cc in
     let same_cause : f.cause ≡ cause = cc in
     ap₂ (λ (n : ℕ) (c : Cause). let g : ScriptFault = record { line = n; cause = c } in g) same_line same_cause
+
+-- what may come of reading a trace may come of its parts
+pub read_of_trace : (s : Status) → is_of_read s ≡ true → is_of_trace s ≡ true
+read_of_trace status.ReadFault h = refl
+read_of_trace status.TooLong h = refl
+read_of_trace status.NoMemory h = refl
+read_of_trace status.Done h = cc
+read_of_trace status.DoneWithRefusals h = cc
+read_of_trace status.Usage h = cc
+read_of_trace (status.Script line cause) h = cc
+read_of_trace status.WriteFault h = cc
+read_of_trace (status.Trace line cause) h = refl
+
+pub replay_of_trace : (s : Status) → is_of_replay s ≡ true → is_of_trace s ≡ true
+replay_of_trace (status.Trace line cause) h = refl
+replay_of_trace status.NoMemory h = refl
+replay_of_trace status.ReadFault h = cc
+replay_of_trace status.TooLong h = cc
+replay_of_trace status.Done h = cc
+replay_of_trace status.DoneWithRefusals h = cc
+replay_of_trace status.Usage h = cc
+replay_of_trace (status.Script line cause) h = cc
+replay_of_trace status.WriteFault h = cc
+
+-- what was read and gives a script
+pub read_gives : (before after : Option (List ℕ)) (bytes : List ℕ) (P : List ℕ → Type 0) → WasRead before after (λ b. b ≡ bytes) → P bytes → WasRead before after P
+read_gives before after bytes P r h = (r.0, r.1, r.2, subst P (sym r.3) h)

@@ -15,15 +15,6 @@ is_script (Script line cause) = true
 is_script (Trace line cause) = true
 is_script s = false
 
--- whether taking the script may end so
-abbrev pub is_of_script : Status → Bool
-is_of_script (Script line cause) = true
-is_of_script (Trace line cause) = true
-is_of_script ReadFault = true
-is_of_script TooLong = true
-is_of_script NoMemory = true
-is_of_script s = false
-
 -- whether reading all of a source may end so
 abbrev pub is_of_read : Status → Bool
 is_of_read ReadFault = true
@@ -31,11 +22,26 @@ is_of_read TooLong = true
 is_of_read NoMemory = true
 is_of_read s = false
 
+-- whether reading a script may end so
+abbrev pub is_of_script : Status → Bool
+is_of_script (Script line cause) = true
+is_of_script s = is_of_read s
+
 -- whether checking a trace may end so
+abbrev pub is_of_replay : Status → Bool
+is_of_replay (Trace line cause) = true
+is_of_replay NoMemory = true
+is_of_replay s = false
+
+-- whether reading and checking one may end so
 abbrev pub is_of_trace : Status → Bool
 is_of_trace (Trace line cause) = true
-is_of_trace NoMemory = true
-is_of_trace s = false
+is_of_trace s = is_of_read s
+
+-- whether taking the script may end so
+abbrev pub is_of_taking : Status → Bool
+is_of_taking (Trace line cause) = true
+is_of_taking s = is_of_script s
 
 -- whether painting and writing may end so
 abbrev pub is_painted : Status → Bool

@@ -6,7 +6,7 @@ ghost use Rattle.script_lines.specs.declared.cause.Cause.{Cause};
 ghost use Rattle.trace_forms.specs.declared.line.TraceCause.{TraceCause};
 ghost use Rattle.strokes_top.specs.Run.{WasRead, Gives, IsOf, limit_of, ConsumesMore, ConsumesAtMost};
 ghost use Rattle.strokes_top.specs.Parts.{IsGood, HasFault, HasTraceFault, IsRefused, IsRefusedTrace};
-ghost use Rattle.strokes_top.specs.Ends.{is_of_read, is_of_trace, is_of_script};
+ghost use Rattle.strokes_top.specs.Ends.{is_of_read, is_of_script, is_of_replay, is_of_trace, is_of_taking};
 
 use crate::choice::Choice;
 use crate::intake::Intake;
@@ -114,7 +114,7 @@ fn replayed(alloc: Global, bytes: &[u8]) -> Result<Script, Status>
     requires { length bytes.now ≤ TRACE_LIMIT }
     ensures ok { IfOk result (λ s. Gives true (λ t. t ≡ s) bytes.now) }
     ensures trace { (line : ℕ) (cause : TraceCause) → IsErrOf result (Status.Trace line cause) → HasTraceFault (record { line = line; cause = cause }) bytes.now }
-    ensures statuses { IfErr result (λ status. is_of_trace status ≡ true) }
+    ensures statuses { IfErr result (λ status. is_of_replay status ≡ true) }
 {
     let replayed = replay(alloc, bytes)?;
     Ok(replayed.into_script())
@@ -131,7 +131,7 @@ fn read_trace<S: Source>(alloc: Global, source: &mut S) -> Result<Script, Status
     ensures within_limit { result ≢ Err Status.TooLong → ConsumesAtMost TRACE_LIMIT (S.left source.old) (S.left source.new) }
     ensures read_fault { IsErrOf result Status.ReadFault → Rose (S.faults source.old) (S.faults source.new) }
     ensures later { S.faults source.old ≤ S.faults source.new }
-    ensures statuses { IfErr result (λ status. is_of_script status ≡ true) }
+    ensures statuses { IfErr result (λ status. is_of_trace status ≡ true) }
 {
     let Ok(mut chunk) = vec![in alloc; 0u8; CHUNK] else {
         return Err(Status::NoMemory);
@@ -152,7 +152,7 @@ fn read_given<S: Source>(alloc: Global, replays: bool, source: &mut S) -> Result
     ensures within_limit { result ≢ Err Status.TooLong → ConsumesAtMost (limit_of replays) (S.left source.old) (S.left source.new) }
     ensures read_fault { IsErrOf result Status.ReadFault → Rose (S.faults source.old) (S.faults source.new) }
     ensures later { S.faults source.old ≤ S.faults source.new }
-    ensures statuses { IfErr result (λ status. is_of_script status ≡ true) }
+    ensures statuses { IfErr result (λ status. is_of_taking status ≡ true) }
 {
     if replays {
         read_trace(alloc, source)
@@ -178,7 +178,7 @@ pub(crate) fn take_script<S: Source>(
     ensures within_limit { result ≢ Err Status.TooLong → ConsumesAtMost (limit_of choice.now.replay) (S.left source.old) (S.left source.new) }
     ensures read_fault { IsErrOf result Status.ReadFault → Rose (S.faults source.old) (S.faults source.new) }
     ensures later { S.faults source.old ≤ S.faults source.new }
-    ensures statuses { IfErr result (λ status. is_of_script status ≡ true) }
+    ensures statuses { IfErr result (λ status. is_of_taking status ≡ true) }
     ensures left { is_some choice.now.demo ≡ true → S.left source.new ≡ S.left source.old }
     ensures faults { is_some choice.now.demo ≡ true → S.faults source.new ≡ S.faults source.old }
 {
