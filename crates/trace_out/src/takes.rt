@@ -24,7 +24,6 @@ use trace_forms::Line;
 use trace_text::add_line;
 
 /// Whether something was taken.
-#[derive(Clone, Copy, Debug, PartialEq, Eq)]
 pub(crate) enum Took {
     /// An event was made.
     Something,
@@ -96,6 +95,7 @@ impl Scribe {
             job,
             work,
             shot,
+            since: _,
         } = ticket;
         let painter = Painter {
             serial: slot.serial,

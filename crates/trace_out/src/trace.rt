@@ -4,6 +4,8 @@ ghost use Rattle.std.specs.Prelude.{◌≡◌, ◌≤◌, ◌<◌, ◌-◌, ◌^
 ghost use Rattle.std.specs.List.{list_all};
 ghost use Rattle.doc_model.specs.Lawful.{is_closed_entry};
 ghost use Rattle.doc_model.specs.Strokes.{entries};
+ghost use Rattle.doc_model.specs.Meaning.{meaning};
+ghost use Rattle.script_text.specs.Script.{meaning_of};
 ghost use Rattle.machine_model.specs.State.{IsSettled, is_free};
 ghost use Rattle.trace_out.specs.Writing.{IsTied, Writes};
 ghost use Rattle.trace_out.specs.Goes.{GoesOnWriting, SettlesWriting, MayRest};
@@ -12,6 +14,8 @@ ghost use Rattle.trace_out.specs.Traces.{IsTraceOf};
 use crate::scribe::Scribe;
 use crate::takes::Took;
 use demo_gen::draw;
+use desk_core::settled_has_meaning;
+use doc_model::Outcome;
 use geom_core::NoMemory;
 use memento_core::Steps;
 use script_text::Script;
@@ -125,17 +129,25 @@ fn settle<L: Ledger>(
     }
 }
 
-/// A trace of the script on a desk of that many slots, 1 to 17. Whether the next command is fed,
-/// something is taken from the desk or a tile of what was taken is published is drawn, so that the order
-/// is mixed; a script and a number of slots have always the same trace.
+/// A trace of a script, and the outcomes of its entries, in order.
+#[derive(Drop)]
+pub struct Traced {
+    pub text: Vec<u8>,
+    pub outcomes: Vec<Outcome>,
+}
+
+/// A trace of the script on a desk of that many slots, 1 to 17, and what the script's entries came to. Whether
+/// the next command is fed, something is taken from the desk or a tile of what was taken is published is drawn,
+/// so that the order is mixed; a script and a number of slots have always the same trace.
 ///
 /// # Errors
 /// `NoMemory` where no memory is left.
-pub fn trace_of(alloc: Global, script: &Script, slots: u8) -> Result<Vec<u8>, NoMemory>
+pub fn trace_of(alloc: Global, script: &Script, slots: u8) -> Result<Traced, NoMemory>
     requires some { 1 ≤ slots }
     requires few { slots ≤ 17 }
     requires commands { length script.now.commands ≤ 2 ^ 32 - 1 }
-    ensures { IfOk result (λ v. IsTraceOf script.now slots v.items) }
+    ensures trace { IfOk result (λ t. IsTraceOf script.now slots t.text.items) }
+    ensures outcomes { IfOk result (λ t. t.outcomes.items ≡ (meaning_of script.now).outcomes) }
 {
     trace_on::<Brand>(alloc, script, slots, Blank::new(1))
 }
@@ -146,14 +158,15 @@ fn trace_on<L: Ledger>(
     script: &Script,
     slots: u8,
     blank: Blank,
-) -> Result<Vec<u8>, NoMemory>
+) -> Result<Traced, NoMemory>
     requires some { 1 ≤ slots }
     requires few { slots ≤ 17 }
     requires commands { length script.now.commands ≤ 2 ^ 32 - 1 }
     requires name { blank.name ≡ L.name }
     requires parts { blank.parts ≡ L.parts }
     requires blank { 0 < blank.parts }
-    ensures { IfOk result (λ v. IsTraceOf script.now slots v.items) }
+    ensures trace { IfOk result (λ t. IsTraceOf script.now slots t.text.items) }
+    ensures outcomes { IfOk result (λ t. t.outcomes.items ≡ (meaning_of script.now).outcomes) }
 {
     let mut steps = Steps::<L>::new(blank);
     let _known = script.commands();
@@ -161,6 +174,20 @@ fn trace_on<L: Ledger>(
     let mut draws = 0;
     feed_all(&mut scribe, script, &mut draws, &mut steps)?;
     settle(&mut scribe, &mut draws, &mut steps)?;
-    let Scribe { out, .. } = scribe;
-    Ok(out)
+    Ok(traced_of(scribe))
+}
+
+/// What was written of a desk that is settled, and what its entries came to.
+fn traced_of(scribe: Scribe) -> Traced
+    requires { IsSettled scribe.desk }
+    ensures text { result.text.items ≡ scribe.out.items }
+    ensures outcomes { result.outcomes.items ≡ (meaning scribe.desk.canvas (entries scribe.desk.fed)).outcomes }
+{
+    settled_has_meaning(&scribe.desk);
+    let Scribe { desk, out, .. } = scribe;
+    let (_film, outcomes) = desk.into_results();
+    Traced {
+        text: out,
+        outcomes,
+    }
 }

@@ -2,9 +2,9 @@ use Rattle.std.proofs.Common.{◌<◌, Ok, refl, ap, ◌∙◌, arith}
 use Rattle.desk_parts.specs.After.{busy_walker}
 use Rattle.trace_out.specs.Lent.{walk_of}
 use Rattle.trace_out.proofs.Ties.{lent_runs}
-use Rattle.trace_out.proofs.Works.{walk_takes}
+use Rattle.trace_out.proofs.Enabling.{walk_takes}
 use Rattle.trace_out.proofs.Tiles.{pair_written, pair_lent}
-use Rattle.trace_out.proofs.works.Scribe.put.Goals as goal
+use Rattle.trace_out.proofs.scribe.Scribe.put.Goals as goal
 
 pub unreachable-requires : goal.unreachable-requires
 unreachable-requires c = c.publish_walk.ensures.refused (c.in_ok-publish_walk.was ∙ ap Ok c.in-Nothing.is)

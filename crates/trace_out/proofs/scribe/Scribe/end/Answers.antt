@@ -2,7 +2,7 @@ use Rattle.std.proofs.Common.{sym}
 use Rattle.trace_out.proofs.Fits.{place_fits}
 use Rattle.trace_out.proofs.Going.{orderly_by}
 use Rattle.trace_out.proofs.AtOnce.{end_written}
-use Rattle.trace_out.proofs.works.Scribe.end.Goals as goal
+use Rattle.trace_out.proofs.scribe.Scribe.end.Goals as goal
 
 pub unreachable-requires : goal.unreachable-requires
 unreachable-requires c = c.end.ensures.refused c.in-Nothing.is c.requires.may

@@ -4,7 +4,7 @@ use Rattle.slot_core.specs.Busy.{busy}
 use Rattle.script_lines.proofs.FieldLemmas.{both}
 use Rattle.desk_parts.specs.declared.work.Work.TheVariants.{Walk}
 use Rattle.trace_out.specs.Writing.{IsTied}
-use Rattle.trace_out.proofs.takes.Scribe.hold_walk.Goals as goal
+use Rattle.trace_out.proofs.scribe.Scribe.hold_walk.Goals as goal
 
 pub put-requires : goal.put-requires
 put-requires c = c.requires.lent.empty

@@ -4,7 +4,7 @@ use Rattle.trace_out.proofs.Taken.{lent_job, lent_walk}
 use Rattle.trace_out.proofs.Fits.{place_fits, waiting_small}
 use Rattle.trace_out.proofs.Going.{orderly_by, took_work}
 use Rattle.trace_out.proofs.AtOnce.{did_written}
-use Rattle.trace_out.proofs.takes.Scribe.take.Goals as goal
+use Rattle.trace_out.proofs.scribe.Scribe.take.Goals as goal
 
 pub hold_job-requires-clause-some : goal.hold_job-requires-clause-some
 hold_job-requires-clause-some g c = let n = (c.take.ensures.paint c.in-Paint.ticket (c.in_ok-take.was ∙ ap Ok c.in-Paint.is)).1.number in omega (arith, n)
