@@ -1,5 +1,5 @@
-//! Tests of scripts: what their texts are read as, how they are printed, generated ones, and the bytes of
-//! pictures. They stand above the crates that they test, so that each of those is proved once.
+//! Tests of scripts: what their texts are read as, how they are printed, generated ones, the bytes of pictures,
+//! and traces. They stand above the crates that they test, so that each of those is proved once.
 #![tactic(auto)]
 
 #[cfg(test)]
@@ -12,3 +12,5 @@ mod generated;
 mod pictures;
 #[cfg(test)]
 mod scripts;
+#[cfg(test)]
+mod traces;

@@ -14,8 +14,6 @@ mod refusal;
 mod replaying;
 mod slot;
 mod strokes;
-#[cfg(test)]
-mod tests;
 mod tiles;
 mod walker;
 mod walks;

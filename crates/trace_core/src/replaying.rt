@@ -40,10 +40,10 @@ impl Model for Replayed {
 
 impl Replayed {
     /// The canvas and the commands that were fed.
-    pub fn script(&self) -> &Script
-        ensures { result.now ≡ self.now }
+    pub fn into_script(self) -> Script
+        ensures { result ≡ self }
     {
-        &self.script
+        self.script
     }
 }
 

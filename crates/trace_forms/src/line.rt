@@ -4,7 +4,7 @@ use doc_model::{Command, Patch};
 use geom_core::TileKey;
 
 /// What a line of a trace says. Slots are told by their places, from 0 on.
-#[derive(Clone, Copy, Debug)]
+#[derive(Clone, Copy)]
 pub enum Line {
     /// The command is fed.
     Feed(Command),
@@ -37,7 +37,6 @@ pub enum TraceCause {
 }
 
 /// The first line that is refused, and why.
-#[derive(Clone, Copy, Debug, PartialEq, Eq)]
 pub struct TraceFault {
     /// The line's number, from 1 on.
     pub line: u32,
