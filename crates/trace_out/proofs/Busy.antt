@@ -27,10 +27,7 @@ busy_at held s place (Some w) tie h e = go (slice_get held place) refl h
     go : (v : Option (Option (Busy Work))) → slice_get held place ≡ v → Some w.now ≡ work_in v → IsSomeAnd (slice_get s.slots place) (λ slot. is_free slot ≡ false)
     go None is k = cc
     go (Some None) is k = cc
-    go (Some (Some b)) is k = subst (λ v. IsSomeAnd v (λ slot. is_free slot ≡ false)) (sym (ap option_slot is) ∙ sym (slice_get-map slot_of held place) ∙ ap (λ l. slice_get l place) tie.slots) (busy_slot b)
-      where
-        abbrev option_slot : Option (Option (Busy Work)) → Option Slot
-        option_slot = option_map slot_of
+    go (Some (Some b)) is k = subst (λ v. IsSomeAnd v (λ slot. is_free slot ≡ false)) (sym (ap (option_map slot_of) is) ∙ sym (slice_get-map slot_of held place) ∙ ap (λ l. slice_get l place) tie.slots) (busy_slot b)
 
 -- no place was left out
 pub all_passed : (xs : List Slot) (n : ℕ) → length xs ≤ n → list_all is_free (drop n xs) ≡ true
