@@ -26,4 +26,4 @@ pub returns-clause-step : goal.returns-clause-step
 returns-clause-step c = subst (λ k. Step c.args.desk.now (Publish c.args.place k) c.publish.new.self) c.in_ok-painted.ensures.key (c.publish.ensures.stored (c.in_ok-publish.was ∙ ap Ok c.in-Stored.is))
 
 pub returns-clause-world : goal.returns-clause-world
-returns-clause-world c = subst IsWorldKey c.in_ok-painted.ensures.key c.key.ensures.known.key_is
+returns-clause-world c = subst IsWorldKey c.in_ok-painted.ensures.key c.key-known.ensures.known.key_is

@@ -8,4 +8,4 @@ pub unreachable-requires : goal.unreachable-requires
 unreachable-requires c = c.end.ensures.refused c.in-Nothing.is c.requires.may
 
 pub returns : goal.returns
-returns c = end_written c.args.self.now.desk c.args.slot.place c.requires.work c.args.self.now.out.items (record c.args.self.now { desk = c.end.new.self; out = c.add_line.new.out }) c.requires.lent (place_fits c.args.self.now.desk c.args.slot.place _ (orderly_by c.requires.lent.tied) c.requires.may.here) (c.end.ensures.done c.in-Done.is) c.in_ok-add_line.ensures
+returns c = end_written c.args.self.now.desk c.args.slot.place c.requires.work c.args.self.now.out.items (record c.args.self.now { desk = c.end.new.self; out = c.add_line.new.out }) c.requires.lent (place_fits c.args.self.now.desk c.args.slot.place _ (orderly_by c.requires.lent.tied) c.requires.may.here) (c.end.ensures.done c.in-Done.is) c.in_ok-add_line-in-Done.ensures
