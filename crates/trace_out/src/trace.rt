@@ -149,7 +149,8 @@ pub fn trace_of(alloc: Global, script: &Script, slots: u8) -> Result<Traced, NoM
     ensures trace { IfOk result (λ t. IsTraceOf script.now slots t.text.items) }
     ensures outcomes { IfOk result (λ t. t.outcomes.items ≡ (meaning_of script.now).outcomes) }
 {
-    trace_on::<Brand>(alloc, script, slots, Blank::new(1))
+    let traced = trace_on::<Brand>(alloc, script, slots, Blank::new(1))?;
+    Ok(traced)
 }
 
 /// The same, with a count of exchanged tiles on that ledger.

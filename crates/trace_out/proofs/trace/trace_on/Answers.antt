@@ -13,8 +13,8 @@ use Rattle.trace_out.proofs.Whole.{from_new, is_trace, limits_of}
 use Rattle.trace_out.proofs.Feeding.{closed_in}
 use Rattle.trace_out.proofs.trace.trace_on.Goals as goal
 
-pub new-scribe-requires-clause-canvas : goal.new-scribe-requires-clause-canvas
-new-scribe-requires-clause-canvas g c = limits_of c.args.script.now c.commands-known.ensures.script c.canvas.ensures
+pub new-requires-clause-canvas : goal.new-requires-clause-canvas
+new-requires-clause-canvas g c = limits_of c.args.script.now c.commands-known.ensures.script c.canvas.ensures
 
 pub feed_all-requires-clause-none : goal.feed_all-requires-clause-none
 feed_all-requires-clause-none g c = ap (λ (s : State). s.fed) c.in_ok-scribe.ensures.state

@@ -10,4 +10,4 @@ pub returns-then-is_some-clause-some : goal.returns-then-is_some-clause-some
 returns-then-is_some-clause-some c = busy_at c.args.self.now.held c.args.self.now.desk c.args.place c.work.result c.requires c.work.ensures (sym c.is_some.ensures ∙ c.if-is_some.true)
 
 pub loop-p-preserved : goal.loop-p-preserved
-loop-p-preserved c = free_next c.args.self.now.held c.loop-p.p c.work-in-loop-p.result c.work-in-loop-p.ensures (sym c.is_some-in-loop-p.ensures ∙ c.if-is_some-in-loop-p.false) c.loop-p.invariant
+loop-p-preserved c = free_next c.args.self.now.held c.loop-p.p c.work-in-loop-p.result c.work-in-loop-p.ensures (sym c.is_some-in-loop-p.ensures ∙ c.if-is_some-2.false) c.loop-p.invariant
