@@ -1,4 +1,4 @@
 use Rattle.trace_out.proofs.trace.trace_of.Given as goal
 
-abbrev pub ghosts-settle : goal.ghosts-settle
-ghosts-settle a = record { name = a.blank.name; parts = a.blank.parts }
+abbrev pub ghosts-trace_on : goal.ghosts-trace_on
+ghosts-trace_on a = record { name = a.blank.name; parts = a.blank.parts }
