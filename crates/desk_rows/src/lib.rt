@@ -21,3 +21,5 @@ mod scripts;
 mod tickets;
 #[cfg(test)]
 mod told;
+#[cfg(test)]
+mod traced;

@@ -2,6 +2,7 @@
 use Rattle.std.proofs.Common.{◌≡◌, ℕ, Bool, true, false, List, [], ◌∷◌, ◌++◌, Option, Some, Result, Ok, Err, refl, sym, ap, ◌∙◌, arith}
 use Rattle.std.specs.Prelude.{slice_set}
 use Rattle.std.proofs.lemmas.Bool.Decides.{nat_tests}
+use Rattle.doc_model.specs.declared.command.Outcome.TheVariants as outcome
 use Rattle.doc_model.specs.declared.tree.TreeFault.{TreeFault}
 use Rattle.doc_model.specs.Layers.{plain}
 use Rattle.doc_model.specs.Changes.{changed}
@@ -13,7 +14,7 @@ use Rattle.machine_model.specs.Event.{Event}
 use Rattle.machine_model.specs.Step.{Step}
 use Rattle.machine_model.specs.MeaningLaws.{is_feed}
 use Rattle.machine_model.specs.Guards.{is_paint}
-use Rattle.machine_model.specs.Effects.{moved_to, after_change, after_undo, after_redo, after_entry, after_finish}
+use Rattle.machine_model.specs.Effects.{with_outcome, moved_to, after_change, after_undo, after_redo, after_entry, after_finish}
 use Rattle.slot_core.specs.declared.Busy.{Busy}
 use Rattle.desk_parts.specs.declared.work.Work.{Work}
 use Rattle.desk_parts.specs.Choices.{is_done_at_once, DoesAtOnce}
@@ -40,11 +41,11 @@ change_slots s (Err fault) = refl
 
 undo_slots : (s : State) (past : List (Doc × Reach)) → (after_undo s past).slots ≡ s.slots
 undo_slots s [] = refl
-undo_slots s (e ∷ past) = moved_slots _ e.0 e.1
+undo_slots s (e ∷ past) = moved_slots (record (with_outcome s outcome.Done) { past = past; future = (s.base, e.1) ∷ s.future }) e.0 e.1
 
 redo_slots : (s : State) (future : List (Doc × Reach)) → (after_redo s future).slots ≡ s.slots
 redo_slots s [] = refl
-redo_slots s (e ∷ future) = moved_slots _ e.0 e.1
+redo_slots s (e ∷ future) = moved_slots (record (with_outcome s outcome.Done) { past = (s.base, e.1) ∷ s.past; future = future }) e.0 e.1
 
 entry_slots : (s : State) (e : Entry) → (after_entry s e).slots ≡ s.slots
 entry_slots s (Strokes stroke) = refl

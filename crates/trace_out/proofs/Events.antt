@@ -64,16 +64,13 @@ one_written es s t e before after r h fit text = record {
 pub none_written : (s t : State) (before after : List ℕ) → t ≡ s → after ≡ before → Writes s before t after
 none_written s t before after e h = record { lines = []; fit = refl; leads = ap Some (sym e); text = h ∙ sym (append-nil before); canvas = ap (λ (u : State). u.canvas) e }
 
+led_step : (o : Option State) (t u : State) (ls ms : List Line) → ((v : State) → led_to v ls ≡ Some t → led_to v (ls ++ ms) ≡ Some u) → option_and_then (λ v. led_to v ls) o ≡ Some t → option_and_then (λ v. led_to v (ls ++ ms)) o ≡ Some u
+led_step None t u ls ms further e = cc
+led_step (Some v) t u ls ms further e = further v e
+
 led_through : (s t u : State) (ls ms : List Line) → led_to s ls ≡ Some t → led_to t ms ≡ Some u → led_to s (ls ++ ms) ≡ Some u
 led_through s t u [] ms e h = let same : s ≡ t = cc in ap (λ v. led_to v ms) same ∙ h
-led_through s t u (l ∷ ls) ms e h = by (happens s l) e
-  where
-    by : (o : Option State) → option_and_then (λ v. led_to v ls) o ≡ Some t → option_and_then (λ v. led_to v (ls ++ ms)) o ≡ Some u
-    by None f = absurd (no f)
-      where
-        no : {A : Type 0} {x : A} → ◌≡◌ {A = Option A} None (Some x) → ⊥
-        no f = cc
-    by (Some v) f = led_through v t u ls ms f h
+led_through s t u (l ∷ ls) ms e h = led_step (happens s l) t u ls ms (λ v f. led_through v t u ls ms f h) e
 
 all_both : (ls ms : List Line) → list_all line_in_range ls ≡ true → list_all line_in_range ms ≡ true → list_all line_in_range (ls ++ ms) ≡ true
 all_both [] ms h k = k

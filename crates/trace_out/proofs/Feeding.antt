@@ -1,7 +1,8 @@
 -- Commands are fed one after another.
-use Rattle.std.proofs.Common.{◌≡◌, ℕ, suc, zero, ◌+◌, ◌<◌, ◌≤◌, true, ◌&&◌, List, [], ◌∷◌, ◌++◌, take, length, Some, refl, sym, ap, ◌∙◌, subst}
+use Rattle.std.proofs.Common.{◌≡◌, ℕ, suc, zero, ◌+◌, ◌<◌, ◌≤◌, true, ◌&&◌, List, [], ◌∷◌, ◌++◌, take, length, get_or, Some, refl, sym, ap, ◌∙◌, subst, arith}
 use Rattle.std.specs.Prelude.{slice_get}
 use Rattle.std.specs.List.{list_all}
+use Rattle.std.proofs.lemmas.List.{length-take-le, take_all, take_more}
 use Rattle.script_lines.proofs.FieldLemmas.{first, second}
 use Rattle.doc_model.specs.declared.command.Command.{Command}
 use Rattle.doc_model.specs.Strokes.{Entry, fed, all_fed, entries}
@@ -38,3 +39,15 @@ fed_more s t c step = ap (λ (u : State). u.fed) step.1
 
 pub slots_stay : (s t : State) (c : Command) → Step s (Feed c) t → t.slots ≡ s.slots
 slots_stay s t c step = ap (λ (u : State). u.slots) step.1
+
+-- the commands that were fed, after one more of a list and events that feed none
+pub fed_next : (cs front back : List Command) (i : ℕ) (c : Command) → i < length cs → c ≡ get_or cs i c → front ≡ take i cs → back ≡ front ++ c ∷ [] → back ≡ take (i + 1) cs
+fed_next cs front back i c h at same more = more ∙ ap (λ l. l ++ c ∷ []) same ∙ ap (λ d. take i cs ++ d ∷ []) at ∙ sym (take_more cs i c h)
+
+-- all of a list
+pub all_taken : (cs : List Command) (i : ℕ) → length cs ≤ i → take i cs ≡ cs
+all_taken cs i h = take_all i cs h
+
+-- fewer were fed than a script may have
+pub fed_few : (cs scripted front : List Command) (i : ℕ) → front ≡ take i cs → i < length cs → length cs ≡ length scripted → length scripted ≤ 4294967295 → length front < 4294967295
+fed_few cs scripted front i same h all few = let n : length front ≡ i = ap length same ∙ length-take-le i cs (omega arith) in omega arith

@@ -1,5 +1,7 @@
 -- What a scribe did, by the events.
-use Rattle.std.proofs.Common.{◌≡◌, ℕ, ◌<◌, ◌≤◌, true, false, List, ◌++◌, length, Option, refl, sym, ap, ◌∙◌, subst, arith, length-append}
+use Rattle.std.proofs.Common.{◌≡◌, ℕ, ◌<◌, ◌≤◌, true, false, List, [], ◌∷◌, ◌++◌, length, Option, refl, sym, ap, ◌∙◌, subst, arith, length-append}
+use Rattle.std.specs.Prelude.{not}
+use Rattle.std.specs.List.{list_all}
 use Rattle.machine_model.specs.State.{State}
 use Rattle.machine_model.specs.Event as event
 use Rattle.machine_model.specs.Event.{Event}
@@ -13,12 +15,12 @@ use Rattle.doc_model.specs.declared.command.Command.TheVariants as command
 use Rattle.doc_model.specs.Strokes.{Entry}
 use Rattle.doc_model.specs.Lawful.{may_follow}
 use Rattle.script_forms.specs.Ranges.{is_sound}
-use Rattle.script_lines.proofs.FieldLemmas.{first}
+use Rattle.script_lines.proofs.FieldLemmas.{both, first, second}
 use Rattle.slot_core.specs.declared.Busy.{Busy}
 use Rattle.desk_parts.specs.declared.work.Work.{Work}
 use Rattle.desk_parts.specs.Choices.{is_done_at_once}
 use Rattle.desk_parts.specs.Settles.{Settles, GoesOn}
-use Rattle.desk_parts.proofs.SettlingRuns.{goes_on, goes_less, settles_none, settles_then}
+use Rattle.desk_parts.proofs.SettlingRuns.{goes_on, goes_less, run_then, settles_none, settles_then}
 use Rattle.trace_forms.specs.declared.line.Line.TheVariants as told
 use Rattle.trace_text.specs.Texts.{line_text}
 use Rattle.trace_text.specs.Ranges.{line_in_range}
@@ -65,9 +67,20 @@ put_none s t before after e h = record { settles = settles_none s t e; writes = 
 pub put_more : {s t u : State} {a b c : List ℕ} → SettlesPutting s a t b → GoesOnPutting t b u c → SettlesPutting s a u c
 put_more one two = record { settles = settles_then one.settles two.goes.settles; writes = written_then one.writes two.writes }
 
+none_fed : (es fs : List Event) → list_all (λ e. not (is_feed e)) es ≡ true → list_all (λ e. not (is_feed e)) fs ≡ true → list_all (λ e. not (is_feed e)) (es ++ fs) ≡ true
+none_fed [] fs h k = k
+none_fed (e ∷ es) fs h k = both _ _ (first (not (is_feed e)) (list_all (λ x. not (is_feed x)) es) h) (none_fed es fs (second (not (is_feed e)) (list_all (λ x. not (is_feed x)) es) h) k)
+
 -- at least one event, and others
-pub goes_then : {a b c : State} → GoesOn a b → Settles b c → GoesOn a c
-goes_then {a = a} {b = b} {c = c} one two = record { settles = settles_then one.settles two; some = more one.some }
+goes_then : {a b c : State} → GoesOn a b → Settles b c → GoesOn a c
+goes_then {a = a} {b = b} {c = c} one two = record {
+  settles = record {
+    events = one.settles.events ++ two.events;
+    no_feed = none_fed one.settles.events two.events one.settles.no_feed two.no_feed;
+    run = run_then one.settles.events two.events a b c one.settles.run two.run;
+  };
+  some = more one.some;
+}
   where
     more : 1 ≤ length one.settles.events → 1 ≤ length (one.settles.events ++ two.events)
     more h = simp length-append (omega arith)

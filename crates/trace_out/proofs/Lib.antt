@@ -3,7 +3,7 @@ pub mod Ties
 pub mod Beginning
 pub mod Busy
 pub mod Fits
-pub mod Works
+pub mod Enabling
 pub mod Taken
 pub mod Going
 pub mod Tiles

@@ -14,5 +14,5 @@ pub rests_settled : (s : State) → IsOrderly s → list_all is_closed_entry (en
 rests_settled s orderly closed rest = go (is_settled s) (settled_tells.settled s) (settled_tells.told s)
   where
     go : (b : Bool) → (b ≡ true → IsSettled s) → (IsSettled s → b ≡ true) → IsSettled s
-    go true yes no = yes refl
-    go false yes no = absurd (never_idle s orderly rest.free closed (rest.waits (λ settled. let e : false ≡ true = no settled in cc)))
+    go true settles told = settles refl
+    go false settles told = absurd (never_idle s orderly rest.free closed (rest.waits (λ settled. let e : false ≡ true = told settled in cc)))

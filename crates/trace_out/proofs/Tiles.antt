@@ -23,7 +23,7 @@ use Rattle.trace_out.specs.Lent.{IsLent, IsLentWalk, walk_of}
 use Rattle.trace_out.specs.Goes.{GoesOnWriting, GoesOnPutting}
 use Rattle.trace_out.proofs.Fits.{place_fits, key_fits}
 use Rattle.trace_out.proofs.Ties.{lent_runs, lent_back, lent_still}
-use Rattle.trace_out.proofs.Works.{lent_kept, published_slots, put_slots}
+use Rattle.trace_out.proofs.Enabling.{lent_kept, published_slots, put_slots}
 use Rattle.trace_out.proofs.Going.{orderly_by, event_put}
 
 -- a job with one more tile published

@@ -16,6 +16,7 @@ use Rattle.trace_model.proofs.Turns.{settled_tells}
 use Rattle.trace_forms.specs.Replay.{replay, slots_in}
 use Rattle.trace_text.specs.Texts.{head_text, line_text, trace_text}
 use Rattle.trace_text.specs.Laws.{IsSettlingText}
+use Rattle.trace_text.specs.Leads.{led_to}
 use Rattle.trace_text.proofs.PrintedTraces.{printed_replays}
 use Rattle.trace_out.specs.Writing.{Writes}
 use Rattle.trace_out.specs.Traces.{IsTraceOf}
@@ -46,6 +47,18 @@ is_trace script n t bytes is some few w rests fed = record {
 
     text : bytes ≡ trace_text n script.canvas w.lines
     text = text_is n script.canvas t bytes w
+
+-- what was written since nothing was fed, by the canvas that was given
+pub from_new : {s t : State} {a b : List ℕ} (n : ℕ) (c d : Canvas) → c ≡ d → s ≡ new_state c n → a ≡ head_text n c → Writes s a t b → Writes (new_state d n) (head_text n d) t b
+from_new n c d same new head w =
+    let start = new ∙ ap (λ x. new_state x n) same in
+    record {
+      lines = w.lines;
+      fit = w.fit;
+      leads = ap (λ x. led_to x w.lines) (sym start) ∙ w.leads;
+      text = w.text ∙ ap (λ l. l ++ flat_map line_text w.lines) (head ∙ ap (head_text n) same);
+      canvas = w.canvas ∙ ap (λ (x : State). x.canvas) start;
+    }
 
 at_most : (a b : ℕ) → nat_le a b ≡ true → a ≤ b
 at_most a b h = grind (arith, nat_tests)

@@ -1,10 +1,8 @@
-//! A script as a trace: one order of the events of a desk that does it, by the draws of a generator.
+//! A script as a trace: one order of the events of a desk that does it, as draws of a generator say.
 #![tactic(auto)]
 
 mod scribe;
 mod takes;
-#[cfg(test)]
-mod tests;
 mod trace;
 mod works;
 

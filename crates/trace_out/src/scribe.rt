@@ -1,6 +1,6 @@
 //! A desk whose events are written down as they happen.
 
-ghost use Rattle.std.specs.Prelude.{◌≡◌, ◌≤◌, ◌<◌, ◌-◌, ◌^◌, ◌++◌, ◌∷◌, [], true, IfOk, OnOk, IfSome, IfNone, length, slice_get, Some, IsSomeAnd};
+ghost use Rattle.std.specs.Prelude.{◌≡◌, ◌≤◌, ◌<◌, ◌-◌, ◌^◌, ◌++◌, ◌∷◌, [], true, false, IfOk, OnOk, IfSome, IfNone, length, slice_get, Some, IsSomeAnd};
 ghost use Rattle.std.specs.List.{list_all};
 ghost use Rattle.doc_model.specs.Canvases.{IsOfLimits};
 ghost use Rattle.doc_model.specs.Lawful.{may_follow};

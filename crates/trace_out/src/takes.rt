@@ -24,7 +24,6 @@ use trace_forms::Line;
 use trace_text::add_line;
 
 /// Whether something was taken.
-#[derive(Clone, Copy, Debug, PartialEq, Eq)]
 pub(crate) enum Took {
     /// An event was made.
     Something,

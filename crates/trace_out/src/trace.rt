@@ -4,11 +4,12 @@ ghost use Rattle.std.specs.Prelude.{◌≡◌, ◌≤◌, ◌<◌, ◌-◌, ◌^
 ghost use Rattle.std.specs.List.{list_all};
 ghost use Rattle.doc_model.specs.Lawful.{is_closed_entry};
 ghost use Rattle.doc_model.specs.Strokes.{entries};
+ghost use Rattle.doc_model.specs.Meaning.{meaning};
+ghost use Rattle.script_text.specs.Script.{meaning_of};
 ghost use Rattle.machine_model.specs.State.{IsSettled, is_free};
 ghost use Rattle.trace_out.specs.Writing.{IsTied, Writes};
 ghost use Rattle.trace_out.specs.Goes.{GoesOnWriting, SettlesWriting, MayRest};
 ghost use Rattle.trace_out.specs.Traces.{IsTraceOf};
-ghost use Rattle.script_text.specs.Script.{meaning_of};
 
 use crate::scribe::Scribe;
 use crate::takes::Took;
@@ -21,13 +22,6 @@ use script_text::Script;
 use std::alloc::Global;
 use std::marker::Brand;
 use std::sync::ledger::{Blank, Ledger};
-
-/// A trace of a script, and how its entries ended.
-#[derive(Drop)]
-pub struct Traced {
-    pub text: Vec<u8>,
-    pub outcomes: Vec<Outcome>,
-}
 
 /// Makes events, either of the work at hand or taken from the desk, as draws say. `false` exactly where
 /// nothing is at hand and nothing may be taken.
@@ -135,9 +129,16 @@ fn settle<L: Ledger>(
     }
 }
 
-/// A trace of the script on a desk of that many slots, 1 to 17. Whether the next command is fed,
-/// something is taken from the desk or a tile of what was taken is published is drawn, so that the order
-/// is mixed; a script and a number of slots have always the same trace.
+/// A trace of a script, and the outcomes of its entries, in order.
+#[derive(Drop)]
+pub struct Traced {
+    pub text: Vec<u8>,
+    pub outcomes: Vec<Outcome>,
+}
+
+/// A trace of the script on a desk of that many slots, 1 to 17, and what the script's entries came to. Whether
+/// the next command is fed, something is taken from the desk or a tile of what was taken is published is drawn,
+/// so that the order is mixed; a script and a number of slots have always the same trace.
 ///
 /// # Errors
 /// `NoMemory` where no memory is left.
@@ -148,7 +149,8 @@ pub fn trace_of(alloc: Global, script: &Script, slots: u8) -> Result<Traced, NoM
     ensures trace { IfOk result (λ t. IsTraceOf script.now slots t.text.items) }
     ensures outcomes { IfOk result (λ t. t.outcomes.items ≡ (meaning_of script.now).outcomes) }
 {
-    trace_on::<Brand>(alloc, script, slots, Blank::new(1))
+    let traced = trace_on::<Brand>(alloc, script, slots, Blank::new(1))?;
+    Ok(traced)
 }
 
 /// The same, with a count of exchanged tiles on that ledger.
@@ -173,8 +175,20 @@ fn trace_on<L: Ledger>(
     let mut draws = 0;
     feed_all(&mut scribe, script, &mut draws, &mut steps)?;
     settle(&mut scribe, &mut draws, &mut steps)?;
+    Ok(traced_of(scribe))
+}
+
+/// What was written of a desk that is settled, and what its entries came to.
+fn traced_of(scribe: Scribe) -> Traced
+    requires { IsSettled scribe.desk }
+    ensures text { result.text.items ≡ scribe.out.items }
+    ensures outcomes { result.outcomes.items ≡ (meaning scribe.desk.canvas (entries scribe.desk.fed)).outcomes }
+{
+    settled_has_meaning(&scribe.desk);
     let Scribe { desk, out, .. } = scribe;
-    settled_has_meaning(&desk);
-    let (_, outcomes) = desk.into_results();
-    Ok(Traced { text: out, outcomes })
+    let (_film, outcomes) = desk.into_results();
+    Traced {
+        text: out,
+        outcomes,
+    }
 }

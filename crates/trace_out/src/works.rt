@@ -1,20 +1,25 @@
 //! What is done of the work at hand.
 
-ghost use Rattle.std.specs.Prelude.{◌≡◌, ◌∷◌, [], true, false, slice_get, IsSomeAnd, OnOk};
+ghost use Rattle.std.specs.Prelude.{◌≡◌, ◌∷◌, [], true, false, Some, slice_get, IsSomeAnd, OnOk};
 ghost use Rattle.std.specs.List.{list_any};
 ghost use Rattle.geom_core.specs.Grid.{IsWorldKey, same_key, keys_of};
 ghost use Rattle.machine_model.specs.State.{is_free};
+ghost use Rattle.machine_model.specs.Event.{Publish as PublishEvent};
+ghost use Rattle.machine_model.specs.Step.{Step};
+ghost use Rattle.desk_parts.specs.Parts.{slot_of};
+ghost use Rattle.desk_parts.specs.Tied.{IsKept};
 ghost use Rattle.desk_parts.specs.After.{busy_painter, busy_walker};
 ghost use Rattle.trace_out.specs.Writing.{IsTied};
 ghost use Rattle.trace_out.specs.Lent.{IsLent, IsLentWalk, LacksTile, LacksPair, walk_of, MayEndLent};
 ghost use Rattle.trace_out.specs.Goes.{GoesOnWriting, GoesOnPutting, SettlesPutting};
 
 use crate::scribe::Scribe;
-use desk_core::{Ended, Published, SlotId};
+use desk_core::{Desk, Ended, Published, SlotId};
 use desk_parts::{Newest, Painter, Walker, Work, has_pair};
 use desk_work::{next_pair, next_tile};
 use geom_core::{NoMemory, TileKey};
 use job_core::paint_tile;
+use std::alloc::Global;
 use trace_forms::Line;
 use trace_text::add_line;
 use walker_core::{Composed, compose_key};
@@ -53,21 +58,11 @@ impl Scribe {
         requires lacks { LacksTile painter key }
         ensures { OnOk result (GoesOnWriting self.old.desk self.old.out.items self.new) }
     {
-        let slot = SlotId {
-            place,
-            serial: painter.serial,
-        };
-        let painted = paint_tile(self.alloc, &painter.job, &painter.shot, key)?;
-        let _known = painted.key();
-        match self.desk.publish(slot, &painted)? {
-            Published::Stored => {
-                painter.published.note(key)?;
-                self.held.put(place, Work::Paint(painter), None);
-                add_line(&mut self.out, &Line::Publish(place, key))?;
-                Ok(())
-            }
-            Published::Nothing => unreachable!(),
-        }
+        publish_tile(self.alloc, &mut self.desk, place, &painter, key)?;
+        painter.published.note(key)?;
+        self.held.put(place, Work::Paint(painter), None);
+        add_line(&mut self.out, &Line::Publish(place, key))?;
+        Ok(())
     }
 
     /// Ends work whose tiles are all published.
@@ -102,7 +97,7 @@ impl Scribe {
     fn publish_groups(
         &mut self,
         place: u8,
-        walker: Walker,
+        mut walker: Walker,
         group: u16,
         key: TileKey,
     ) -> Result<(), NoMemory>
@@ -110,22 +105,33 @@ impl Scribe {
         requires lacks { LacksPair walker group key }
         ensures { OnOk result (GoesOnWriting self.old.desk self.old.out.items self.new) }
     {
-        let Walker {
-            serial,
-            inputs,
-            mut published,
-        } = walker;
-        let slot = SlotId { place, serial };
-        let rect = inputs.patch().rect;
-        let composed = compose_key(self.alloc, &inputs, key)?;
-        self.put(slot, &composed, &mut published, group, key)?;
-        self.put_others(slot, &composed, &mut published, key)?;
-        let walker = Walker {
-            serial,
-            inputs,
-            published,
-        };
+        let rect = walker.inputs.patch().rect;
+        self.put_all(place, &mut walker, group, key)?;
         self.held.put(place, Work::Walk(walker), Some(rect));
+        Ok(())
+    }
+
+    /// The same, while the walk is out of its place.
+    fn put_all(
+        &mut self,
+        place: u8,
+        walker: &mut Walker,
+        group: u16,
+        key: TileKey,
+    ) -> Result<(), NoMemory>
+        requires lent { IsLent self.old.held place (busy_walker walker.old) self.old.desk }
+        requires lacks { LacksPair walker.old group key }
+        ensures goes { OnOk result (GoesOnPutting self.old.desk self.old.out.items self.new.desk self.new.out.items) }
+        ensures lent { OnOk result (IsLent self.new.held place (busy_walker walker.new) self.new.desk) }
+        ensures inputs { walker.new.inputs ≡ walker.old.inputs }
+    {
+        let slot = SlotId {
+            place,
+            serial: walker.serial,
+        };
+        let composed = compose_key(self.alloc, &walker.inputs, key)?;
+        self.put(slot, &composed, &mut walker.published, group, key)?;
+        self.put_others(slot, &composed, &mut walker.published, key)?;
         Ok(())
     }
 
@@ -175,5 +181,31 @@ impl Scribe {
             }
         }
         Ok(())
+    }
+}
+
+/// Paints a tile of the job in a slot, and publishes it.
+fn publish_tile(
+    alloc: Global,
+    desk: &mut Desk,
+    place: u8,
+    painter: &Painter,
+    key: TileKey,
+) -> Result<(), NoMemory>
+    requires runs { slice_get desk.old.slots place ≡ Some (slot_of (Some (busy_painter painter.now))) }
+    requires kept { IsKept (Some (busy_painter painter.now)) }
+    requires lacks { LacksTile painter.now key }
+    ensures step { OnOk result (Step desk.old (PublishEvent place key) desk.new) }
+    ensures world { OnOk result (IsWorldKey key) }
+{
+    let slot = SlotId {
+        place,
+        serial: painter.serial,
+    };
+    let painted = paint_tile(alloc, &painter.job, &painter.shot, key)?;
+    let _known = painted.key();
+    match desk.publish(slot, &painted)? {
+        Published::Stored => Ok(()),
+        Published::Nothing => unreachable!(),
     }
 }

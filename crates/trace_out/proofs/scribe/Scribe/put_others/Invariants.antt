@@ -1,6 +1,6 @@
 use Rattle.trace_out.specs.Lent.{IsLentWalk}
 use Rattle.trace_out.specs.Goes.{SettlesPutting}
-use Rattle.trace_out.proofs.works.Scribe.put_others.Given as goal
+use Rattle.trace_out.proofs.scribe.Scribe.put_others.Given as goal
 
 -- the groups so far are published
 abbrev pub invariant-loop-group : goal.invariant-loop-group

@@ -2,9 +2,9 @@ use Rattle.std.proofs.Common.{sym}
 use Rattle.desk_parts.specs.Parts.{painter_of}
 use Rattle.desk_parts.specs.After.{busy_painter}
 use Rattle.trace_out.proofs.Ties.{lent_runs}
-use Rattle.trace_out.proofs.Works.{lent_kept, job_may_end}
+use Rattle.trace_out.proofs.Enabling.{lent_kept, job_may_end}
 use Rattle.trace_out.proofs.Going.{orderly_by}
-use Rattle.trace_out.proofs.works.Scribe.paint_at.Goals as goal
+use Rattle.trace_out.proofs.scribe.Scribe.paint_at.Goals as goal
 
 pub next_tile-requires : goal.next_tile-requires
 next_tile-requires c = (lent_kept c.args.self.now.held c.args.place (busy_painter c.args.painter) c.args.self.now.desk c.requires).2

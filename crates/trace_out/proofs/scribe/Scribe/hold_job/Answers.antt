@@ -3,7 +3,7 @@ use Rattle.std.specs.Prelude.{slice_set}
 use Rattle.slot_core.specs.Busy.{busy}
 use Rattle.desk_parts.specs.declared.work.Work.TheVariants.{Paint}
 use Rattle.trace_out.specs.Writing.{IsTied}
-use Rattle.trace_out.proofs.takes.Scribe.hold_job.Goals as goal
+use Rattle.trace_out.proofs.scribe.Scribe.hold_job.Goals as goal
 
 pub put-requires : goal.put-requires
 put-requires c = c.requires.lent.empty

@@ -2,8 +2,8 @@ use Rattle.std.proofs.Common.{sym}
 use Rattle.desk_parts.specs.Parts.{walker_of}
 use Rattle.desk_parts.specs.After.{busy_walker}
 use Rattle.trace_out.proofs.Ties.{lent_runs}
-use Rattle.trace_out.proofs.Works.{walk_may_end}
-use Rattle.trace_out.proofs.works.Scribe.compose_at.Goals as goal
+use Rattle.trace_out.proofs.Enabling.{walk_may_end}
+use Rattle.trace_out.proofs.scribe.Scribe.compose_at.Goals as goal
 
 pub publish_groups-requires-clause-lacks : goal.publish_groups-requires-clause-lacks
 publish_groups-requires-clause-lacks c = record { on_path = c.in-Some.ensures.group; world = c.in-Some.ensures.world; in_patch = c.in-Some.ensures.tile; fresh = c.in-Some.ensures.fresh }

@@ -5,7 +5,7 @@ use Rattle.desk_parts.proofs.WalkPlaces.{walking_at}
 use Rattle.trace_out.specs.Lent.{IsLent}
 use Rattle.trace_out.proofs.Ties.{lent_at}
 use Rattle.trace_out.proofs.Busy.{not_busy}
-use Rattle.trace_out.proofs.works.Scribe.work_at.Goals as goal
+use Rattle.trace_out.proofs.scribe.Scribe.work_at.Goals as goal
 
 pub paint_at-requires : goal.paint_at-requires
 paint_at-requires c = subst (λ l. IsLent l c.args.place (busy_painter c.in-Some-Paint.painter) c.args.self.now.desk) (sym c.clear.ensures.left)
