@@ -21,5 +21,3 @@ mod scripts;
 mod tickets;
 #[cfg(test)]
 mod told;
-#[cfg(test)]
-mod traced;
