@@ -36,7 +36,12 @@ fn refused_traces(rt: HostRuntime) -> Result<(), Fail> {
 #[test]
 fn an_export(rt: HostRuntime) -> Result<(), Fail> {
     let alloc = rt.alloc();
-    let got = ran_by(&rt, alloc, "--workers 0 --emit trace", b"canvas 1 1\nexport\n")?;
+    let got = ran_by(
+        &rt,
+        alloc,
+        "--workers 0 --emit trace",
+        b"canvas 1 1\nexport\n",
+    )?;
     assert!(rt; got.is(0, EXPORT, b""));
     let got = ran(&rt, alloc, "--replay", EXPORT)?;
     assert!(rt; got.is(0, b"P6\n1 1\n255\n\xff\xff\xff", b""));

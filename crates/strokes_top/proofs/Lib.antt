@@ -3,3 +3,4 @@ pub mod Intakes
 pub mod Takings
 pub mod Choices
 pub mod Outputs
+pub mod Givings

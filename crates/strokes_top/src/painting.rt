@@ -20,11 +20,11 @@ use desk_core::{Desk, settled_has_meaning};
 use geom_core::NoMemory;
 use io_edge::Gate;
 use live_run::run_live_shown;
-use tile_core::Film;
 use script_text::{Script, print, printed_reads_back};
 use std::alloc::Global;
 use std::sync::Wait;
 use std::thread::Threads;
+use tile_core::Film;
 use trace_out::{Traced, trace_of};
 
 /// How many commands a desk takes at most.

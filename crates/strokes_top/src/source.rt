@@ -80,11 +80,7 @@ fn read_source<S: Source>(alloc: Global, source: &mut S) -> Result<Script, Statu
 ///
 /// # Errors
 /// The status of a run that has no script.
-fn read_all<S: Source>(
-    alloc: Global,
-    source: &mut S,
-    chunk: &mut [u8],
-) -> Result<Vec<u8>, Status>
+fn read_all<S: Source>(alloc: Global, source: &mut S, chunk: &mut [u8]) -> Result<Vec<u8>, Status>
     requires { length chunk.old ≡ CHUNK }
     ensures ok { IfOk result (λ v. WasRead (S.left source.old) (S.left source.new) (λ bytes. bytes ≡ v.items)) }
     ensures few { IfOk result (λ v. length v.items ≤ TRACE_LIMIT) }

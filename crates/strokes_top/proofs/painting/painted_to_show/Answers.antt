@@ -5,8 +5,8 @@ use Rattle.strokes_top.proofs.Choices.{fit_draws, draws_some, draws_few, draws_o
 use Rattle.strokes_top.proofs.Outputs.{shows_drawn}
 use Rattle.strokes_top.proofs.painting.painted_to_show.Goals as goal
 
-pub workers_for-requires : goal.workers_for-requires
-workers_for-requires g c = λ κs lives. fit_workers c.args.choice.now c.requires.fit
+pub workers_for-workers-requires : goal.workers_for-workers-requires
+workers_for-workers-requires g c = fit_workers c.args.choice.now c.requires.fit
 
 pub painted_by_artists-requires-clause-some : goal.painted_by_artists-requires-clause-some
 painted_by_artists-requires-clause-some g c = λ κs lives. draws_some c.args.choice.now c.in-Some.artists (fit_draws _ _ c.in-Some.is c.requires.fit)

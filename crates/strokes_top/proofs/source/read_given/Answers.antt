@@ -1,4 +1,4 @@
-use Rattle.std.proofs.Common.{◌≡◌, subst, sym}
+use Rattle.std.proofs.Common.{subst, sym}
 use Rattle.strokes_top.specs.Run.{limit_of, ConsumesAtMost}
 use Rattle.strokes_top.proofs.source.read_given.Goals as goal
 

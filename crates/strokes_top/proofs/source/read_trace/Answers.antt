@@ -1,4 +1,4 @@
-use Rattle.std.proofs.Common.{rules, ◌≡◌, ◌∙◌, Err, IfErr, IfOk, ap, true}
+use Rattle.std.proofs.Common.{rules, ◌≡◌, ◌∙◌, Err, ap, true}
 use Rattle.std.proofs.lemmas.Result.{IfOk-weaker, IfErr-weaker}
 use Rattle.strokes_top.specs.declared.status.Status.TheVariants.{TooLong}
 use Rattle.strokes_top.specs.Run.{Gives}
