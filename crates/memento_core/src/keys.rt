@@ -57,6 +57,16 @@ impl KeySet {
         Ok(())
     }
 
+    pub fn add(&mut self, key: TileKey) -> Result<bool, NoMemory>
+        requires { IsWorldKey key }
+    {
+        if self.tiles.len() >= MOST_KEYS {
+            return Err(NoMemory);
+        }
+        let new = self.tiles.insert(key)?;
+        Ok(new)
+    }
+
     /// Whether the tile is in the set.
     pub fn has(&self, key: TileKey) -> bool
         ensures { result ≡ set.contains self.now key }

@@ -16,12 +16,13 @@ use tree_core::Tree;
 
 /// Puts the kept tree in the place of the other, which is kept from then on.
 fn exchange(tree: &mut Tree, kept: Former) -> Former
-    ensures new { tree.new ≡ kept.tree }
-    ensures old { result ≡ former tree.old kept.reach }
 {
-    let Former { tree: new, reach } = kept;
-    let old = std::mem::replace(tree, new);
-    Former { tree: old, reach }
+    let Former { tree: mut other, reach } = kept;
+    match &mut other {
+        Some(e) => tree.exchange(e),
+        None => {}
+    }
+    Former { tree: other, reach }
 }
 
 impl Machine {
@@ -52,12 +53,13 @@ impl Machine {
     fn change(&mut self, change: &Change) -> Result<(), NoMemory>
         ensures { OnOk result (parts self.new ≡ after_change (parts self.old) (changed (λ _. tt) change.now self.old.tree)) }
     {
-        let tree = self.tree.copy();
+        let before = self.tree.copy();
         if self.tree.change(change).is_err() {
             return Ok(());
         }
+        let back = self.tree.exchange_for(self.alloc, &before)?;
         self.past.push_front(Former {
-            tree,
+            tree: Some(back),
             reach: Reach::Whole,
         })?;
         self.future.clear();

@@ -1,7 +1,7 @@
 //! The documents of the past and the future.
 
 use geom_core::Rect;
-use tree_core::Tree;
+use tree_core::Exchange;
 
 /// How far a change reaches: the whole document, or the rectangle round its tiles of one layer.
 #[derive(Clone, Copy)]
@@ -13,6 +13,6 @@ pub(crate) enum Reach {
 /// A document of the history, with the reach of the change next to it.
 #[derive(Drop)]
 pub(crate) struct Former {
-    pub(crate) tree: Tree,
+    pub(crate) tree: Option<Exchange>,
     pub(crate) reach: Reach,
 }

@@ -78,11 +78,10 @@ impl Painter {
         ensures published { result ≡ Ok true → self.new ≡ with_tile self.old key }
         ensures same { result ≡ Ok false → self.new ≡ self.old }
     {
-        if !self.lacks(key) {
+        if !is_tile_of_some(self.job.writes().as_slice(), key) {
             return Ok(false);
         }
-        self.published.insert(key)?;
-        Ok(true)
+        self.published.add(key)
     }
 
     /// Whether all tiles of the job are published.

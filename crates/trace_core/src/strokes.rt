@@ -86,7 +86,7 @@ impl Machine {
     {
         let bound = round(self.alloc, self.intake.jobs())?;
         self.past.push_front(Former {
-            tree: self.tree.copy(),
+            tree: None,
             reach: Reach::Part(head.layer, bound),
         })?;
         self.future.clear();

@@ -110,7 +110,18 @@ pub(crate) fn round(alloc: Global, jobs: &[(Kind, Job)]) -> Result<Option<Rect>,
     requires { All (λ job. checks job.1 ≡ true) jobs.now }
     ensures { IfOk result (λ bound. bound ≡ round jobs.now) }
 {
-    let mut keys = KeySet::new(alloc);
-    add_jobs(&mut keys, jobs)?;
-    Ok(keys.touched().bound)
+    let mut bound = None;
+    for job in jobs {
+        let writes = job.1.writes();
+        for rect in writes.as_slice() {
+            let first = rect.tile_at(0).rect();
+            let last = rect.tile_at(rect.tile_count() - 1).rect();
+            let round = first.bound(&last);
+            bound = match bound {
+                None => Some(round),
+                Some(b) => Some(round.bound(&b)),
+            };
+        }
+    }
+    Ok(bound)
 }

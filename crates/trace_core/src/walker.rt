@@ -101,11 +101,17 @@ impl Walker {
         ensures published { result ≡ Ok true → self.new ≡ with_pair self.old group key }
         ensures same { result ≡ Ok false → self.new ≡ self.old }
     {
-        if !self.lacks(group, key) {
+        if !is_tile_of(&self.patch.rect, key) {
             return Ok(false);
         }
-        note_pair(&mut self.groups, group, key)?;
-        Ok(true)
+        let mut i = 0;
+        while i < self.groups.len() {
+            if self.groups[i].group == group {
+                return self.groups[i].published.add(key);
+            }
+            i += 1;
+        }
+        Ok(false)
     }
 
     /// Whether all tiles of all groups are published.
