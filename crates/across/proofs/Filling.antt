@@ -14,7 +14,7 @@ use Rattle.doc_model.specs.declared.tree.Change.TheVariants as change
 use Rattle.doc_model.specs.declared.tree.TreeFault.{TreeFault}
 use Rattle.machine_model.specs.Effects.{layer_in}
 use Rattle.machine_model.specs.UnderWay.{jobs_only}
-use Rattle.desk_steps.proofs.Filled.{each_same, content_by, content_each, with_content_each, after, with_contents, changed_each}
+use Rattle.doc_model.proofs.Natural.{each_same, content_by, content_each, with_content_each, after, with_contents, changed_each}
 use Rattle.across.specs.declared.layer.Step.{Step}
 use Rattle.across.specs.Steps.{layer_after}
 use Rattle.across.specs.Documents.{filled, with_fresh}

@@ -3,7 +3,7 @@ mod TicketsMatch
 pub mod StepCounts
 mod ActsMove
 mod Exported
-mod FreeSlots
+pub mod FreeSlots
 mod PairRuns
 pub mod OwnTiles
 pub mod Untouched

@@ -34,7 +34,7 @@ use Rattle.job_core.proofs.Keys.{square_some}
 use Rattle.update_queue.specs.Waiting.{Waiting, waiting}
 use Rattle.entry_queue.specs.Pushed.{queued}
 use Rattle.desk_steps.specs.Archives.{Archive, with_painted}
-use Rattle.desk_steps.proofs.Filled.{parent_each}
+use Rattle.doc_model.proofs.Natural.{parent_each}
 use Rattle.machine_model.specs.State.{State, Painter, Slot, Free, Paints, Walks, head, stroke_of, head_stroke}
 use Rattle.machine_model.specs.Event.{Start, Publish, End}
 use Rattle.machine_model.specs.Effects.{layer_in, updates_with_all, writes_of}

@@ -11,7 +11,7 @@ use Rattle.doc_model.specs.Changes.{there}
 use Rattle.doc_model.specs.Forest.{content}
 use Rattle.desk_steps.specs.Archives.{shape, Archive, finished, reverted}
 use Rattle.desk_steps.proofs.Exchanged.{stands}
-use Rattle.desk_steps.proofs.Filled.{has_each}
+use Rattle.doc_model.proofs.Natural.{has_each}
 use Rattle.doc_model.specs.Picture.{Doc}
 use Rattle.doc_model.specs.Strokes.{Stroke, conflict}
 use Rattle.entry_queue.specs.Pushed.{Pending}

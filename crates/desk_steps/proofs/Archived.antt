@@ -54,8 +54,8 @@ use Rattle.desk_steps.specs.Entries.{doc_of, reach_in, FitsOn, laid, base_of, wa
 use Rattle.desk_steps.specs.Slots.{Standing, standing, Grows}
 use Rattle.desk_steps.specs.Documents.{doc_in}
 use Rattle.desk_steps.specs.declared.document.Document.{Document}
-use Rattle.desk_steps.proofs.Filled.{adjusted_nothing}
-use Rattle.desk_steps.proofs.Devices.{false-true}
+use Rattle.doc_model.proofs.Natural.{adjusted_nothing}
+use Rattle.doc_model.proofs.PaintTests.{false-true}
 use Rattle.desk_steps.proofs.Patched.{patched-empty, keys_in-empty}
 use Rattle.desk_steps.proofs.Exchanged.{fits_new, fits_old, laid_back, laid_take, past_take, more_fit, take_fit, next_fit, back_fit}
 

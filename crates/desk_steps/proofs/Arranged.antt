@@ -27,8 +27,9 @@ use Rattle.desk_steps.specs.Documents.{Fits, arranged, arranged_standing, doc_in
 use Rattle.desk_steps.specs.declared.arrangement.Arrangement.{Arrangement}
 use Rattle.desk_steps.specs.declared.arrangement.Slot.{Slot}
 use Rattle.desk_steps.specs.declared.document.Document.{Document}
-use Rattle.desk_steps.proofs.Filled.{after, changed_each, content_before, each_same, each_shape, through_cond, with_contents}
-use Rattle.desk_steps.proofs.Devices.{false-true, layer_shown, layer_under, new_plain, shown}
+use Rattle.doc_model.proofs.Natural.{after, changed_each, content_before, each_same, each_shape, through_cond, with_contents}
+use Rattle.doc_model.proofs.PaintTests.{false-true}
+use Rattle.desk_steps.proofs.Devices.{layer_shown, layer_under, new_plain, shown}
 use Rattle.desk_steps.proofs.Rearranged.{layer_comes, layers_stay}
 
 -- what h makes of what stands is what stands of what h makes

@@ -18,15 +18,12 @@ use Rattle.doc_model.proofs.LayerLaws.{layer_ext, at-plain, default-plain}
 use Rattle.doc_model.specs.declared.tree.Change.{Change}
 use Rattle.doc_model.specs.Picture.{Doc}
 use Rattle.doc_model.specs.declared.tree.TreeFault.{TreeFault}
-use Rattle.doc_model.specs.Forest.{Forest, none, paint, group, has, is_group, content, or_else, count, height}
+use Rattle.doc_model.specs.Forest.{Forest, none, paint, group, content, count, height}
 use Rattle.doc_model.specs.Adjusting.{adjusted, each}
-use Rattle.doc_model.specs.Changes.{changed, there, takes}
-use Rattle.doc_model.specs.Ids.{IsTree, weight, mark, times}
+use Rattle.doc_model.specs.Changes.{changed}
+use Rattle.doc_model.specs.Ids.{weight, mark, times}
 use Rattle.doc_model.specs.Laws.{IsDocument}
-use Rattle.doc_model.proofs.Parents.{Distinct}
-use Rattle.doc_model.proofs.Weights.{tree_distinct, tree_root}
-use Rattle.doc_model.proofs.Paths.{group_has}
-use Rattle.doc_model.proofs.SameContent.{content_has}
+use Rattle.doc_model.proofs.PaintTests.{false-true}
 use Rattle.paint_device.specs.Sheets.{Sheet, sheet}
 use Rattle.paint_device.specs.Seen.{layer_of}
 use Rattle.paint_device.proofs.Shown.{at-layer_of, default-layer_of}
@@ -37,13 +34,7 @@ use Rattle.desk_steps.specs.Documents.{doc_in, Regains}
 use Rattle.desk_steps.specs.Founds.{GivesBack, StandIn, has_key, patched}
 use Rattle.desk_steps.specs.declared.reach.TreeRefusal.{TreeRefusal}
 use Rattle.desk_steps.specs.declared.reach.TreeRefusal.TheVariants.{Tree}
-use Rattle.desk_steps.proofs.Filled.{count_each, height_each, content_by, content_each, adjusted_each, adjusted_nothing, after, with_contents, changed_each, through_cond}
-
-pub false-true : {P : Type 0} → false ≡ true → P
-false-true e = absurd (no e)
-  where
-    no : false ≡ true → ⊥
-    no e = cc
+use Rattle.doc_model.proofs.Natural.{count_each, height_each, content_by, content_each, adjusted_each, adjusted_nothing, after, with_contents, changed_each, through_cond}
 
 pub some_is : {A : Type 0} (o : Option A) → is_some o ≡ true → (x : A) × (o ≡ Some x)
 some_is None e = false-true e
@@ -164,64 +155,6 @@ regained old new id found after tree c = record {
   grows = subst (λ t. Grows (standing old.tree old.slots) (standing t new.slots)) (sym tree) (standing_grows old.slots new.slots id (GivesBack found after) c c.holds.keys old.tree);
   stand = own_stands old.slots new.slots id (GivesBack found after) c after c.holds.stand;
 }
-
--- whether a node is a paint layer, by whether it is there and no group
-join_tests : (hn hr gn gr cn cr : Bool) → (hn && not gn) ≡ cn → (hr && not gr) ≡ cr → (gn ≡ true → hn ≡ true) → (gr ≡ true → hr ≡ true) → (hn ≡ true → hr ≡ false) → ((hn || hr) && not (gn || gr)) ≡ (cn || cr)
-join_tests true true gn gr cn cr a b c d e = false-true (sym (e refl))
-join_tests true false true gr cn cr a b c d e = (λ i. a i || b i)
-join_tests true false false true cn cr a b c d e = false-true (d refl)
-join_tests true false false false cn cr a b c d e = (λ i. a i || b i)
-join_tests false hr true gr cn cr a b c d e = false-true (c refl)
-join_tests false hr false gr cn cr a b c d e = (λ i. a i || b i)
-
-pub or_else_tests : {A : Type 0} (a b : Option A) → (is_some a || is_some b) ≡ is_some (or_else a b)
-or_else_tests None b = refl
-or_else_tests (Some x) b = refl
-
-paints : {A : Type 0} (q : ℕ) (f : Forest A) → Distinct f → (has q f && not (is_group q f)) ≡ is_some (content q f)
-paints q none d = refl
-paints q (paint id look x rest) d = go (paints q rest d.1) (eqb q id) refl
-  where
-    go : (has q rest && not (is_group q rest)) ≡ is_some (content q rest) → (b : Bool) → eqb q id ≡ b → ((b || has q rest) && not (is_group q rest)) ≡ is_some (cond b (Some x) (content q rest))
-    go more true e =
-        let same : q ≡ id = grind (arith, nat_tests) in
-        let absent : has q rest ≡ false = ap (λ p. has p rest) same ∙ d.0 in
-        no_group (is_group q rest) refl absent
-      where
-        no_group : (b : Bool) → is_group q rest ≡ b → has q rest ≡ false → not b ≡ true
-        no_group true g h = false-true (sym h ∙ group_has q rest g)
-        no_group false g h = refl
-    go more false e = more
-paints {A = A} q (group id look nodes rest) d = go (paints q nodes d.3) (paints q rest d.4) (eqb q id) refl
-  where
-    no_content : (f : Forest A) → has q f ≡ false → is_some (content q f) ≡ false
-    no_content f h = by (content q f) refl
-      where
-        by : (o : Option A) → content q f ≡ o → is_some o ≡ false
-        by None e = refl
-        by (Some y) e = false-true (sym h ∙ content_has q y f e)
-
-    go : (has q nodes && not (is_group q nodes)) ≡ is_some (content q nodes) → (has q rest && not (is_group q rest)) ≡ is_some (content q rest) → (b : Bool) → eqb q id ≡ b → ((b || (has q nodes || has q rest)) && not (b || (is_group q nodes || is_group q rest))) ≡ is_some (or_else (content q nodes) (content q rest))
-    go m n true e =
-        let same : q ≡ id = grind (arith, nat_tests) in
-        sym (sym (or_else_tests (content q nodes) (content q rest)) ∙ (λ i. no_content nodes (ap (λ p. has p nodes) same ∙ d.0) i || no_content rest (ap (λ p. has p rest) same ∙ d.1) i))
-    go m n false e = join_tests (has q nodes) (has q rest) (is_group q nodes) (is_group q rest) (is_some (content q nodes)) (is_some (content q rest)) m n (group_has q nodes) (group_has q rest) (d.2 q)
-        ∙ or_else_tests (content q nodes) (content q rest)
-
--- the same where the root counts as a group
-pub paints_is : {A : Type 0} (q : ℕ) (f : Forest A) → IsTree f → (there q f && not (takes q f)) ≡ is_some (content q f)
-paints_is {A = A} q f t = go (eqb q 0) refl
-  where
-    go : (b : Bool) → eqb q 0 ≡ b → ((b || has q f) && not (b || is_group q f)) ≡ is_some (content q f)
-    go true e =
-        let same : q ≡ 0 = grind (arith, nat_tests) in
-        let absent : has q f ≡ false = ap (λ p. has p f) same ∙ tree_root f t in
-        by (content q f) refl absent
-      where
-        by : (o : Option A) → content q f ≡ o → has q f ≡ false → false ≡ is_some o
-        by None c h = refl
-        by (Some y) c h = false-true (sym h ∙ content_has q y f c)
-    go false e = paints q f (tree_distinct f t)
 
 -- other contents keep a document within the limits
 pub is_document_each : {A B : Type 0} (g : ℕ → B) (f : Forest A) → IsDocument f → IsDocument (each (λ q x. g q) f)

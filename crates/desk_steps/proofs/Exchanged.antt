@@ -26,8 +26,9 @@ use Rattle.desk_steps.specs.Documents.{arranged_standing}
 use Rattle.desk_steps.specs.Founds.{has_key, patched}
 use Rattle.desk_steps.specs.Entries.{doc_of, reach_in, FitsOn, laid, standing_after, AllFit, Trades}
 use Rattle.desk_steps.proofs.Arranged.{have_more}
-use Rattle.desk_steps.proofs.Filled.{has_each, parent_each, some_adjusted}
-use Rattle.desk_steps.proofs.Devices.{some_is, false-true}
+use Rattle.doc_model.proofs.Natural.{has_each, parent_each, some_adjusted}
+use Rattle.doc_model.proofs.PaintTests.{false-true}
+use Rattle.desk_steps.proofs.Devices.{some_is}
 
 -- a layer of a document stands in its tree
 pub stands : (id : ℕ) (doc : Doc) (t : Forest (Unit {0})) → t ≡ shape doc → is_some (content id doc) ≡ true → has id t ≡ false → ⊥

@@ -1,4 +1,3 @@
-pub mod Filled
 pub mod Devices
 pub mod Lain
 pub mod Patched

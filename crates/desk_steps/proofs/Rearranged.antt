@@ -13,8 +13,8 @@ use Rattle.doc_model.proofs.Paths.{or_cases}
 use Rattle.doc_model.proofs.Heights.{group_without}
 use Rattle.doc_model.proofs.TreeChanges.{answered, new_may, place_may}
 use Rattle.doc_model.proofs.TreeLaws.{without_none}
-use Rattle.desk_steps.proofs.Filled.{sets_in, content_before}
-use Rattle.desk_steps.proofs.Devices.{false-true, or_else_tests}
+use Rattle.doc_model.proofs.Natural.{sets_in, content_before}
+use Rattle.doc_model.proofs.PaintTests.{false-true, or_else_tests}
 
 -- whether a paint node has the id
 abbrev drawn : {A : Type 0} → ℕ → Forest A → Bool

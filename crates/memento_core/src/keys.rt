@@ -1,6 +1,6 @@
 //! Sets of tiles.
 
-ghost use Rattle.std.specs.Prelude.{◌≡◌, Some, All, OnOk, OnErr};
+ghost use Rattle.std.specs.Prelude.{◌≡◌, not, Some, All, OnOk, OnErr, IfOk};
 ghost use Rattle.std.specs.FinSet as set;
 ghost use Rattle.geom_core.specs.Grid.{IsWorldKey, key_cmp};
 ghost use Rattle.geom_core.specs.Touches.{HasTouched, bound_of};
@@ -44,17 +44,18 @@ impl KeySet {
         }
     }
 
-    /// The tile is in the set afterwards.
-    pub fn insert(&mut self, key: TileKey) -> Result<(), NoMemory>
+    /// The tile is in the set afterwards. Answers whether it is new there.
+    pub fn insert(&mut self, key: TileKey) -> Result<bool, NoMemory>
         requires { IsWorldKey key }
         ensures ok { OnOk result (self.new ≡ set.insert self.old key) }
+        ensures new { IfOk result (λ new. new ≡ not (set.contains self.old key)) }
         ensures err { OnErr result (self.new ≡ self.old) }
     {
         if self.tiles.len() >= MOST_KEYS {
             return Err(NoMemory);
         }
-        self.tiles.insert(key)?;
-        Ok(())
+        let new = self.tiles.insert(key)?;
+        Ok(new)
     }
 
     /// Whether the tile is in the set.

@@ -5,7 +5,6 @@ mod HeadOutlines
 mod Intakes
 mod LastLines
 mod Outlines
-mod PaintTests
 mod Passes
 mod SlotOutlines
 mod TileSets

@@ -42,7 +42,7 @@ use Rattle.trace_model.specs.Next.{next, when, begun, started, job_started, tile
 use Rattle.trace_model.specs.Replays.{is_settled, first_of}
 use Rattle.trace_model.specs.Blank.{blank, blank_doc, blank_entry, blank_group, blank_slot}
 use Rattle.trace_model.specs.BlankLaws.{PixelsDontCount}
-use Rattle.trace_model.proofs.Natural.{has_each, parent_each, changed_each, with_contents, after}
+use Rattle.doc_model.proofs.Natural.{has_each, parent_each, changed_each, with_contents, after}
 
 -- documents
 

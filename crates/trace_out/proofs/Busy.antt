@@ -47,25 +47,3 @@ not_busy held s place tie h busy = go (slice_get held place) refl h
     go None is k = subst (λ v. IsSomeAnd v (λ slot. is_free slot ≡ false)) (there ∙ ap (option_map slot_of) is) busy
     go (Some None) is k = let e : true ≡ false = subst (λ v. IsSomeAnd v (λ slot. is_free slot ≡ false)) (there ∙ ap (option_map slot_of) is) busy in cc
     go (Some (Some b)) is k = cc
-
-free_here : (slots : List (Option (Busy Work))) (i : ℕ) (o : Option (Bor Work)) → option_copied o ≡ work_at i slots → is_some o ≡ false → (slot : Slot) → slice_get (map slot_of slots) i ≡ Some slot → is_free slot ≡ true
-free_here slots i (Some w) h e slot at = cc
-free_here slots i None h e slot at = go (slice_get slots i) refl h
-  where
-    go : (v : Option (Option (Busy Work))) → slice_get slots i ≡ v → None ≡ work_in v → is_free slot ≡ true
-    go None is k = let there : Some slot ≡ None = sym at ∙ slice_get-map slot_of slots i ∙ ap (option_map slot_of) is in cc
-    go (Some None) is k = let there : Some slot ≡ Some Free = sym at ∙ slice_get-map slot_of slots i ∙ ap (option_map slot_of) is in let same : slot ≡ Free = cc in ap is_free same
-    go (Some (Some b)) is k = cc
-
-passed : (ys : List Slot) (i : ℕ) → ((slot : Slot) → slice_get ys i ≡ Some slot → is_free slot ≡ true) → list_all is_free (drop i ys) ≡ list_all is_free (drop (suc i) ys)
-passed [] zero is = refl
-passed [] (suc i) is = refl
-passed (y ∷ ys) zero is = ap (λ b. b && list_all is_free ys) (is y refl)
-passed (y ∷ ys) (suc i) is = passed ys i is
-
-add_one : (i : ℕ) → i + 1 ≡ suc i
-add_one i = omega arith
-
--- nothing is at work in one more
-pub free_next : (slots : List (Option (Busy Work))) (i : ℕ) (o : Option (Bor Work)) → option_copied o ≡ work_at i slots → is_some o ≡ false → list_all is_free (drop i (map slot_of slots)) ≡ list_all is_free (map slot_of slots) → list_all is_free (drop (i + 1) (map slot_of slots)) ≡ list_all is_free (map slot_of slots)
-free_next slots i o h e so_far = ap (λ k. list_all is_free (drop k (map slot_of slots))) (add_one i) ∙ sym (passed (map slot_of slots) i (free_here slots i o h e)) ∙ so_far

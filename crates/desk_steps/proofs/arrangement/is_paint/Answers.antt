@@ -1,6 +1,6 @@
 use Rattle.std.proofs.Common.{◌≡◌, true, false, ◌&&◌, not, ap, sym, ◌∙◌}
 use Rattle.doc_model.specs.Changes.{there, takes}
-use Rattle.desk_steps.proofs.Devices.{paints_is}
+use Rattle.doc_model.proofs.PaintTests.{paints_is}
 use Rattle.desk_steps.proofs.arrangement.is_paint.Goals as goal
 
 pub returns-then-has : goal.returns-then-has

@@ -1,6 +1,6 @@
 use Rattle.std.proofs.Common.{◌≡◌, true, false, ◌&&◌, not, ap, sym, ◌∙◌}
 use Rattle.doc_model.specs.Changes.{there, takes}
-use Rattle.desk_steps.proofs.Devices.{paints_is}
+use Rattle.doc_model.proofs.PaintTests.{paints_is}
 use Rattle.across.proofs.Filling.{some_filled}
 use Rattle.across.proofs.document.Document.paints.Goals as goal
 

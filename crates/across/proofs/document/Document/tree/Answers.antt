@@ -1,7 +1,7 @@
 use Rattle.std.proofs.Common.{sym, ap, ◌∙◌, subst}
 use Rattle.doc_model.specs.Laws.{IsDocument}
 use Rattle.desk_steps.specs.Archives.{shape}
-use Rattle.desk_steps.proofs.Filled.{each_shape}
+use Rattle.doc_model.proofs.Natural.{each_shape}
 use Rattle.desk_steps.proofs.Devices.{is_document_each}
 use Rattle.across.specs.Steps.{layer_after}
 use Rattle.across.proofs.document.Document.tree.Goals as goal

@@ -3,7 +3,7 @@ use Rattle.std.specs.Option.{unwrap_or}
 use Rattle.doc_model.specs.Readers.{parent}
 use Rattle.machine_model.specs.State.{State}
 use Rattle.machine_model.specs.Groups.{parent_of}
-use Rattle.desk_steps.proofs.Filled.{parent_each}
+use Rattle.doc_model.proofs.Natural.{parent_each}
 use Rattle.desk_machine.proofs.machine.Machine.group_of.Goals as goal
 
 pub returns : goal.returns

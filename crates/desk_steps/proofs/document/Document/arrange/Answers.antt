@@ -5,7 +5,7 @@ use Rattle.tree_core.specs.Exchanges.{led}
 use Rattle.desk_steps.specs.Slots.{AllHave, device_in, has_slot, once_filled}
 use Rattle.desk_steps.proofs.Arranged.{other_has, other_shown, back_shown, other_stands, back_stands, back_fits}
 use Rattle.desk_steps.proofs.Devices.{layer_under}
-use Rattle.desk_steps.proofs.Filled.{each_shape}
+use Rattle.doc_model.proofs.Natural.{each_shape}
 use Rattle.desk_steps.proofs.document.Document.arrange.Goals as goal
 
 pub invariant_of-self : goal.invariant_of-self

@@ -7,7 +7,7 @@ use Rattle.tree_core.specs.Exchanges.{led}
 use Rattle.desk_steps.specs.Documents.{doc_in}
 use Rattle.desk_steps.specs.Slots.{device_in, devices_after, layer_or, once_filled}
 use Rattle.desk_steps.proofs.Devices.{doc_refused, layer_under, refusal_same}
-use Rattle.desk_steps.proofs.Filled.{each_shape}
+use Rattle.doc_model.proofs.Natural.{each_shape}
 use Rattle.desk_steps.proofs.Arranged.{change_shown, change_fits}
 use Rattle.desk_steps.proofs.document.Document.changed.Goals as goal
 

@@ -1,6 +1,6 @@
 use Rattle.std.proofs.Common.{sym}
 use Rattle.desk_steps.specs.Slots.{device_in}
-use Rattle.desk_steps.proofs.Filled.{each_shape}
+use Rattle.doc_model.proofs.Natural.{each_shape}
 use Rattle.desk_steps.proofs.Devices.{is_document_each, layer_under}
 use Rattle.desk_steps.proofs.document.Document.tree.Goals as goal
 

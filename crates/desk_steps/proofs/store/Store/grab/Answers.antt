@@ -2,7 +2,7 @@ use Rattle.std.proofs.Common.{is_some, sym, ap, ◌∙◌}
 use Rattle.paint_device.specs.Seen.{layer_of}
 use Rattle.desk_steps.specs.Documents.{doc_in}
 use Rattle.desk_steps.specs.Archives.{layer_under_way}
-use Rattle.desk_steps.proofs.Devices.{false-true}
+use Rattle.doc_model.proofs.PaintTests.{false-true}
 use Rattle.desk_steps.proofs.Archived.{way_there, way_layer, shot_told, tiles_shown}
 use Rattle.desk_steps.proofs.store.Store.grab.Goals as goal
 

@@ -1,6 +1,6 @@
 use Rattle.std.proofs.Common.{◌≡◌, true, false, ap, sym, ◌∙◌, not, ◌&&◌}
 use Rattle.doc_model.specs.Changes.{there, takes}
-use Rattle.trace_core.proofs.PaintTests.{paints_is}
+use Rattle.doc_model.proofs.PaintTests.{paints_is}
 use Rattle.trace_core.proofs.machine.Machine.paints.Goals as goal
 
 pub returns-then-has : goal.returns-then-has

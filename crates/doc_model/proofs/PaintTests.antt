@@ -9,7 +9,7 @@ use Rattle.doc_model.proofs.Weights.{tree_distinct, tree_root}
 use Rattle.doc_model.proofs.Paths.{group_has}
 use Rattle.doc_model.proofs.SameContent.{content_has}
 
-false-true : {A : Type 0} → false ≡ true → A
+pub false-true : {A : Type 0} → false ≡ true → A
 false-true e = cc
 
 -- whether a node is a paint layer, by whether it is there and no group
@@ -21,7 +21,7 @@ join_tests true false false false cn cr a b c d e = (λ i. a i || b i)
 join_tests false hr true gr cn cr a b c d e = false-true (c refl)
 join_tests false hr false gr cn cr a b c d e = (λ i. a i || b i)
 
-or_else_tests : {A : Type 0} (a b : Option A) → (is_some a || is_some b) ≡ is_some (or_else a b)
+pub or_else_tests : {A : Type 0} (a b : Option A) → (is_some a || is_some b) ≡ is_some (or_else a b)
 or_else_tests None b = refl
 or_else_tests (Some x) b = refl
 
