@@ -54,8 +54,8 @@ impl KeySet {
         if self.tiles.len() >= MOST_KEYS {
             return Err(NoMemory);
         }
-        let new = self.tiles.insert(key)?;
-        Ok(new)
+        let added = self.tiles.insert(key)?;
+        Ok(added)
     }
 
     /// Whether the tile is in the set.
