@@ -18,7 +18,6 @@ use Rattle.doc_model.specs.Picture.{Doc}
 use Rattle.doc_model.specs.Forest.{none, paint, group}
 use Rattle.doc_model.specs.Ids.{IsTree}
 use Rattle.doc_model.specs.Strokes.{Stroke}
-use Rattle.doc_model.proofs.Parents.{side}
 use Rattle.doc_model.proofs.Paths.{Orderly}
 use Rattle.doc_model.proofs.Shots.{at-shot_of}
 use Rattle.machine_model.specs.State.{Child, Walker, Slot, Free, Paints, Walks, State, is_free}
@@ -38,12 +37,12 @@ use Rattle.machine_model.proofs.EffectsHold.{walk_stays_in_tile}
 use Rattle.machine_model.proofs.Lists.{all_set, all_get, set_cases}
 use Rattle.machine_model.proofs.Sharing.{walks_never_meet}
 use Rattle.machine_model.proofs.StateTrees.{present_tree}
-use Rattle.machine_model.proofs.WalkFolds.{walk_settles, Ordered, ComposedBefore, OnPathCached, Distinct as DistinctShots}
+use Rattle.machine_model.proofs.WalkEndCaches.{firsts, ordered_from, distinct_from, on_path_cached, paint_off_path}
+use Rattle.machine_model.proofs.WalkFolds.{walk_settles, OnPathCached}
 use Rattle.machine_model.proofs.WalkPaths.{grouped, path_all, path_orderly_of}
 use Rattle.desk_damage.specs.Fresh.{cached_at, LeavesPoint, IsFresh}
 use Rattle.desk_damage.specs.Calm.{ReadsNow, IsRipe, IsCalm}
 use Rattle.desk_damage.specs.Events.{is_quiet}
-use Rattle.desk_damage.proofs.Values.{firsts, on_path_cached, paint_off_path}
 
 -- what holds of the item at each place holds of each
 all_by : {A : Type 0} (P : A → Type 0) (xs : List A) → ((i : ℕ) (x : A) → slice_get xs i ≡ Some x → P x) → AllByRecursion P xs
@@ -223,41 +222,6 @@ quiet_calm old new (WalkEnd place) sound step quiet calm = subst IsCalm (sym ste
   painters = still_none old place (Walks step.walker) Free calm.painters step.runs refl refl;
   ripe = all_set (IsRipe old.present old.caches) old.slots place Free calm.ripe tt;
 })
-
--- each child on the path was composed before its group
-composed : (path bs : List ℕ) (caches : FinMap nat_cmp Layer) (read : List Child) (f : Doc) → SameChildren read (with_pixels caches f) → ((c : ℕ) → side c f ≡ true → on c bs ≡ on c path) → ComposedBefore path bs read
-composed path bs caches [] f same before = tt
-composed path bs caches (r ∷ read) none same before = absurd same
-composed path bs caches (r ∷ read) (paint id look x rest) same before = (ap (λ n. on n bs) same.0 ∙ before id (or_left (eqb id id) _ (equal_test id)) ∙ ap (λ n. on n path) (sym same.0), composed path bs caches read rest same.2 (λ c h. before c (or_right (eqb c id) _ h)))
-  where
-    equal_test : (d : ℕ) → eqb d d ≡ true
-    equal_test d = grind (arith, nat_tests)
-composed path bs caches (r ∷ read) (group id look nodes rest) same before = (ap (λ n. on n bs) same.0 ∙ before id (or_left (eqb id id) _ (equal_test id)) ∙ ap (λ n. on n path) (sym same.0), composed path bs caches read rest same.2 (λ c h. before c (or_right (eqb c id) _ h)))
-  where
-    equal_test : (d : ℕ) → eqb d d ≡ true
-    equal_test d = grind (arith, nat_tests)
-
-ordered_from : (path bs : List ℕ) (s : State) (shots : List (ℕ × List Child)) → ((c : ℕ) → on c path ≡ (on c bs || on c (firsts shots))) → Orderly (λ g. nodes_in g s.present) (firsts shots)
-    → AllByRecursion (λ (e : ℕ × List Child). SameChildren e.1 (children_of s e.0)) shots → Ordered path bs shots
-ordered_from path bs s [] split orderly same = tt
-ordered_from path bs s (e ∷ more) split orderly same = (
-  composed path bs s.caches e.1 (nodes_in e.0 s.present) same.0 (λ c h. sym (split c ∙ ap (λ b. on c bs || b) (orderly.1 c h) ∙ or-false (on c bs))),
-  ordered_from path (e.0 ∷ bs) s more (λ c. split c ∙ turned (on c bs) (eqb e.0 c) (on c (firsts more))) orderly.2 same.1,
-)
-  where
-    or-false : (b : Bool) → (b || false) ≡ b
-    or-false true = refl
-    or-false false = refl
-
-    turned : (a b c : Bool) → (a || (b || c)) ≡ ((b || a) || c)
-    turned true true c = refl
-    turned true false c = refl
-    turned false true c = refl
-    turned false false c = refl
-
-distinct_from : (s : State) (shots : List (ℕ × List Child)) → Orderly (λ g. nodes_in g s.present) (firsts shots) → DistinctShots shots
-distinct_from s [] orderly = tt
-distinct_from s (e ∷ more) orderly = (orderly.0, distinct_from s more orderly.2)
 
 -- what holds of each entry holds of the one of a group
 all_pick : (R : ℕ → Type 0) (xs : List (ℕ × List Child)) (g : ℕ) → AllByRecursion (λ (e : ℕ × List Child). R e.0) xs → on g (firsts xs) ≡ true → R g

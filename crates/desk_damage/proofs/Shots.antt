@@ -29,7 +29,7 @@ use Rattle.walker_core.specs.declared.known.Damaged.{Damaged}
 use Rattle.walker_core.specs.Knowing.{stale_in, is_stale, ShowValues}
 use Rattle.desk_damage.specs.Fresh.{AreCached, cached_at}
 use Rattle.desk_damage.specs.Shown.{ShowCaches}
-use Rattle.desk_damage.proofs.Values.{firsts}
+use Rattle.machine_model.proofs.WalkEndCaches.{firsts}
 
 -- what was grabbed of a group's cache
 pub cache_shown : (caches : FinMap nat_cmp Layer) (g : ℕ) (rect : Area) (rects : List Area) (d : Sheet) (s : Sight) → rects ≡ rect ∷ [] → layer_of d ≡ cache caches g → ((p : Point) → any_holds rects p ≡ true → sight_at s p ≡ sheet_at d p)

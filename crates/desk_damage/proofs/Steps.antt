@@ -41,7 +41,8 @@ use Rattle.machine_model.proofs.WalkPaths.{grouped, grouped_with, path_grouped, 
 use Rattle.tile_core.specs.Damage.{Parts, is_damaged}
 use Rattle.desk_damage.specs.Fresh.{AreCached, cached_at, LeavesPoint, Fresh, IsFresh, IsTracked}
 use Rattle.desk_damage.specs.Events.{is_quiet}
-use Rattle.desk_damage.proofs.Values.{firsts, start_cached, on_path_cached, paint_off_path, value_cached, still_cached}
+use Rattle.machine_model.proofs.WalkEndCaches.{firsts, on_path_cached, paint_off_path}
+use Rattle.desk_damage.proofs.Values.{start_cached, value_cached, still_cached}
 
 -- a layer that is the same at the point leaves the children of each group so
 same_children : (caches : FinMap nat_cmp Layer) (q : ℕ) (x y : Layer) (doc : Doc) (g : ℕ) (p : Point) → IsTree doc → content q doc ≡ Some x → at x p ≡ at y p → SameAt (with_pixels caches (nodes_in g doc)) (with_pixels caches (nodes_in g (with_content q y doc))) p

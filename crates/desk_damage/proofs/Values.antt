@@ -1,35 +1,23 @@
 -- The values of a walk where all caches are folds.
 use Rattle.std.proofs.Common.{◌≡◌, ℕ, Bool, true, false, ◌||◌, cond, List, [], ◌∷◌, map, refl, sym, ap, ◌∙◌, arith, eqb, ◌⊎◌, inl, inr}
-use Rattle.std.specs.Ordering.{nat_cmp}
-use Rattle.std.specs.FinMap.{FinMap}
 use Rattle.std.proofs.lemmas.Bool.Decides.{nat_tests}
 use Rattle.pixel_core.specs.Rgba.{Rgba, clear}
 use Rattle.geom_core.specs.Areas.{Area, holds, Point}
 use Rattle.geom_core.proofs.Tests.{or_cases, or_left, or_right}
-use Rattle.doc_model.specs.declared.canvas.Walk.{Walk}
-use Rattle.doc_model.specs.Layers.{Layer, at}
-use Rattle.doc_model.specs.Picture.{Doc, with_look}
-use Rattle.doc_model.specs.Forest.{none, paint, group, has, is_group, children}
-use Rattle.doc_model.specs.Ids.{IsTree}
-use Rattle.doc_model.proofs.Parents.{side}
-use Rattle.doc_model.proofs.Paths.{side_paint, paint_child_no_group, paint_row_no_group, both_false}
+use Rattle.doc_model.specs.Layers.{at}
+use Rattle.doc_model.specs.Picture.{with_look}
+use Rattle.doc_model.specs.Forest.{children}
 use Rattle.doc_model.proofs.Shots.{at-shot_of}
-use Rattle.doc_model.proofs.Weights.{tree_distinct, tree_root}
 use Rattle.machine_model.specs.State.{Child, State}
-use Rattle.machine_model.specs.Groups.{with_pixels, nodes_in, children_of, folded, on, path_of}
-use Rattle.machine_model.specs.Walking.{IsGroupOf}
+use Rattle.machine_model.specs.Groups.{children_of, folded, on}
 use Rattle.machine_model.specs.Walks.{value_in, walk_folded, walk_values, looked_up, cut_child, shots_of}
 use Rattle.machine_model.proofs.WalkFolds.{OnPathCached}
-use Rattle.machine_model.proofs.WalkPaths.{grouped, path_grouped, child_there}
+use Rattle.machine_model.proofs.WalkEndCaches.{firsts}
 use Rattle.desk_damage.specs.Fresh.{AreCached, cached_at}
 
 -- the groups that have values
 abbrev pub keys_of_values : List (ℕ × Rgba) → List ℕ
 keys_of_values values = map (λ (v : ℕ × Rgba). v.0) values
-
--- the groups of a shot
-abbrev pub firsts : List (ℕ × List Child) → List ℕ
-firsts shot = map (λ (e : ℕ × List Child). e.0) shot
 
 equal_test : (d : ℕ) → eqb d d ≡ true
 equal_test d = grind (arith, nat_tests)
@@ -64,39 +52,6 @@ start_cached s rect path (g ∷ gs) values p h own folds are sub within =
   where
     on_path : on g path ≡ true
     on_path = within g (or_left (eqb g g) _ (equal_test g))
-
--- a child on the path is a group
-pub on_path_cached : (path : List ℕ) (caches : FinMap nat_cmp Layer) (f : Doc) (p : Point) → ((c : ℕ) → side_paint c f ≡ true → on c path ≡ false) → OnPathCached path (cached_at caches p) (with_pixels caches f) p
-on_path_cached path caches none p off = tt
-on_path_cached path caches (paint id look x rest) p off = ((λ e. absurd (let t : on id path ≡ false = off id (or_left (eqb id id) _ (equal_test id)) in cc)), on_path_cached path caches rest p (λ c h. off c (or_right (eqb c id) _ h)))
-on_path_cached path caches (group id look nodes rest) p off = ((λ e. refl), on_path_cached path caches rest p off)
-
-side_paint_there : (c : ℕ) (f : Doc) → side_paint c f ≡ true → side c f ≡ true
-side_paint_there c none e = e
-side_paint_there c (paint id look x rest) e = elim (or_cases (eqb c id) _ e) [ inl h ↦ or_left (eqb c id) _ h | inr h ↦ or_right (eqb c id) _ (side_paint_there c rest h) ]
-side_paint_there c (group id look nodes rest) e = or_right (eqb c id) _ (side_paint_there c rest e)
-
--- a paint node stands on no path
-pub paint_off_path : (c g : ℕ) (w : Walk) (doc : Doc) → IsTree doc → IsGroupOf doc w → side_paint c (nodes_in g doc) ≡ true → on c (path_of w doc) ≡ false
-paint_off_path c g w doc t is child = go (on c (path_of w doc)) refl
-  where
-    no_group : is_group c doc ≡ false
-    no_group = by (eqb g 0) child
-      where
-        by : (b : Bool) → side_paint c (cond b doc (children g doc)) ≡ true → is_group c doc ≡ false
-        by true h = paint_row_no_group c doc (tree_distinct doc t) h
-        by false h = paint_child_no_group g c doc (tree_distinct doc t) h
-
-    not_root : eqb c 0 ≡ false
-    not_root = by (eqb c 0) refl
-      where
-        by : (b : Bool) → eqb c 0 ≡ b → b ≡ false
-        by true e = let same : 0 ≡ c = grind (arith, nat_tests) in absurd (let h : has c doc ≡ true = child_there c g doc (side_paint_there c (nodes_in g doc) child) in let k : has c doc ≡ false = ap (λ n. has n doc) (sym same) ∙ tree_root doc t in cc)
-        by false e = refl
-
-    go : (b : Bool) → on c (path_of w doc) ≡ b → b ≡ false
-    go true e = absurd (let h : grouped c doc ≡ true = path_grouped w c doc (tree_distinct doc t) is e in let k : grouped c doc ≡ false = both_false (eqb c 0) _ not_root no_group in cc)
-    go false e = refl
 
 -- where a walk's values are those of the caches, so is the one that is looked up
 looked_cached : (cached : ℕ → Rgba) (vs : List (ℕ × Rgba)) (g : ℕ) → AreCached cached vs → on g (keys_of_values vs) ≡ true → looked_up vs g ≡ cached g

@@ -35,7 +35,7 @@ use Rattle.machine_model.proofs.JobCaches.{either_covers}
 use Rattle.machine_model.proofs.OtherPixels.{fold_new}
 
 -- the groups of a shot
-abbrev firsts : List (ℕ × List Child) → List ℕ
+abbrev pub firsts : List (ℕ × List Child) → List ℕ
 firsts xs = map (λ (e : ℕ × List Child). e.0) xs
 
 -- each child on the path was composed before its group
@@ -51,7 +51,8 @@ composed path bs caches (r ∷ read) (group id look nodes rest) same before = (a
     equal_test : (d : ℕ) → eqb d d ≡ true
     equal_test d = grind (arith, nat_tests)
 
-ordered_from : (path bs : List ℕ) (s : State) (shots : List (ℕ × List Child)) → ((c : ℕ) → on c path ≡ (on c bs || on c (firsts shots))) → Orderly (λ g. nodes_in g s.present) (firsts shots)
+-- so the walk composes children before their groups
+pub ordered_from : (path bs : List ℕ) (s : State) (shots : List (ℕ × List Child)) → ((c : ℕ) → on c path ≡ (on c bs || on c (firsts shots))) → Orderly (λ g. nodes_in g s.present) (firsts shots)
     → AllByRecursion (λ (e : ℕ × List Child). SameChildren e.1 (children_of s e.0)) shots → Ordered path bs shots
 ordered_from path bs s [] split orderly same = tt
 ordered_from path bs s (e ∷ more) split orderly same = (
@@ -69,12 +70,12 @@ ordered_from path bs s (e ∷ more) split orderly same = (
     turned false true c = refl
     turned false false c = refl
 
-distinct_from : (s : State) (shots : List (ℕ × List Child)) → Orderly (λ g. nodes_in g s.present) (firsts shots) → DistinctShots shots
+pub distinct_from : (s : State) (shots : List (ℕ × List Child)) → Orderly (λ g. nodes_in g s.present) (firsts shots) → DistinctShots shots
 distinct_from s [] orderly = tt
 distinct_from s (e ∷ more) orderly = (orderly.0, distinct_from s more orderly.2)
 
 -- a child on the path is a group
-on_path_cached : (path : List ℕ) (caches : FinMap nat_cmp Layer) (f : Doc) (p : Point) → ((c : ℕ) → side_paint c f ≡ true → on c path ≡ false) → OnPathCached path (λ g. at (cache caches g) p) (with_pixels caches f) p
+pub on_path_cached : (path : List ℕ) (caches : FinMap nat_cmp Layer) (f : Doc) (p : Point) → ((c : ℕ) → side_paint c f ≡ true → on c path ≡ false) → OnPathCached path (λ g. at (cache caches g) p) (with_pixels caches f) p
 on_path_cached path caches none p off = tt
 on_path_cached path caches (paint id look x rest) p off = ((λ e. absurd (let t : on id path ≡ false = off id (or_left (eqb id id) _ (equal_test id)) in cc)), on_path_cached path caches rest p (λ c h. off c (or_right (eqb c id) _ h)))
   where
@@ -82,9 +83,14 @@ on_path_cached path caches (paint id look x rest) p off = ((λ e. absurd (let t 
     equal_test d = grind (arith, nat_tests)
 on_path_cached path caches (group id look nodes rest) p off = ((λ e. refl), on_path_cached path caches rest p off)
 
+side_paint_there : (c : ℕ) (f : Doc) → side_paint c f ≡ true → side c f ≡ true
+side_paint_there c none e = e
+side_paint_there c (paint id look x rest) e = elim (or_cases (eqb c id) _ e) [ inl h ↦ or_left (eqb c id) _ h | inr h ↦ or_right (eqb c id) _ (side_paint_there c rest h) ]
+side_paint_there c (group id look nodes rest) e = or_right (eqb c id) _ (side_paint_there c rest e)
+
 -- a paint node stands on no path
-paint_off_path : (c g : ℕ) (w : Walk) (doc : Doc) → IsTree doc → IsGroupOf doc w → side_paint c (nodes_in g doc) ≡ true → side c (nodes_in g doc) ≡ true → on c (path_of w doc) ≡ false
-paint_off_path c g w doc t is child there = go (on c (path_of w doc)) refl
+pub paint_off_path : (c g : ℕ) (w : Walk) (doc : Doc) → IsTree doc → IsGroupOf doc w → side_paint c (nodes_in g doc) ≡ true → on c (path_of w doc) ≡ false
+paint_off_path c g w doc t is child = go (on c (path_of w doc)) refl
   where
     no_group : is_group c doc ≡ false
     no_group = by (eqb g 0) child
@@ -97,17 +103,12 @@ paint_off_path c g w doc t is child there = go (on c (path_of w doc)) refl
     not_root = by (eqb c 0) refl
       where
         by : (b : Bool) → eqb c 0 ≡ b → b ≡ false
-        by true e = let is : 0 ≡ c = grind (arith, nat_tests) in absurd (let h : has c doc ≡ true = child_there c g doc there in let k : has c doc ≡ false = ap (λ n. has n doc) (sym is) ∙ tree_root doc t in cc)
+        by true e = let is : 0 ≡ c = grind (arith, nat_tests) in absurd (let h : has c doc ≡ true = child_there c g doc (side_paint_there c (nodes_in g doc) child) in let k : has c doc ≡ false = ap (λ n. has n doc) (sym is) ∙ tree_root doc t in cc)
         by false e = refl
 
     go : (b : Bool) → on c (path_of w doc) ≡ b → b ≡ false
     go true e = absurd (let h : grouped c doc ≡ true = path_grouped w c doc (tree_distinct doc t) is e in let k : grouped c doc ≡ false = both_false (eqb c 0) _ not_root no_group in cc)
     go false e = refl
-
-side_paint_there : (c : ℕ) (f : Doc) → side_paint c f ≡ true → side c f ≡ true
-side_paint_there c none e = e
-side_paint_there c (paint id look x rest) e = elim (or_cases (eqb c id) _ e) [ inl h ↦ or_left (eqb c id) _ h | inr h ↦ or_right (eqb c id) _ (side_paint_there c rest h) ]
-side_paint_there c (group id look nodes rest) e = or_right (eqb c id) _ (side_paint_there c rest e)
 
 all_pick : (R : ℕ → Type 0) (xs : List (ℕ × List Child)) (g : ℕ) → AllByRecursion (λ (e : ℕ × List Child). R e.0) xs → on g (firsts xs) ≡ true → R g
 all_pick R [] g all h = absurd (let t : false ≡ true = h in cc)
@@ -144,7 +145,7 @@ module _ (old new : State) (place : ℕ) (step : WalkEndStep old place new) wher
       orderly = subst (Orderly (λ g. nodes_in g old.present)) (sym stands.1) (path_orderly_of w.patch.walk old.present tree)
 
       off : (g c : ℕ) → side_paint c (nodes_in g old.present) ≡ true → on c (groups_of w) ≡ false
-      off g c h = ap (on c) stands.1 ∙ paint_off_path c g w.patch.walk old.present tree stands.0 h (side_paint_there c (nodes_in g old.present) h)
+      off g c h = ap (on c) stands.1 ∙ paint_off_path c g w.patch.walk old.present tree stands.0 h
 
       told : (e : ℕ × List Child) → on e.0 (groups_of w) ≡ true → WalkReads old w e.0 e.1 p → at (cache old.caches e.0) p ≡ looked_up (walk_values w.shot [] p) e.0
       told e a c = c.published (step.all e.0 (key_of p) a (key_of_held w.patch.rect p held)) ∙ walk_value_is w.shot e.0 p
