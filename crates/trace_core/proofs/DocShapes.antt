@@ -14,7 +14,7 @@ use Rattle.doc_model.specs.Picture.{Doc}
 use Rattle.machine_model.specs.Groups.{path_of, parent_of}
 use Rattle.machine_model.specs.Guards.{is_paint}
 use Rattle.doc_model.proofs.Natural.{has_each, parent_each, changed_each, with_contents, after}
-use Rattle.trace_core.specs.Trees.{Shape, paints, group_of, tree_path}
+use Rattle.trace_parts.specs.Trees.{Shape, paints, group_of, tree_path}
 use Rattle.trace_core.specs.Outline.{shape}
 
 same_cond : {A : Type 0} {b c : Bool} {x y z w : A} → b ≡ c → x ≡ y → z ≡ w → cond b x z ≡ cond c y w

@@ -5,9 +5,9 @@ use Rattle.geom_core.specs.declared.NoMemory.{NoMemory}
 use Rattle.doc_model.specs.declared.job.Job.{Job}
 use Rattle.doc_model.specs.declared.job.Kind.{Kind}
 use Rattle.trace_model.specs.Replays.{first_of}
-use Rattle.trace_core.specs.declared.head.Head.{Head}
-use Rattle.trace_core.specs.declared.slot.Slot.TheVariants.{Free}
-use Rattle.trace_core.specs.Waits.{head_in, jobs_in}
+use Rattle.trace_parts.specs.declared.head.Head.{Head}
+use Rattle.trace_parts.specs.declared.slot.Slot.TheVariants.{Free}
+use Rattle.trace_parts.specs.Waits.{head_in, jobs_in}
 use Rattle.trace_core.specs.Outline.{Outline}
 use Rattle.trace_core.specs.Moves as move
 use Rattle.trace_core.specs.Moves.{Follows}

@@ -8,8 +8,8 @@ use Rattle.entry_queue.specs.declared.entry.Entry.{Entry}
 use Rattle.entry_queue.specs.Pushed.{queued, kept_of}
 use Rattle.machine_model.specs.State.{first, stroke_of}
 use Rattle.machine_model.specs.Guards.{is_closed, is_cancelled, overlaps, kept_jobs}
-use Rattle.trace_core.specs.declared.head.Head.{Head}
-use Rattle.trace_core.specs.Waits.{head_of, head_in, jobs_in, other_in}
+use Rattle.trace_parts.specs.declared.head.Head.{Head}
+use Rattle.trace_parts.specs.Waits.{head_of, head_in, jobs_in, other_in}
 
 -- what guards ask of a stroke
 abbrev pub told : Stroke → Head

@@ -2,11 +2,7 @@ mod DocShapes
 mod Events
 mod Following
 mod HeadOutlines
-mod Intakes
 mod LastLines
 mod Outlines
-mod Passes
 mod SlotOutlines
-mod TileSets
-mod TreeWays
 mod Works

@@ -48,14 +48,14 @@ use Rattle.trace_model.specs.Next as next
 use Rattle.trace_model.specs.Next.{next as after, when, is_number, is_clear}
 use Rattle.trace_model.specs.Replays as replay
 use Rattle.trace_model.specs.Replays.{first_of}
-use Rattle.trace_core.specs.declared.history.Reach.TheVariants as reach
-use Rattle.trace_core.specs.declared.slot.Slot.TheVariants as slot
-use Rattle.trace_core.specs.Trees.{paints, group_of, tree_path}
-use Rattle.trace_core.specs.Tiles.{round}
-use Rattle.trace_core.specs.Waits.{jobs_in, other_in, is_done}
-use Rattle.trace_core.specs.Painting.{lacks_tile, with_tile}
-use Rattle.trace_core.specs.Walking.{lacks_pair, with_pair}
-use Rattle.trace_core.specs.Slots.{is_free, is_painter, is_walker, blocks, meets_walker}
+use Rattle.trace_parts.specs.declared.history.Reach.TheVariants as reach
+use Rattle.trace_parts.specs.declared.slot.Slot.TheVariants as slot
+use Rattle.trace_parts.specs.Trees.{paints, group_of, tree_path}
+use Rattle.trace_parts.specs.Tiles.{round}
+use Rattle.trace_parts.specs.Waits.{jobs_in, other_in, is_done}
+use Rattle.trace_parts.specs.Painting.{lacks_tile, with_tile}
+use Rattle.trace_parts.specs.Walking.{lacks_pair, with_pair}
+use Rattle.trace_parts.specs.Slots.{is_free, is_painter, is_walker, blocks, meets_walker}
 use Rattle.trace_core.specs.Outline.{Outline, outline, shape, former_of, reach_of, slot_of, composed_of}
 use Rattle.trace_core.specs.Moves as move
 use Rattle.trace_core.proofs.DocShapes.{paints_shape, group_shape, walk_shape, adjusted_shape, shape_result, changed_shape}

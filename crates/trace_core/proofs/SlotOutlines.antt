@@ -17,12 +17,12 @@ use Rattle.machine_model.specs.Guards.{same_pair}
 use Rattle.machine_model.specs.Groups.{on}
 use Rattle.trace_model.specs.Next as next
 use Rattle.trace_model.specs.Next.{groups_of, may_publish, may_compose}
-use Rattle.trace_core.specs.declared.composed.Composed.{Composed}
-use Rattle.trace_core.specs.declared.slot.Slot.{Slot}
-use Rattle.trace_core.specs.Painting.{Painting, lacks_tile, is_painted}
-use Rattle.trace_core.specs.Walking.{Walking, lacks, noted, lacks_pair, with_pair, is_composed}
-use Rattle.trace_core.specs.Tiles.{has_all}
-use Rattle.trace_core.specs.Slots.{is_free, is_painter, is_walker, blocks, meets_walker}
+use Rattle.trace_parts.specs.declared.composed.Composed.{Composed}
+use Rattle.trace_parts.specs.declared.slot.Slot.{Slot}
+use Rattle.trace_parts.specs.Painting.{Painting, lacks_tile, is_painted}
+use Rattle.trace_parts.specs.Walking.{Walking, lacks, noted, lacks_pair, with_pair, is_composed}
+use Rattle.trace_parts.specs.Tiles.{has_all}
+use Rattle.trace_parts.specs.Slots.{is_free, is_painter, is_walker, blocks, meets_walker}
 use Rattle.trace_core.specs.Outline.{slot_of, tiles_of, composed_of}
 
 pub any_slots : (f : Slot → Bool) (g : state.Slot → Bool) → ((x : state.Slot) → f (slot_of x) ≡ g x) → (xs : List state.Slot) → list_any f (map slot_of xs) ≡ list_any g xs

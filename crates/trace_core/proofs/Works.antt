@@ -8,13 +8,13 @@ use Rattle.doc_model.specs.declared.canvas.Patch.{Patch}
 use Rattle.doc_model.specs.declared.job.Job.{Job}
 use Rattle.doc_model.specs.declared.job.Kind.{Kind}
 use Rattle.trace_model.specs.Next.{when, place_of}
-use Rattle.trace_core.specs.declared.head.Head.{Head}
-use Rattle.trace_core.specs.declared.slot.Slot.{Slot}
-use Rattle.trace_core.specs.declared.slot.Slot.TheVariants.{Free, Paints, Walks}
-use Rattle.trace_core.specs.Waits.{head_in, jobs_in}
-use Rattle.trace_core.specs.Painting.{Painting, is_painted}
-use Rattle.trace_core.specs.Walking.{Walking, is_composed}
-use Rattle.trace_core.specs.Slots.{published_in, composed_in, SlotFollows}
+use Rattle.trace_parts.specs.declared.head.Head.{Head}
+use Rattle.trace_parts.specs.declared.slot.Slot.{Slot}
+use Rattle.trace_parts.specs.declared.slot.Slot.TheVariants.{Free, Paints, Walks}
+use Rattle.trace_parts.specs.Waits.{head_in, jobs_in}
+use Rattle.trace_parts.specs.Painting.{Painting, is_painted}
+use Rattle.trace_parts.specs.Walking.{Walking, is_composed}
+use Rattle.trace_parts.specs.Slots.{published_in, composed_in, SlotFollows}
 use Rattle.trace_core.specs.Outline.{Outline}
 use Rattle.trace_core.specs.Moves as move
 use Rattle.trace_core.specs.Moves.{Follows}

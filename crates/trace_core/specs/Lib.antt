@@ -1,10 +1,3 @@
-pub mod Tiles
-pub mod Painting
-pub mod Walking
-pub mod Slots
-pub mod Trees
-pub mod Taken
-pub mod Waits
 pub mod Outline
 pub mod Parts
 pub mod Moves

@@ -24,18 +24,18 @@ use Rattle.machine_model.specs.Effects.{updates_with_all}
 use Rattle.machine_model.specs.Guards.{is_bar}
 use Rattle.trace_model.specs.Next.{when, is_clear, is_number, place_of}
 use Rattle.trace_model.specs.Replays.{first_of}
-use Rattle.trace_core.specs.declared.head.Head.{Head}
-use Rattle.trace_core.specs.declared.history.Reach.{Reach}
-use Rattle.trace_core.specs.declared.history.Reach.TheVariants.{Whole, Part}
-use Rattle.trace_core.specs.declared.history.Former.{Former}
-use Rattle.trace_core.specs.declared.slot.Slot.{Slot}
-use Rattle.trace_core.specs.declared.slot.Slot.TheVariants.{Free, Paints, Walks}
-use Rattle.trace_core.specs.Trees.{Shape, paints, group_of, tree_path}
-use Rattle.trace_core.specs.Tiles.{round}
-use Rattle.trace_core.specs.Waits.{head_in, jobs_in, other_in, is_done}
-use Rattle.trace_core.specs.Painting.{is_painted}
-use Rattle.trace_core.specs.Walking.{fresh, is_composed}
-use Rattle.trace_core.specs.Slots.{is_free, is_painter, is_walker, blocks, meets_walker, published_in, composed_in}
+use Rattle.trace_parts.specs.declared.head.Head.{Head}
+use Rattle.trace_parts.specs.declared.history.Reach.{Reach}
+use Rattle.trace_parts.specs.declared.history.Reach.TheVariants.{Whole, Part}
+use Rattle.trace_parts.specs.declared.history.Former.{Former}
+use Rattle.trace_parts.specs.declared.slot.Slot.{Slot}
+use Rattle.trace_parts.specs.declared.slot.Slot.TheVariants.{Free, Paints, Walks}
+use Rattle.trace_parts.specs.Trees.{Shape, paints, group_of, tree_path}
+use Rattle.trace_parts.specs.Tiles.{round}
+use Rattle.trace_parts.specs.Waits.{head_in, jobs_in, other_in, is_done}
+use Rattle.trace_parts.specs.Painting.{is_painted}
+use Rattle.trace_parts.specs.Walking.{fresh, is_composed}
+use Rattle.trace_parts.specs.Slots.{is_free, is_painter, is_walker, blocks, meets_walker, published_in, composed_in}
 use Rattle.trace_core.specs.Outline.{Outline}
 
 abbrev pub no_painter : Outline → Bool

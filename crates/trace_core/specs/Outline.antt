@@ -13,13 +13,13 @@ use Rattle.update_queue.specs.Waiting.{Waiting, waiting}
 use Rattle.machine_model.specs.State as state
 use Rattle.machine_model.specs.State.{State}
 use Rattle.trace_model.specs.Next.{groups_of}
-use Rattle.trace_core.specs.declared.history.Reach.{Reach}
-use Rattle.trace_core.specs.declared.history.Reach.TheVariants as reach
-use Rattle.trace_core.specs.declared.history.Former.{Former}
-use Rattle.trace_core.specs.declared.composed.Composed.{Composed}
-use Rattle.trace_core.specs.declared.slot.Slot.{Slot}
-use Rattle.trace_core.specs.declared.slot.Slot.TheVariants as slot
-use Rattle.trace_core.specs.Trees.{Shape}
+use Rattle.trace_parts.specs.declared.history.Reach.{Reach}
+use Rattle.trace_parts.specs.declared.history.Reach.TheVariants as reach
+use Rattle.trace_parts.specs.declared.history.Former.{Former}
+use Rattle.trace_parts.specs.declared.composed.Composed.{Composed}
+use Rattle.trace_parts.specs.declared.slot.Slot.{Slot}
+use Rattle.trace_parts.specs.declared.slot.Slot.TheVariants as slot
+use Rattle.trace_parts.specs.Trees.{Shape}
 
 -- all of a state but pixels, serials and outcomes: of what was fed the entries that are left, of a document its tree, of the tiles of a reach the rectangle round them
 pub record Outline : Type 0 where

@@ -3,15 +3,15 @@
 ghost use Rattle.std.specs.Prelude.{◌≡◌, ◌||◌, ◌&&◌, not, OnOk, take, ◌∷◌};
 ghost use Rattle.doc_model.specs.Changes.{changed};
 ghost use Rattle.trace_core.specs.Parts.{parts};
-ghost use Rattle.trace_core.specs.Waits.{other_in};
-ghost use Rattle.trace_core.specs.declared.history.Former.{Former};
+ghost use Rattle.trace_parts.specs.Waits.{other_in};
+ghost use Rattle.trace_parts.specs.declared.history.Former.{Former};
 ghost use Rattle.trace_core.specs.Moves.{Follows, may_act, after_change, after_undo, after_redo, after_command, acted, stepped, moved_to, former};
 
-use crate::history::{Former, Reach};
 use crate::machine::Machine;
 use crate::strokes::widen;
 use doc_model::{Change, Command};
 use geom_core::NoMemory;
+use trace_parts::{Former, Reach};
 use tree_core::Tree;
 
 /// Puts the kept tree in the place of the other, which is kept from then on.

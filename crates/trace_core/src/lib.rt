@@ -2,20 +2,11 @@
 #![tactic(auto)]
 
 mod acts;
-mod composed;
-mod head;
-mod history;
-mod intake;
 mod lines;
 mod machine;
-mod painter;
-mod paths;
 mod refusal;
 mod replaying;
-mod slot;
 mod strokes;
-mod tiles;
-mod walker;
 mod walks;
 mod work;
 

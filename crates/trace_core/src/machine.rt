@@ -8,17 +8,15 @@ ghost use Rattle.script_forms.specs.Ranges.{in_range};
 ghost use Rattle.machine_model.specs.State.{new_state};
 ghost use Rattle.trace_core.specs.Outline.{outline};
 ghost use Rattle.trace_core.specs.Parts.{parts};
-ghost use Rattle.trace_core.specs.Trees.{paints, group_of};
-ghost use Rattle.trace_core.specs.Slots.{is_free as slot_is_free, is_painter, is_walker};
+ghost use Rattle.trace_parts.specs.Trees.{paints, group_of};
+ghost use Rattle.trace_parts.specs.Slots.{is_free as slot_is_free, is_painter, is_walker};
 ghost use Rattle.trace_core.specs.Moves.{Follows, fed, no_painter, no_walker, is_clean, is_settled};
 
-use crate::history::Former;
-use crate::intake::Intake;
-use crate::slot::{Slot, all_free, some_painter, some_walker};
 use doc_model::{Canvas, Command};
 use geom_core::{NoMemory, Rect};
 use std::alloc::Global;
 use std::collections::VecDeque;
+use trace_parts::{Former, Intake, Slot, all_free, some_painter, some_walker};
 use tree_core::Tree;
 use update_queue::Updates;
 

@@ -4,19 +4,17 @@ ghost use Rattle.std.specs.Prelude.{◌≡◌, Ok, OnOk, true, All, take};
 ghost use Rattle.doc_model.specs.Jobs.{checks};
 ghost use Rattle.entry_queue.specs.Pushed.{may_leave};
 ghost use Rattle.trace_core.specs.Parts.{parts};
-ghost use Rattle.trace_core.specs.Waits.{head_in, jobs_in};
-ghost use Rattle.trace_core.specs.declared.head.Head.{Head};
-ghost use Rattle.trace_core.specs.Trees.{group_of};
-ghost use Rattle.trace_core.specs.Tiles.{round};
+ghost use Rattle.trace_parts.specs.Waits.{head_in, jobs_in};
+ghost use Rattle.trace_parts.specs.declared.head.Head.{Head};
+ghost use Rattle.trace_parts.specs.Trees.{group_of};
+ghost use Rattle.trace_parts.specs.Tiles.{round};
 ghost use Rattle.trace_core.specs.Moves.{Follows, may_begin, begun, may_finish, has_ended, with_change, finished, may_cancel, started_of, widened, without_change, cancelled, popped};
 
-use crate::head::Head;
-use crate::history::{Former, Reach};
 use crate::machine::Machine;
-use crate::tiles::round;
 use crate::work::is_alive;
 use doc_model::{Job, Kind, Walk};
 use geom_core::{NoMemory, Rect};
+use trace_parts::{Former, Head, Reach, round};
 use update_queue::Updates;
 
 /// The rectangle, or none, waits for the group and those above it.

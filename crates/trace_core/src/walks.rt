@@ -5,14 +5,12 @@ ghost use Rattle.geom_core.specs.Grid.{IsWorldKey};
 ghost use Rattle.trace_model.specs.Next.{same_area, same_patch, place_of};
 ghost use Rattle.trace_core.specs.Parts.{parts};
 ghost use Rattle.trace_core.specs.Moves.{Follows, is_exclusive, may_walk, walk_started, composed};
-ghost use Rattle.trace_core.specs.Waits.{head_in};
+ghost use Rattle.trace_parts.specs.Waits.{head_in};
 
 use crate::machine::Machine;
-use crate::paths::path_of;
-use crate::slot::{Slot, fill, some_meets};
-use crate::walker::Walker;
 use doc_model::Patch;
 use geom_core::{NoMemory, Rect, TileKey};
+use trace_parts::{Slot, Walker, fill, path_of, some_meets};
 use update_queue::Updates;
 
 /// Whether the rectangles are one.

@@ -8,12 +8,10 @@ ghost use Rattle.update_queue.specs.Waiting.{waiting};
 ghost use Rattle.trace_core.specs.Parts.{parts};
 ghost use Rattle.trace_core.specs.Moves.{Follows, is_alive, may_start, started, published, ended, walk_ended, work_ended, no_walker, is_clean};
 
-use crate::head::Head;
 use crate::machine::Machine;
-use crate::painter::Painter;
-use crate::slot::{Slot, fill, some_blocks};
 use doc_model::{Kind, Walk};
 use geom_core::{NoMemory, Rect, TileKey};
+use trace_parts::{Head, Painter, Slot, fill, some_blocks};
 use update_queue::Updates;
 
 /// The rectangles wait for the group and those above it, one after another.

@@ -7,8 +7,8 @@ use Rattle.doc_model.specs.Jobs.{writes}
 use Rattle.machine_model.specs.Effects.{updates_with_all}
 use Rattle.update_queue.specs.Waiting.{waiting}
 use Rattle.update_queue.proofs.Elements.{read_at}
-use Rattle.trace_core.specs.declared.slot.Slot.TheVariants.{Free, Paints}
-use Rattle.trace_core.specs.Trees.{group_of}
+use Rattle.trace_parts.specs.declared.slot.Slot.TheVariants.{Free, Paints}
+use Rattle.trace_parts.specs.Trees.{group_of}
 use Rattle.trace_core.specs.Outline.{Outline}
 use Rattle.trace_core.specs.Parts.{parts}
 use Rattle.trace_core.proofs.Works.{ends}

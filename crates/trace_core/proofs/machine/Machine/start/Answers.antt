@@ -5,8 +5,8 @@ use Rattle.std.specs.Vec.{with_items}
 use Rattle.std.specs.FinSet as set
 use Rattle.std.proofs.lemmas.List.{with_items_is}
 use Rattle.update_queue.proofs.Elements.{read_at}
-use Rattle.trace_core.specs.declared.slot.Slot.TheVariants.{Paints}
-use Rattle.trace_core.specs.Waits.{jobs_in}
+use Rattle.trace_parts.specs.declared.slot.Slot.TheVariants.{Paints}
+use Rattle.trace_parts.specs.Waits.{jobs_in}
 use Rattle.trace_core.specs.Outline.{Outline}
 use Rattle.trace_core.specs.Parts.{parts}
 use Rattle.trace_core.proofs.Works.{starts, start_waits}

@@ -2,9 +2,9 @@ use Rattle.std.proofs.Common.{◌≡◌, map, sym, ap, ◌∙◌, arith}
 use Rattle.std.specs.Prelude.{slice_set}
 use Rattle.std.specs.Vec.{with_items}
 use Rattle.std.proofs.lemmas.List.{with_items_is}
-use Rattle.trace_core.specs.declared.slot.Slot.TheVariants.{Walks}
-use Rattle.trace_core.specs.Trees.{tree_path}
-use Rattle.trace_core.specs.Walking.{Walking, fresh}
+use Rattle.trace_parts.specs.declared.slot.Slot.TheVariants.{Walks}
+use Rattle.trace_parts.specs.Trees.{tree_path}
+use Rattle.trace_parts.specs.Walking.{Walking, fresh}
 use Rattle.trace_core.specs.Outline.{Outline}
 use Rattle.trace_core.specs.Parts.{parts}
 use Rattle.trace_core.proofs.Works.{walk_starts}

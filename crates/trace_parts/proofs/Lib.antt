@@ -1,0 +1,4 @@
+mod Intakes
+pub mod Passes
+mod TileSets
+mod TreeWays

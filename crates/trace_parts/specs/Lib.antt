@@ -1,0 +1,7 @@
+pub mod Tiles
+pub mod Painting
+pub mod Walking
+pub mod Slots
+pub mod Trees
+pub mod Taken
+pub mod Waits

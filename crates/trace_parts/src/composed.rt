@@ -1,0 +1,44 @@
+//! A group of a walk, and its tiles.
+
+ghost use Rattle.std.specs.Prelude.{◌≡◌, OnOk};
+ghost use Rattle.geom_core.specs.Grid.{IsWorldKey, keys_of};
+ghost use Rattle.trace_parts.specs.Tiles.{has_all};
+ghost use Rattle.trace_parts.specs.Walking.{noted, lacks};
+
+use crate::tiles::has_all;
+use geom_core::{NoMemory, Rect, TileKey};
+use memento_core::KeySet;
+
+/// A group that a walk composes, and its tiles that are published.
+#[derive(Drop)]
+pub struct Composed {
+    pub group: u16,
+    pub published: KeySet,
+}
+
+impl Composed {
+    /// Whether it is that group, and the tile is still to be published.
+    pub fn lacks(&self, group: u16, key: TileKey) -> bool
+        ensures { result ≡ lacks group key self.now }
+    {
+        self.group == group && !self.published.has(key)
+    }
+
+    /// Notes that the tile is published, where it is that group.
+    pub fn note(&mut self, group: u16, key: TileKey) -> Result<(), NoMemory>
+        requires { IsWorldKey key }
+        ensures { OnOk result (self.new ≡ noted group key self.old) }
+    {
+        if group == self.group {
+            self.published.insert(key)?;
+        }
+        Ok(())
+    }
+
+    /// Whether all tiles of the rectangle are published.
+    pub fn has_all(&self, rect: &Rect) -> bool
+        ensures { result ≡ has_all self.now.published (keys_of rect.now) }
+    {
+        has_all(&self.published, rect)
+    }
+}

@@ -1,0 +1,21 @@
+//! What a checker of traces keeps of a machine's state, without pixels: what is at work in the slots, what was fed, and the history.
+#![tactic(auto)]
+
+mod composed;
+mod head;
+mod history;
+mod intake;
+mod painter;
+mod paths;
+mod slot;
+mod tiles;
+mod walker;
+
+pub use head::Head;
+pub use history::{Former, Reach};
+pub use intake::Intake;
+pub use painter::Painter;
+pub use paths::path_of;
+pub use slot::{Slot, all_free, fill, some_blocks, some_meets, some_painter, some_walker};
+pub use tiles::round;
+pub use walker::Walker;

@@ -1,0 +1,117 @@
+//! A walk at work.
+
+ghost use Rattle.std.specs.Prelude.{◌≡◌, true, false, IfOk, Ok, OnOk, map};
+ghost use Rattle.std.specs.List.{list_any, list_all};
+ghost use Rattle.trace_parts.specs.Tiles.{has_all};
+ghost use Rattle.geom_core.specs.Grid.{IsWorldKey, keys_of};
+ghost use Rattle.trace_parts.specs.Walking.{fresh, lacks, noted, lacks_pair, with_pair, is_composed};
+
+use crate::composed::Composed;
+use crate::tiles::is_tile_of;
+use doc_model::Patch;
+use geom_core::{NoMemory, Rect, TileKey};
+use memento_core::KeySet;
+use std::alloc::Global;
+use std::marker::Model;
+
+/// A walk at work: its patch, and the groups that it composes, each with its tiles that are published.
+#[derive(Drop)]
+pub struct Walker {
+    patch: Patch,
+    groups: Vec<Composed>,
+}
+
+impl Model for Walker {
+    ghost use Rattle.trace_parts.specs.Walking.{Walking, walking_code};
+
+    ghost Value = { Walking };
+
+    ghost coded = { walking_code };
+
+    ghost view = { λ w. record { patch = w.patch; groups = w.groups.items } };
+}
+
+/// The groups of a path, of which no tile is published.
+fn fresh_groups(alloc: Global, path: &[u16]) -> Result<Vec<Composed>, NoMemory>
+    ensures { IfOk result (λ groups. groups.items ≡ map fresh path.now) }
+{
+    let mut groups = Vec::new(alloc);
+    for group in path {
+        groups.push(Composed {
+            group: *group,
+            published: KeySet::new(alloc),
+        })?;
+    }
+    Ok(groups)
+}
+
+/// Notes the tile of the group as published.
+fn note_pair(groups: &mut [Composed], group: u16, key: TileKey) -> Result<(), NoMemory>
+    requires { IsWorldKey key }
+    ensures { OnOk result (groups.new ≡ map (noted group key) groups.old) }
+{
+    for i in 0..groups.len() {
+        groups[i].note(group, key)?;
+    }
+    Ok(())
+}
+
+/// Whether the tile of the group is still to be published.
+fn some_lacks(groups: &[Composed], group: u16, key: TileKey) -> bool
+    ensures { result ≡ list_any (lacks group key) groups.now }
+{
+    groups.iter().any(|c| c.lacks(group, key))
+}
+
+/// Whether all tiles of the rectangle are published of all groups.
+fn each_has(groups: &[Composed], rect: &Rect) -> bool
+    ensures { result ≡ list_all (λ c. has_all c.published (keys_of rect.now)) groups.now }
+{
+    groups.iter().all(|c| c.has_all(rect))
+}
+
+impl Walker {
+    /// A walk of a patch over the groups of a path, of which no tile is published.
+    pub fn new(alloc: Global, patch: Patch, path: &[u16]) -> Result<Walker, NoMemory>
+        ensures { IfOk result (λ w. w ≡ record { patch = patch; groups = map fresh path.now }) }
+    {
+        let groups = fresh_groups(alloc, path)?;
+        Ok(Walker { patch, groups })
+    }
+
+    /// Its patch.
+    pub fn patch(&self) -> Patch
+        ensures { result ≡ self.now.patch }
+    {
+        self.patch
+    }
+
+    /// Whether it is a tile of a group of the walk, still to be published.
+    fn lacks(&self, group: u16, key: TileKey) -> bool
+        requires { IsWorldKey key }
+        ensures { result ≡ lacks_pair self.now group key }
+    {
+        is_tile_of(&self.patch.rect, key) && some_lacks(&self.groups, group, key)
+    }
+
+    /// Publishes a tile of a group. False where the walk doesn't compose it, or it is published.
+    pub fn publish(&mut self, group: u16, key: TileKey) -> Result<bool, NoMemory>
+        requires { IsWorldKey key }
+        ensures may { IfOk result (λ may. may ≡ lacks_pair self.old group key) }
+        ensures published { result ≡ Ok true → self.new ≡ with_pair self.old group key }
+        ensures same { result ≡ Ok false → self.new ≡ self.old }
+    {
+        if !self.lacks(group, key) {
+            return Ok(false);
+        }
+        note_pair(&mut self.groups, group, key)?;
+        Ok(true)
+    }
+
+    /// Whether all tiles of all groups are published.
+    pub fn is_composed(&self) -> bool
+        ensures { result ≡ is_composed self.now }
+    {
+        each_has(&self.groups, &self.patch.rect)
+    }
+}
