@@ -11,11 +11,14 @@ use crate::walker::Walker;
 use doc_model::{Job, Kind};
 use geom_core::{NoMemory, Rect, TileKey};
 
-/// A slot.
+/// A slot of the machine, with what is at work in it.
 #[derive(Drop)]
 pub enum Slot {
+    /// Nothing is.
     Free,
+    /// A job of the stroke at the head.
     Paints(Painter),
+    /// A walk that composes a patch.
     Walks(Walker),
 }
 
@@ -42,18 +45,21 @@ fn kind_at(jobs: &[(Kind, Job)], index: u32) -> Option<Kind>
 }
 
 impl Slot {
+    /// Whether nothing is at work.
     pub fn is_free(&self) -> bool
         ensures { result ≡ is_free self.now }
     {
         matches!(self, Slot::Free)
     }
 
+    /// Whether a job is at work.
     pub fn is_painter(&self) -> bool
         ensures { result ≡ is_painter self.now }
     {
         matches!(self, Slot::Paints(_))
     }
 
+    /// Whether a walk is at work.
     pub fn is_walker(&self) -> bool
         ensures { result ≡ is_walker self.now }
     {
