@@ -50,6 +50,7 @@ use Rattle.trace_model.specs.Replays as replay
 use Rattle.trace_model.specs.Replays.{first_of}
 use Rattle.trace_parts.specs.declared.history.Reach.TheVariants as reach
 use Rattle.trace_parts.specs.declared.slot.Slot.TheVariants as slot
+use Rattle.trace_parts.specs.Histories.{former}
 use Rattle.trace_parts.specs.Trees.{paints, group_of, tree_path}
 use Rattle.trace_parts.specs.Tiles.{round}
 use Rattle.trace_parts.specs.Waits.{jobs_in, other_in, is_done}
@@ -238,7 +239,7 @@ finished_told s = go (head_stroke s) refl ∙ ap (move.finished_by (outline s)) 
     leaves : (t : Stroke) → head_stroke s ≡ Some t → overlaps t ≡ false → (b : Bool) → outline (effect.after_finish s t b) ≡ move.after_finish (outline s) (told t) b
     leaves t e h false = λ i. record (outline s) { left = popped_told s (no_paint_outcome t.layer s.base) i }
     leaves t e h true = λ i. record (outline s) {
-      past = record { tree = shape s.base; reach = reach.Part t.layer (round_told t e h i) } ∷ map former_of s.past;
+      past = former (shape s.base) (reach.Part t.layer (round_told t e h i)) ∷ map former_of s.past;
       future = [];
       base = shape s.present;
       left = popped_told s outcome.Done i;
@@ -283,17 +284,17 @@ rest_told s o = λ i. record (outline s) { present = shape s.base; left = popped
 changed_told : (s : State) (r : Result Doc TreeFault) → outline (effect.after_change s r) ≡ move.after_change (rest s) (shape_result r)
 changed_told s (Err fault) = rest_told s (outcome.Tree fault)
 changed_told s (Ok new) = moved_told (record (with_outcome s outcome.Done) { past = (s.base, state.Whole) ∷ s.past; future = [] }) new state.Whole
-    ∙ (λ i. move.moved_to (record (rest_told s outcome.Done i) { past = move.former (shape s.base) reach.Whole ∷ map former_of s.past; future = [] }) (shape new) reach.Whole)
+    ∙ (λ i. move.moved_to (record (rest_told s outcome.Done i) { past = former (shape s.base) reach.Whole ∷ map former_of s.past; future = [] }) (shape new) reach.Whole)
 
 undone_told : (s : State) (p : List (Doc × Reach)) → outline (effect.after_undo s p) ≡ move.after_undo (rest s) (map former_of p)
 undone_told s [] = rest_told s outcome.NothingToUndo
 undone_told s (e ∷ p) = moved_told (record (with_outcome s outcome.Done) { past = p; future = (s.base, e.1) ∷ s.future }) e.0 e.1
-    ∙ (λ i. move.moved_to (record (rest_told s outcome.Done i) { past = map former_of p; future = move.former (shape s.base) (reach_of e.1) ∷ map former_of s.future }) (shape e.0) (reach_of e.1))
+    ∙ (λ i. move.moved_to (record (rest_told s outcome.Done i) { past = map former_of p; future = former (shape s.base) (reach_of e.1) ∷ map former_of s.future }) (shape e.0) (reach_of e.1))
 
 redone_told : (s : State) (p : List (Doc × Reach)) → outline (effect.after_redo s p) ≡ move.after_redo (rest s) (map former_of p)
 redone_told s [] = rest_told s outcome.NothingToRedo
 redone_told s (e ∷ p) = moved_told (record (with_outcome s outcome.Done) { past = (s.base, e.1) ∷ s.past; future = p }) e.0 e.1
-    ∙ (λ i. move.moved_to (record (rest_told s outcome.Done i) { past = move.former (shape s.base) (reach_of e.1) ∷ map former_of s.past; future = map former_of p }) (shape e.0) (reach_of e.1))
+    ∙ (λ i. move.moved_to (record (rest_told s outcome.Done i) { past = former (shape s.base) (reach_of e.1) ∷ map former_of s.past; future = map former_of p }) (shape e.0) (reach_of e.1))
 
 -- an entry that is no stroke takes effect
 pub acted_told : (s : State) → option_map outline (after s Act) ≡ move.acted (outline s)

@@ -27,7 +27,7 @@ use Rattle.trace_model.specs.Replays.{first_of}
 use Rattle.trace_parts.specs.declared.head.Head.{Head}
 use Rattle.trace_parts.specs.declared.history.Reach.{Reach}
 use Rattle.trace_parts.specs.declared.history.Reach.TheVariants.{Whole, Part}
-use Rattle.trace_parts.specs.declared.history.Former.{Former}
+use Rattle.trace_parts.specs.Histories.{Former, former}
 use Rattle.trace_parts.specs.declared.slot.Slot.{Slot}
 use Rattle.trace_parts.specs.declared.slot.Slot.TheVariants.{Free, Paints, Walks}
 use Rattle.trace_parts.specs.Trees.{Shape, paints, group_of, tree_path}
@@ -164,7 +164,7 @@ may_finish o h = (h.closed && not h.cancelled) && (not h.overlaps && (not (paint
 
 -- the outline with the stroke at the head as the newest change
 abbrev pub with_change : Outline → Head → Outline
-with_change o h = record o { past = record { tree = o.base; reach = Part h.layer (round (jobs_in o.left)) } ∷ o.past; future = []; base = o.present; way = None }
+with_change o h = record o { past = former o.base (Part h.layer (round (jobs_in o.left))) ∷ o.past; future = []; base = o.present; way = None }
 
 abbrev pub after_finish : Outline → Head → Bool → Outline
 after_finish o h false = popped o
@@ -213,8 +213,10 @@ abbrev pub moved_to : Outline → Shape → Reach → Outline
 moved_to o new Whole = record o { base = new; present = new; updates = waiting o.updates.canvas (refreshed o.updates.canvas o.updates.patches o.area) }
 moved_to o new (Part layer bound) = record o { base = new; present = new; updates = widened o.updates (group_of layer new) bound }
 
-abbrev pub former : Shape → Reach → Former
-former tree reach = record { tree = tree; reach = reach }
+-- the same, where there was such a change
+abbrev pub reached : Outline → Option Reach → Outline
+reached o None = o
+reached o (Some reach) = moved_to o o.base reach
 
 abbrev pub after_change : Outline → Result Shape TreeFault → Outline
 after_change o (Err fault) = o

@@ -15,7 +15,7 @@ use Rattle.machine_model.specs.State.{State}
 use Rattle.trace_model.specs.Next.{groups_of}
 use Rattle.trace_parts.specs.declared.history.Reach.{Reach}
 use Rattle.trace_parts.specs.declared.history.Reach.TheVariants as reach
-use Rattle.trace_parts.specs.declared.history.Former.{Former}
+use Rattle.trace_parts.specs.Histories.{Former}
 use Rattle.trace_parts.specs.declared.composed.Composed.{Composed}
 use Rattle.trace_parts.specs.declared.slot.Slot.{Slot}
 use Rattle.trace_parts.specs.declared.slot.Slot.TheVariants as slot

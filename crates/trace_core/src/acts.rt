@@ -1,28 +1,16 @@
 //! Entries that are no strokes.
 
-ghost use Rattle.std.specs.Prelude.{◌≡◌, ◌||◌, ◌&&◌, not, OnOk, take, ◌∷◌};
+ghost use Rattle.std.specs.Prelude.{◌≡◌, ◌||◌, ◌&&◌, not, OnOk, take};
 ghost use Rattle.doc_model.specs.Changes.{changed};
 ghost use Rattle.trace_core.specs.Parts.{parts};
 ghost use Rattle.trace_parts.specs.Waits.{other_in};
-ghost use Rattle.trace_parts.specs.declared.history.Former.{Former};
-ghost use Rattle.trace_core.specs.Moves.{Follows, may_act, after_change, after_undo, after_redo, after_command, acted, stepped, moved_to, former};
+ghost use Rattle.trace_core.specs.Moves.{Follows, may_act, reached, after_change, after_undo, after_redo, after_command, acted, stepped};
 
 use crate::machine::Machine;
 use crate::strokes::widen;
 use doc_model::{Change, Command};
 use geom_core::NoMemory;
-use trace_parts::{Former, Reach};
-use tree_core::Tree;
-
-/// Puts the kept tree in the place of the other, which is kept from then on.
-fn exchange(tree: &mut Tree, kept: Former) -> Former
-    ensures new { tree.new ≡ kept.tree }
-    ensures old { result ≡ former tree.old kept.reach }
-{
-    let Former { tree: new, reach } = kept;
-    let old = std::mem::replace(tree, new);
-    Former { tree: old, reach }
-}
+use trace_parts::Reach;
 
 impl Machine {
     /// Whether the command at the head may take effect.
@@ -35,60 +23,43 @@ impl Machine {
         }
     }
 
-    /// What a change of that reach has changed waits.
-    fn reached(&mut self, reach: Reach)
-        ensures { parts self.new ≡ moved_to (parts self.old) self.old.tree reach }
+    /// What a change of that reach has changed waits, where there was one.
+    fn reached(&mut self, reach: Option<Reach>)
+        ensures { parts self.new ≡ reached (parts self.old) reach }
     {
         match reach {
-            Reach::Whole => self.updates.refresh(self.area),
-            Reach::Part(layer, bound) => {
-                let group = self.group_of(layer);
+            Some(Reach::Whole) => self.updates.refresh(self.area),
+            Some(Reach::Part(layer, bound)) => {
+                let group = self.history.group_of(layer);
                 widen(&mut self.updates, group, bound);
             }
+            None => {}
         }
     }
 
     /// Changes the tree, or refuses to.
     fn change(&mut self, change: &Change) -> Result<(), NoMemory>
-        ensures { OnOk result (parts self.new ≡ after_change (parts self.old) (changed (λ _. tt) change.now self.old.tree)) }
+        ensures { OnOk result (parts self.new ≡ after_change (parts self.old) (changed (λ _. tt) change.now self.old.history.tree)) }
     {
-        let tree = self.tree.copy();
-        if self.tree.change(change).is_err() {
-            return Ok(());
-        }
-        self.past.push_front(Former {
-            tree,
-            reach: Reach::Whole,
-        })?;
-        self.future.clear();
-        self.reached(Reach::Whole);
+        let reach = self.history.change(self.alloc, change)?;
+        self.reached(reach);
         Ok(())
     }
 
     /// Goes back to the document from before the newest change.
     fn undo(&mut self) -> Result<(), NoMemory>
-        ensures { OnOk result (parts self.new ≡ after_undo (parts self.old) self.old.past.items) }
+        ensures { OnOk result (parts self.new ≡ after_undo (parts self.old) self.old.history.past) }
     {
-        let Some(kept) = self.past.pop_front() else {
-            return Ok(());
-        };
-        let reach = kept.reach;
-        let old = exchange(&mut self.tree, kept);
-        self.future.push_front(old)?;
+        let reach = self.history.undo()?;
         self.reached(reach);
         Ok(())
     }
 
     /// Takes the newest undo back.
     fn redo(&mut self) -> Result<(), NoMemory>
-        ensures { OnOk result (parts self.new ≡ after_redo (parts self.old) self.old.future.items) }
+        ensures { OnOk result (parts self.new ≡ after_redo (parts self.old) self.old.history.future) }
     {
-        let Some(kept) = self.future.pop_front() else {
-            return Ok(());
-        };
-        let reach = kept.reach;
-        let old = exchange(&mut self.tree, kept);
-        self.past.push_front(old)?;
+        let reach = self.history.redo()?;
         self.reached(reach);
         Ok(())
     }
@@ -102,7 +73,7 @@ impl Machine {
             Command::Undo => self.undo(),
             Command::Redo => self.redo(),
             Command::Purge { keep } => {
-                self.past.truncate(*keep as usize);
+                self.history.purge(*keep as usize);
                 Ok(())
             }
             _ => Ok(()),
@@ -135,8 +106,7 @@ impl Machine {
         if finished {
             return Ok(true);
         }
-        let cancelled = self.cancel()?;
-        if cancelled {
+        if self.cancel() {
             return Ok(true);
         }
         self.act()

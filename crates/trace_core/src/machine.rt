@@ -8,16 +8,13 @@ ghost use Rattle.script_forms.specs.Ranges.{in_range};
 ghost use Rattle.machine_model.specs.State.{new_state};
 ghost use Rattle.trace_core.specs.Outline.{outline};
 ghost use Rattle.trace_core.specs.Parts.{parts};
-ghost use Rattle.trace_parts.specs.Trees.{paints, group_of};
 ghost use Rattle.trace_parts.specs.Slots.{is_free as slot_is_free, is_painter, is_walker};
 ghost use Rattle.trace_core.specs.Moves.{Follows, fed, no_painter, no_walker, is_clean, is_settled};
 
 use doc_model::{Canvas, Command};
 use geom_core::{NoMemory, Rect};
 use std::alloc::Global;
-use std::collections::VecDeque;
-use trace_parts::{Former, Intake, Slot, all_free, some_painter, some_walker};
-use tree_core::Tree;
+use trace_parts::{History, Intake, Slot, all_free, some_painter, some_walker};
 use update_queue::Updates;
 
 /// All of the machine's state but pixels, serials and outcomes.
@@ -27,10 +24,7 @@ pub(crate) struct Machine {
     /// The canvas's points.
     pub(crate) area: Rect,
     pub(crate) intake: Intake,
-    /// The tree of the document, which painting doesn't change.
-    pub(crate) tree: Tree,
-    pub(crate) past: VecDeque<Former>,
-    pub(crate) future: VecDeque<Former>,
+    pub(crate) history: History,
     /// How many jobs of the stroke under way were started.
     pub(crate) way: Option<u32>,
     pub(crate) updates: Updates,
@@ -60,9 +54,7 @@ impl Machine {
             alloc,
             area,
             intake: Intake::new(alloc),
-            tree: Tree::new(),
-            past: VecDeque::new(alloc),
-            future: VecDeque::new(alloc),
+            history: History::new(alloc),
             way: None,
             updates: Updates::new(area),
             slots,
@@ -90,21 +82,6 @@ impl Machine {
         ensures ranges { list_all in_range self.now.intake.fed ≡ true }
     {
         self.intake.commands()
-    }
-
-    /// Whether the document has such a paint layer.
-    pub(crate) fn paints(&self, layer: u16) -> bool
-        ensures { result ≡ paints layer self.now.tree }
-    {
-        let _count = self.tree.node_count();
-        self.tree.has(layer) && !self.tree.is_group(layer)
-    }
-
-    /// The group round a layer.
-    pub(crate) fn group_of(&self, layer: u16) -> u16
-        ensures { result ≡ group_of layer self.now.tree }
-    {
-        self.tree.parent(layer).unwrap_or(0)
     }
 
     /// Whether no job is at work.

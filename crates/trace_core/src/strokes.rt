@@ -14,7 +14,7 @@ use crate::machine::Machine;
 use crate::work::is_alive;
 use doc_model::{Job, Kind, Walk};
 use geom_core::{NoMemory, Rect};
-use trace_parts::{Former, Head, Reach, round};
+use trace_parts::{Head, Reach, round};
 use update_queue::Updates;
 
 /// The rectangle, or none, waits for the group and those above it.
@@ -42,7 +42,7 @@ impl Machine {
     fn may_begin(&self, head: &Head) -> bool
         ensures { result ≡ may_begin (parts self.now) head.now }
     {
-        is_alive(head) && (self.paints(head.layer) && (!head.exclusive || self.no_walker()))
+        is_alive(head) && (self.history.paints(head.layer) && (!head.exclusive || self.no_walker()))
     }
 
     /// The stroke at the head begins.
@@ -74,7 +74,7 @@ impl Machine {
         ensures { result ≡ may_finish (parts self.now) head.now }
     {
         let ended = head.closed && !head.cancelled;
-        ended && (!head.overlaps && (!self.paints(head.layer) || self.has_ended(head)))
+        ended && (!head.overlaps && (!self.history.paints(head.layer) || self.has_ended(head)))
     }
 
     /// The stroke at the head becomes the newest change, and leaves the queue.
@@ -82,12 +82,8 @@ impl Machine {
         requires { may_leave self.old.intake.left ≡ true }
         ensures { OnOk result (parts self.new ≡ popped (with_change (parts self.old) head.now)) }
     {
-        let bound = round(self.alloc, self.intake.jobs())?;
-        self.past.push_front(Former {
-            tree: self.tree.copy(),
-            reach: Reach::Part(head.layer, bound),
-        })?;
-        self.future.clear();
+        let bound = round(self.intake.jobs());
+        self.history.keep(Reach::Part(head.layer, bound))?;
         self.way = None;
         self.intake.pop();
         Ok(())
@@ -103,7 +99,7 @@ impl Machine {
         if !self.may_finish(&head) {
             return Ok(false);
         }
-        if self.paints(head.layer) {
+        if self.history.paints(head.layer) {
             self.keep_change(&head)?;
             return Ok(true);
         }
@@ -131,29 +127,28 @@ impl Machine {
     }
 
     /// What the stroke at the head has painted is taken back, and it leaves the queue.
-    fn drop_change(&mut self, head: &Head) -> Result<(), NoMemory>
+    fn drop_change(&mut self, head: &Head)
         requires { may_leave self.old.intake.left ≡ true }
-        ensures { OnOk result (parts self.new ≡ popped (without_change (parts self.old) head.now)) }
+        ensures { parts self.new ≡ popped (without_change (parts self.old) head.now) }
     {
-        let bound = round(self.alloc, self.started_jobs())?;
-        let group = self.group_of(head.layer);
+        let bound = round(self.started_jobs());
+        let group = self.history.group_of(head.layer);
         widen(&mut self.updates, group, bound);
         self.way = None;
         self.intake.pop();
-        Ok(())
     }
 
     /// The stroke at the head leaves nothing.
-    pub(crate) fn cancel(&mut self) -> Result<bool, NoMemory>
-        ensures { Follows result (cancelled (parts self.old)) (parts self.old) (parts self.new) }
+    pub(crate) fn cancel(&mut self) -> bool
+        ensures { Follows (Ok result) (cancelled (parts self.old)) (parts self.old) (parts self.new) }
     {
         let Some(head) = self.intake.head() else {
-            return Ok(false);
+            return false;
         };
         if !self.may_cancel(&head) {
-            return Ok(false);
+            return false;
         }
-        self.drop_change(&head)?;
-        Ok(true)
+        self.drop_change(&head);
+        true
     }
 }

@@ -10,7 +10,7 @@ ghost use Rattle.trace_parts.specs.Waits.{head_in};
 use crate::machine::Machine;
 use doc_model::Patch;
 use geom_core::{NoMemory, Rect, TileKey};
-use trace_parts::{Slot, Walker, fill, path_of, some_meets};
+use trace_parts::{Slot, Walker, fill, some_meets};
 use update_queue::Updates;
 
 /// Whether the rectangles are one.
@@ -73,7 +73,7 @@ impl Machine {
         if !self.may_walk(&patch.rect) {
             return Ok(false);
         }
-        let path = path_of(self.alloc, &self.tree, patch.walk)?;
+        let path = self.history.path(self.alloc, patch.walk)?;
         let walker = Walker::new(self.alloc, patch, &path)?;
         let _patch = self.updates.take_at(i);
         fill(&mut self.slots, place, Slot::Walks(walker));

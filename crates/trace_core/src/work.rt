@@ -104,7 +104,7 @@ impl Machine {
             Some(Slot::Paints(painter)) if painter.is_painted() => painter.job(),
             _ => return false,
         };
-        let group = self.group_of(head.layer);
+        let group = self.history.group_of(head.layer);
         widen_all(&mut self.updates, group, job.writes().as_slice());
         fill(&mut self.slots, place, Slot::Free);
         true

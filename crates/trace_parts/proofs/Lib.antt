@@ -1,4 +1,6 @@
+mod Histories
 mod Intakes
+mod Noting
 pub mod Passes
 mod TileSets
 mod TreeWays

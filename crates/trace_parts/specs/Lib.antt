@@ -3,5 +3,6 @@ pub mod Painting
 pub mod Walking
 pub mod Slots
 pub mod Trees
+pub mod Histories
 pub mod Taken
 pub mod Waits

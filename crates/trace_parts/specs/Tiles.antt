@@ -1,11 +1,12 @@
 -- Sets of tiles.
-use Rattle.std.specs.Prelude.{Bool, Option, List, [], ◌∷◌}
+use Rattle.std.specs.Prelude.{Bool, Option, Some, List, [], ◌∷◌}
 use Rattle.std.specs.List.{list_all}
 use Rattle.std.specs.FinSet as set
 use Rattle.std.specs.FinSet.{FinSet}
 use Rattle.geom_core.specs.Areas.{Area}
-use Rattle.geom_core.specs.Grid.{Key, key_cmp, key_set}
+use Rattle.geom_core.specs.Grid.{Key, key_cmp, key_set, tile}
 use Rattle.geom_core.specs.Touches.{bound_of}
+use Rattle.memento_core.specs.KeySets.{widened}
 use Rattle.doc_model.specs.Strokes.{Jobs}
 use Rattle.machine_model.specs.Effects.{writes_of}
 
@@ -13,10 +14,10 @@ use Rattle.machine_model.specs.Effects.{writes_of}
 abbrev pub has_all : FinSet key_cmp → List Key → Bool
 has_all keys tiles = list_all (set.contains keys) tiles
 
--- the set with the tiles added, one after another
-abbrev pub with_all : List Key → FinSet key_cmp → FinSet key_cmp
-with_all [] keys = keys
-with_all (k ∷ ks) keys = with_all ks (set.insert keys k)
+-- the least rectangle round one that may be there and the tiles
+abbrev pub rounded : List Key → Option Area → Option Area
+rounded [] bound = bound
+rounded (k ∷ ks) bound = rounded ks (Some (widened bound (tile k)))
 
 -- the rectangle round the tiles that the jobs may change
 abbrev pub round : Jobs → Option Area

@@ -1,6 +1,6 @@
 //! A group of a walk, and its tiles.
 
-ghost use Rattle.std.specs.Prelude.{◌≡◌, OnOk};
+ghost use Rattle.std.specs.Prelude.{◌≡◌, OnOk, IfOk};
 ghost use Rattle.geom_core.specs.Grid.{IsWorldKey, keys_of};
 ghost use Rattle.trace_parts.specs.Tiles.{has_all};
 ghost use Rattle.trace_parts.specs.Walking.{noted, lacks};
@@ -17,22 +17,16 @@ pub struct Composed {
 }
 
 impl Composed {
-    /// Whether it is that group, and the tile is still to be published.
-    pub fn lacks(&self, group: u16, key: TileKey) -> bool
-        ensures { result ≡ lacks group key self.now }
-    {
-        self.group == group && !self.published.has(key)
-    }
-
-    /// Notes that the tile is published, where it is that group.
-    pub fn note(&mut self, group: u16, key: TileKey) -> Result<(), NoMemory>
+    /// Notes that the tile is published, where it is that group. Answers whether it wasn't noted yet.
+    pub fn note(&mut self, group: u16, key: TileKey) -> Result<bool, NoMemory>
         requires { IsWorldKey key }
-        ensures { OnOk result (self.new ≡ noted group key self.old) }
+        ensures noted { OnOk result (self.new ≡ noted group key self.old) }
+        ensures new { IfOk result (λ new. new ≡ lacks group key self.old) }
     {
-        if group == self.group {
-            self.published.insert(key)?;
+        if group != self.group {
+            return Ok(false);
         }
-        Ok(())
+        self.published.insert(key)
     }
 
     /// Whether all tiles of the rectangle are published.

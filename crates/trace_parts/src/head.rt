@@ -1,7 +1,7 @@
 //! The stroke at the head.
 
-/// What guards ask of the stroke at the head: its layer, whether it is exclusive, whether jobs of it
-/// conflict, whether it is closed, whether it is cancelled, and how many of its jobs are kept, 0 to 4,096.
+/// What guards ask of the stroke at the head. `overlaps`: jobs of it conflict; `closed`: it was ended or cancelled;
+/// `jobs`: how many are kept.
 #[derive(Clone, Copy)]
 pub struct Head {
     pub layer: u16,

@@ -12,10 +12,9 @@ mod tiles;
 mod walker;
 
 pub use head::Head;
-pub use history::{Former, Reach};
+pub use history::{History, Reach};
 pub use intake::Intake;
 pub use painter::Painter;
-pub use paths::path_of;
 pub use slot::{Slot, all_free, fill, some_blocks, some_meets, some_painter, some_walker};
 pub use tiles::round;
 pub use walker::Walker;

@@ -63,14 +63,6 @@ impl Painter {
         self.job
     }
 
-    /// Whether the tile is one of the job's, still to be published.
-    fn lacks(&self, key: TileKey) -> bool
-        requires { IsWorldKey key }
-        ensures { result ≡ lacks_tile self.now key }
-    {
-        is_tile_of_some(self.job.writes().as_slice(), key) && !self.published.has(key)
-    }
-
     /// Publishes a tile. False where it is no tile of the job, or is published.
     pub fn publish(&mut self, key: TileKey) -> Result<bool, NoMemory>
         requires { IsWorldKey key }
@@ -78,11 +70,10 @@ impl Painter {
         ensures published { result ≡ Ok true → self.new ≡ with_tile self.old key }
         ensures same { result ≡ Ok false → self.new ≡ self.old }
     {
-        if !self.lacks(key) {
+        if !is_tile_of_some(self.job.writes().as_slice(), key) {
             return Ok(false);
         }
-        self.published.insert(key)?;
-        Ok(true)
+        self.published.insert(key)
     }
 
     /// Whether all tiles of the job are published.

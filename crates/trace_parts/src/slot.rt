@@ -11,10 +11,10 @@ use crate::walker::Walker;
 use doc_model::{Job, Kind};
 use geom_core::{NoMemory, Rect, TileKey};
 
-/// A slot of the machine, with what is at work in it.
+/// A slot: free, or with a job or a walk at work.
 #[derive(Drop)]
 pub enum Slot {
-    /// Nothing is.
+    /// Nothing is at work there.
     Free,
     /// A job of the stroke at the head.
     Paints(Painter),
@@ -45,21 +45,21 @@ fn kind_at(jobs: &[(Kind, Job)], index: u32) -> Option<Kind>
 }
 
 impl Slot {
-    /// Whether nothing is at work.
+    /// Whether nothing is at work there.
     pub fn is_free(&self) -> bool
         ensures { result ≡ is_free self.now }
     {
         matches!(self, Slot::Free)
     }
 
-    /// Whether a job is at work.
+    /// Whether a job is at work there.
     pub fn is_painter(&self) -> bool
         ensures { result ≡ is_painter self.now }
     {
         matches!(self, Slot::Paints(_))
     }
 
-    /// Whether a walk is at work.
+    /// Whether a walk is at work there.
     pub fn is_walker(&self) -> bool
         ensures { result ≡ is_walker self.now }
     {
@@ -109,7 +109,7 @@ impl Slot {
     }
 }
 
-/// Puts that into the slot, where it is there.
+/// Puts that into the slot of that place, from 0, where there is one.
 pub fn fill(slots: &mut [Slot], place: u8, slot: Slot)
     ensures { slots.new ≡ slice_set slots.old place slot }
 {

@@ -1,16 +1,15 @@
 //! Tiles of rectangles.
 
-ghost use Rattle.std.specs.Prelude.{◌≡◌, true, All, OnOk, IfOk};
+ghost use Rattle.std.specs.Prelude.{◌≡◌, Some, true, All};
 ghost use Rattle.std.specs.List.{list_any, list_all};
 ghost use Rattle.geom_core.specs.Grid.{IsWorldKey, same_key, keys_of, all_keys_of};
 ghost use Rattle.doc_model.specs.Jobs.{checks, writes};
-ghost use Rattle.machine_model.specs.Effects.{writes_of};
-ghost use Rattle.trace_parts.specs.Tiles.{has_all, with_all, round};
+ghost use Rattle.memento_core.specs.KeySets.{widened};
+ghost use Rattle.trace_parts.specs.Tiles.{has_all, rounded, round};
 
 use doc_model::{Job, Kind};
-use geom_core::{NoMemory, Rect, TileKey};
+use geom_core::{Rect, TileKey};
 use memento_core::KeySet;
-use std::alloc::Global;
 
 /// Whether the tile is one that the rectangle meets.
 pub fn is_tile_of(rect: &Rect, key: TileKey) -> bool
@@ -65,52 +64,55 @@ pub fn has_all_of(keys: &KeySet, rects: &[Rect]) -> bool
     each_has(keys, rects)
 }
 
-/// Adds all tiles of the rectangle.
-fn add_tiles(keys: &mut KeySet, rect: &Rect) -> Result<(), NoMemory>
-    ensures { OnOk result (keys.new ≡ with_all (keys_of rect.now) keys.old) }
+/// The least rectangle round both.
+fn wider(bound: Option<Rect>, rect: Rect) -> Option<Rect>
+    ensures { result ≡ Some (widened bound rect) }
 {
+    match bound {
+        Some(bound) => Some(bound.bound(&rect)),
+        None => Some(rect),
+    }
+}
+
+/// The same, with all tiles of the rectangle.
+fn round_tiles(bound: Option<Rect>, rect: &Rect) -> Option<Rect>
+    ensures { result ≡ rounded (keys_of rect.now) bound }
+{
+    let mut round = bound;
     for i in 0..rect.tile_count() {
-        keys.insert(rect.tile_at(i))?;
+        round = wider(round, rect.tile_at(i).rect());
     }
-    Ok(())
+    round
 }
 
-/// Adds all tiles of the rectangles.
-fn add_all_tiles(keys: &mut KeySet, rects: &[Rect]) -> Result<(), NoMemory>
-    ensures { OnOk result (keys.new ≡ with_all (all_keys_of rects.now) keys.old) }
+/// The same, with all tiles of the rectangles.
+fn round_all_tiles(bound: Option<Rect>, rects: &[Rect]) -> Option<Rect>
+    ensures { result ≡ rounded (all_keys_of rects.now) bound }
 {
+    let mut round = bound;
     for rect in rects {
-        add_tiles(keys, rect)?;
+        round = round_tiles(round, rect);
     }
-    Ok(())
+    round
 }
 
-/// Adds all tiles that the job may change.
-fn add_writes(keys: &mut KeySet, job: &Job) -> Result<(), NoMemory>
+/// The same, with all tiles that the job may change.
+fn round_writes(bound: Option<Rect>, job: &Job) -> Option<Rect>
     requires { checks job.now ≡ true }
-    ensures { OnOk result (keys.new ≡ with_all (all_keys_of (writes job.now)) keys.old) }
+    ensures { result ≡ rounded (all_keys_of (writes job.now)) bound }
 {
     let writes = job.writes();
-    add_all_tiles(keys, writes.as_slice())
-}
-
-/// Adds all tiles that the jobs may change.
-fn add_jobs(keys: &mut KeySet, jobs: &[(Kind, Job)]) -> Result<(), NoMemory>
-    requires { All (λ job. checks job.1 ≡ true) jobs.now }
-    ensures { OnOk result (keys.new ≡ with_all (all_keys_of (writes_of jobs.now)) keys.old) }
-{
-    for job in jobs {
-        add_writes(keys, &job.1)?;
-    }
-    Ok(())
+    round_all_tiles(bound, writes.as_slice())
 }
 
 /// The rectangle round the tiles that the jobs may change. It takes a step for each tile of each job.
-pub fn round(alloc: Global, jobs: &[(Kind, Job)]) -> Result<Option<Rect>, NoMemory>
+pub fn round(jobs: &[(Kind, Job)]) -> Option<Rect>
     requires { All (λ job. checks job.1 ≡ true) jobs.now }
-    ensures { IfOk result (λ bound. bound ≡ round jobs.now) }
+    ensures { result ≡ round jobs.now }
 {
-    let mut keys = KeySet::new(alloc);
-    add_jobs(&mut keys, jobs)?;
-    Ok(keys.touched().bound)
+    let mut round = None;
+    for job in jobs {
+        round = round_writes(round, &job.1);
+    }
+    round
 }

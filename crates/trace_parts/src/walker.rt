@@ -45,22 +45,18 @@ fn fresh_groups(alloc: Global, path: &[u16]) -> Result<Vec<Composed>, NoMemory>
     Ok(groups)
 }
 
-/// Notes the tile of the group as published.
-fn note_pair(groups: &mut [Composed], group: u16, key: TileKey) -> Result<(), NoMemory>
+/// Notes the tile of the group as published. Answers whether it wasn't noted yet.
+fn note_pair(groups: &mut [Composed], group: u16, key: TileKey) -> Result<bool, NoMemory>
     requires { IsWorldKey key }
-    ensures { OnOk result (groups.new ≡ map (noted group key) groups.old) }
+    ensures noted { OnOk result (groups.new ≡ map (noted group key) groups.old) }
+    ensures new { IfOk result (λ new. new ≡ list_any (lacks group key) groups.old) }
 {
+    let mut new = false;
     for i in 0..groups.len() {
-        groups[i].note(group, key)?;
+        let lacked = groups[i].note(group, key)?;
+        new = new || lacked;
     }
-    Ok(())
-}
-
-/// Whether the tile of the group is still to be published.
-fn some_lacks(groups: &[Composed], group: u16, key: TileKey) -> bool
-    ensures { result ≡ list_any (lacks group key) groups.now }
-{
-    groups.iter().any(|c| c.lacks(group, key))
+    Ok(new)
 }
 
 /// Whether all tiles of the rectangle are published of all groups.
@@ -86,14 +82,6 @@ impl Walker {
         self.patch
     }
 
-    /// Whether it is a tile of a group of the walk, still to be published.
-    fn lacks(&self, group: u16, key: TileKey) -> bool
-        requires { IsWorldKey key }
-        ensures { result ≡ lacks_pair self.now group key }
-    {
-        is_tile_of(&self.patch.rect, key) && some_lacks(&self.groups, group, key)
-    }
-
     /// Publishes a tile of a group. False where the walk doesn't compose it, or it is published.
     pub fn publish(&mut self, group: u16, key: TileKey) -> Result<bool, NoMemory>
         requires { IsWorldKey key }
@@ -101,11 +89,10 @@ impl Walker {
         ensures published { result ≡ Ok true → self.new ≡ with_pair self.old group key }
         ensures same { result ≡ Ok false → self.new ≡ self.old }
     {
-        if !self.lacks(group, key) {
+        if !is_tile_of(&self.patch.rect, key) {
             return Ok(false);
         }
-        note_pair(&mut self.groups, group, key)?;
-        Ok(true)
+        note_pair(&mut self.groups, group, key)
     }
 
     /// Whether all tiles of all groups are published.

@@ -18,8 +18,8 @@ returns-then-finished c =
     (no_follows c.begin.result (begun old) old mid c.begin.ensures c.if-begin.false)
     (yes_follows c.in_ok-finished.finished (finished mid) mid new c.in_ok-finished.ensures c.if-finished.true)
 
-pub returns-then-cancelled : goal.returns-then-cancelled
-returns-then-cancelled c =
+pub returns-then-cancel : goal.returns-then-cancel
+returns-then-cancel c =
     let old = parts c.args.self.now in
     let mid = parts c.begin.new.self in
     let low = parts c.finish.new.self in
@@ -27,7 +27,7 @@ returns-then-cancelled c =
     step_cancels old mid low new
     (no_follows c.begin.result (begun old) old mid c.begin.ensures c.if-begin.false)
     (no_follows c.in_ok-finished.finished (finished mid) mid low c.in_ok-finished.ensures c.if-finished.false)
-    (yes_follows c.in_ok-cancelled.cancelled (cancelled low) low new c.in_ok-cancelled.ensures c.if-cancelled.true)
+    (yes_follows c.cancel.result (cancelled low) low new c.cancel.ensures c.if-cancel.true)
 
 pub returns : goal.returns
 returns c =
@@ -38,5 +38,5 @@ returns c =
     step_acts old mid low deep (parts c.act.new.self) c.act.result
     (no_follows c.begin.result (begun old) old mid c.begin.ensures c.if-begin.false)
     (no_follows c.in_ok-finished.finished (finished mid) mid low c.in_ok-finished.ensures c.if-finished.false)
-    (no_follows c.in_ok-cancelled.cancelled (cancelled low) low deep c.in_ok-cancelled.ensures c.if-cancelled.false)
+    (no_follows c.cancel.result (cancelled low) low deep c.cancel.ensures c.if-cancel.false)
     c.act.ensures
