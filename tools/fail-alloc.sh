@@ -1,6 +1,6 @@
 #!/bin/sh
-# Refuses each growth of memory in turn, in runs of worked scripts without workers and with two, and tells how they ended.
-# No gate calls it.
+# Refuses each growth of memory in turn, in runs of worked scripts without workers and with two, of their traces, and of
+# what these replay to, and tells how they ended. No gate calls it.
 #
 # By a small library of its own over the C library's allocator each growth alone is refused, then each and all after it,
 # and then each second, third, tenth and thirty-seventh. (`rt try --fail-alloc N` refuses one, and builds anew for each N.)
@@ -88,30 +88,42 @@ refusing() {
     ended "$which, $workers workers" "$(basename "$file") $*"
 }
 
+# swept STEP WORKERS SCRIPT WORDS..: each STEPth growth refused, until thirty in a row have the whole output: then there are
+# no more growths to refuse.
+swept() {
+    step=$1 many=$2 text=$3
+    shift 3
+    "$program" --workers "$many" "$@" <"$text" >"$tmp/right"
+    runs=0 whole=0 none=0 n=1 row=0
+    while [ $row -lt 30 ]; do
+        before=$whole
+        refusing FAIL_AT=$n "$many" "$text" "$@"
+        refusing FAIL_FROM=$n "$many" "$text" "$@"
+        if [ $whole -eq $((before + 2)) ]; then row=$((row + 1)); else row=0; fi
+        n=$((n + step))
+    done
+    for each in 2 3 10 37; do
+        refusing FAIL_EACH=$each "$many" "$text" "$@"
+    done
+    echo "$(basename "$text") by $* with $many workers: growths up to some $((n - 30 * step)), of which each ${step}th was refused: $runs runs, $none ended with code 6, $whole with the whole output"
+}
+
 built() {
     [ -x "$program" ] || { echo "fail-alloc: $program isn't there" >&2; exit 70; }
     shim
-    for file in "$tmp/cancelled" "$tmp/undone" "$tmp/removed" "$tmp/large"; do
-        step=1
-        [ "$file" != "$tmp/large" ] || step=7
+    for script in "$tmp/cancelled" "$tmp/undone" "$tmp/removed" "$tmp/large"; do
+        each_of=1
+        [ "$script" != "$tmp/large" ] || each_of=7
         for emit in picture log; do
-            "$program" --workers 0 --emit $emit <"$file" >"$tmp/right"
-            for workers in 0 2; do
-                # until thirty in a row have the whole output: then there are no more growths to refuse
-                runs=0 whole=0 none=0 n=1 row=0
-                while [ $row -lt 30 ]; do
-                    before=$whole
-                    refusing FAIL_AT=$n $workers "$file" --emit $emit
-                    refusing FAIL_FROM=$n $workers "$file" --emit $emit
-                    if [ $whole -eq $((before + 2)) ]; then row=$((row + 1)); else row=0; fi
-                    n=$((n + step))
-                done
-                for each in 2 3 10 37; do
-                    refusing FAIL_EACH=$each $workers "$file" --emit $emit
-                done
-                echo "$(basename "$file") as $emit with $workers workers: growths up to some $((n - 30 * step)), of which each ${step}th was refused: $runs runs, $none ended with code 6, $whole with the whole output"
+            for crew in 0 2; do
+                swept $each_of $crew "$script" --emit $emit
             done
         done
+    done
+    for script in "$tmp/cancelled" "$tmp/undone" "$tmp/removed"; do
+        "$program" --workers 2 --emit trace <"$script" >"$script.trace"
+        swept 1 2 "$script" --emit trace
+        swept 1 2 "$script.trace" --replay --emit log
     done
 }
 
