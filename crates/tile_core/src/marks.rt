@@ -53,6 +53,12 @@ impl Marks {
         col < 32 && row < 32 && self.tiles[32 * row as usize + col as usize]
     }
 
+    /// Whether a tile of a row of the canvas is marked.
+    pub(crate) fn has_in_row(&self, row: u16) -> bool {
+        let at = 32 * row as usize;
+        row < 32 && self.tiles[at..at + 32].iter().any(|mark| *mark)
+    }
+
     /// The same marks once more.
     pub fn copy(&self) -> Marks
         ensures { result ≡ self.now }

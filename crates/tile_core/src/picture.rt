@@ -55,9 +55,18 @@ impl Frame {
         ensures shown { Shows self.now picture.new }
         ensures rest { drop (3 * (self.now.width * self.now.height)) picture.new ≡ drop (3 * (self.now.width * self.now.height)) picture.old }
     {
+        for row in 0..self.height().div_ceil(64) {
+            if fresh.has_in_row(row) {
+                self.band_after(before, fresh, row, picture);
+            }
+        }
+    }
+
+    /// Writes the points of the marked tiles of one row of tiles.
+    fn band_after(&self, before: &Frame, fresh: &Marks, row: u16, picture: &mut [u8]) {
         let across = 3 * self.width() as usize;
-        let mut at = 0;
-        for y in 0..self.height() {
+        let mut at = across * 64 * row as usize;
+        for y in 64 * row..(64 * row + 64).min(self.height()) {
             self.row_after(before, fresh, y, &mut picture[at..at + across]);
             at += across;
         }
