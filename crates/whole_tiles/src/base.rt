@@ -16,7 +16,10 @@ pub fn base_of(alloc: Global, shot: &Shot, key: TileKey, needs: &Rect) -> Result
     let mut base = Shot::new(alloc, &[], shot.ground())?;
     share_under(shot, key, &mut base)?;
     for i in 0..needs.tile_count() {
-        share_under(shot, needs.tile_at(i), &mut base)?;
+        let read = needs.tile_at(i);
+        if read != key {
+            share_under(shot, read, &mut base)?;
+        }
     }
     Ok(base)
 }
