@@ -24,8 +24,7 @@ pub(crate) fn dimmed(s: Pixel, strength: u8) -> Pixel
 
 /// Lays each source at full strength on the pixel at its place, with as little work as the alphas allow.
 #[inline]
-pub(crate) fn lay_block(op: Op, sources: &[Pixel], row: &mut [Pixel])
-    requires sources { length sources.now ≡ BLOCK }
+pub(crate) fn lay_block(op: Op, sources: &[Pixel; BLOCK], row: &mut [Pixel])
     requires row { length row.old ≡ BLOCK }
     ensures { LaysRow op (λ k. slice_index_or sources.now k clear) (λ _. 255) row.old row.new }
 {
@@ -81,8 +80,7 @@ fn alphas_of(pixels: &[Pixel]) -> Alphas
 
 /// The same for `Op::Over`, by what is known of the alphas.
 #[inline]
-fn lay_over(sources: &[Pixel], above: Alphas, row: &mut [Pixel], below: Alphas)
-    requires sources { length sources.now ≡ BLOCK }
+fn lay_over(sources: &[Pixel; BLOCK], above: Alphas, row: &mut [Pixel], below: Alphas)
     requires row { length row.old ≡ BLOCK }
     requires above { (k : ℕ) → k < BLOCK → CoversWithin above.least above.most (slice_index_or sources.now k clear) }
     requires below { (k : ℕ) → k < BLOCK → CoversWithin below.least below.most (slice_index_or row.old k clear) }
@@ -99,8 +97,7 @@ fn lay_over(sources: &[Pixel], above: Alphas, row: &mut [Pixel], below: Alphas)
 
 /// The same over opaque pixels alone.
 #[inline]
-fn lay_on_opaque(sources: &[Pixel], row: &mut [Pixel])
-    requires sources { length sources.now ≡ BLOCK }
+fn lay_on_opaque(sources: &[Pixel; BLOCK], row: &mut [Pixel])
     requires row { length row.old ≡ BLOCK }
     requires opaque { (k : ℕ) → k < BLOCK → CoversWithin 255 255 (slice_index_or row.old k clear) }
     ensures { LaysRow Over (λ k. slice_index_or sources.now k clear) (λ _. 255) row.old row.new }
@@ -111,8 +108,7 @@ fn lay_on_opaque(sources: &[Pixel], row: &mut [Pixel])
 
 /// The sources laid over opaque pixels.
 #[inline]
-fn opaque_block(sources: &[Pixel], row: &[Pixel]) -> [Pixel; BLOCK]
-    requires sources { length sources.now ≡ BLOCK }
+fn opaque_block(sources: &[Pixel; BLOCK], row: &[Pixel]) -> [Pixel; BLOCK]
     requires row { length row.now ≡ BLOCK }
     requires opaque { (k : ℕ) → k < BLOCK → CoversWithin 255 255 (slice_index_or row.now k clear) }
     ensures { (k : ℕ) → k < BLOCK → slice_index_or result k clear ≡ composed Over (slice_index_or sources.now k clear) (slice_index_or row.now k clear) 255 }
@@ -126,9 +122,8 @@ fn opaque_block(sources: &[Pixel], row: &[Pixel]) -> [Pixel; BLOCK]
 
 /// Guesses all results, and does without guesses where one is missed.
 #[inline]
-fn lay_guessed<M: Mix>(op: Op, sources: &[Pixel], row: &mut [Pixel])
+fn lay_guessed<M: Mix>(op: Op, sources: &[Pixel; BLOCK], row: &mut [Pixel])
     requires operation { op ≡ M.operation }
-    requires sources { length sources.now ≡ BLOCK }
     requires row { length row.old ≡ BLOCK }
     ensures { LaysRow op (λ k. slice_index_or sources.now k clear) (λ _. 255) row.old row.new }
 {
@@ -142,8 +137,7 @@ fn lay_guessed<M: Mix>(op: Op, sources: &[Pixel], row: &mut [Pixel])
 
 /// What may be the results: they are where 0 comes back.
 #[inline]
-fn guess_block<M: Mix>(sources: &[Pixel], row: &[Pixel], laid: &mut [Pixel; BLOCK]) -> u32
-    requires sources { length sources.now ≡ BLOCK }
+fn guess_block<M: Mix>(sources: &[Pixel; BLOCK], row: &[Pixel], laid: &mut [Pixel; BLOCK]) -> u32
     requires row { length row.now ≡ BLOCK }
     ensures { result ≡ 0 → (k : ℕ) → k < BLOCK → slice_index_or laid.new k clear ≡ composed M.operation (slice_index_or sources.now k clear) (slice_index_or row.now k clear) 255 }
 {
@@ -157,8 +151,7 @@ fn guess_block<M: Mix>(sources: &[Pixel], row: &[Pixel], laid: &mut [Pixel; BLOC
 }
 
 /// Lays each source by itself.
-fn lay_each(op: Op, sources: &[Pixel], row: &mut [Pixel])
-    requires sources { length sources.now ≡ BLOCK }
+fn lay_each(op: Op, sources: &[Pixel; BLOCK], row: &mut [Pixel])
     requires row { length row.old ≡ BLOCK }
     ensures { LaysRow op (λ k. slice_index_or sources.now k clear) (λ _. 255) row.old row.new }
 {
