@@ -28,15 +28,23 @@ pub(crate) fn lay_block(op: Op, sources: &[Pixel; BLOCK], row: &mut [Pixel])
     requires row { length row.old ≡ BLOCK }
     ensures { LaysRow op (λ k. slice_index_or sources.now k clear) (λ _. 255) row.old row.new }
 {
-    let above = alphas_of(sources);
-    if above.most == 0 {
+    lay_covering(op, sources, cover_of(sources), row);
+}
+
+/// The same of sources of whose alphas this is known.
+#[inline]
+pub(crate) fn lay_covering(op: Op, sources: &[Pixel; BLOCK], above: Cover, row: &mut [Pixel])
+    requires row { length row.old ≡ BLOCK }
+    ensures { LaysRow op (λ k. slice_index_or sources.now k clear) (λ _. 255) row.old row.new }
+{
+    if above.is_clear {
         tell_canonical(row);
         return;
     }
-    let below = alphas_of(row);
+    let below = cover_of(row);
     match op {
         Op::Erase => lay_mixed::<Erasing>(sources, row),
-        _ if below.most == 0 => row.copy_from_slice(sources),
+        _ if below.is_clear => row.copy_from_slice(sources),
         Op::Over => lay_over(sources, above, row, below),
         Op::Multiply => lay_mixed::<Multiplying>(sources, row),
         Op::Screen => lay_mixed::<Screening>(sources, row),
@@ -54,41 +62,45 @@ pub fn tell_canonical(pixels: &[Pixel])
     }
 }
 
-/// The bounds of some pixels' alphas.
+/// What is known of the alphas of some pixels.
 #[derive(Clone, Copy)]
-struct Alphas {
-    least: u8,
-    most: u8,
+pub(crate) struct Cover {
+    /// Whether all pixels are clear.
+    pub(crate) is_clear: bool,
+    /// Whether all pixels are opaque.
+    pub(crate) is_opaque: bool,
 }
 
-/// The least and the greatest alpha of a block. It stays a call, since the compiler then compares
-/// all at a time.
-#[inline(never)]
-fn alphas_of(pixels: &[Pixel]) -> Alphas
+/// What the alphas of a block are. It looks at all bytes at once: a clear pixel has no bit, and where
+/// all are opaque, all have the bits of a full alpha.
+#[inline]
+pub(crate) fn cover_of(pixels: &[Pixel]) -> Cover
     requires { length pixels.now ≡ BLOCK }
-    ensures { (k : ℕ) → k < BLOCK → CoversWithin result.least result.most (slice_index_or pixels.now k clear) }
 {
-    let mut least = 255;
-    let mut most = 0;
+    let mut any = 0;
+    let mut all = u32::MAX;
     for i in 0..BLOCK {
-        let [_, _, _, a] = pixels[i].bytes();
-        least = least.min(a);
-        most = most.max(a);
+        let word = u32::from_le_bytes(pixels[i].bytes());
+        any = any | word;
+        all = all & word;
     }
-    Alphas { least, most }
+    Cover {
+        is_clear: any == 0,
+        is_opaque: all >= 0xff00_0000,
+    }
 }
 
 /// The same for `Op::Over`, by what is known of the alphas.
 #[inline]
-fn lay_over(sources: &[Pixel; BLOCK], above: Alphas, row: &mut [Pixel], below: Alphas)
+fn lay_over(sources: &[Pixel; BLOCK], above: Cover, row: &mut [Pixel], below: Cover)
     requires row { length row.old ≡ BLOCK }
     requires above { (k : ℕ) → k < BLOCK → CoversWithin above.least above.most (slice_index_or sources.now k clear) }
     requires below { (k : ℕ) → k < BLOCK → CoversWithin below.least below.most (slice_index_or row.old k clear) }
     ensures { LaysRow Over (λ k. slice_index_or sources.now k clear) (λ _. 255) row.old row.new }
 {
-    if above.least == 255 {
+    if above.is_opaque {
         row.copy_from_slice(sources);
-    } else if below.least == 255 {
+    } else if below.is_opaque {
         lay_on_opaque(sources, row);
     } else {
         lay_mixed::<Covering>(sources, row);
