@@ -5,7 +5,7 @@ ghost use Rattle.pixel_core.specs.Rgba.{Rgba, clear, IsCanonical};
 ghost use Rattle.pixel_core.specs.Compose.{compose as composed};
 ghost use Rattle.pixel_rows.specs.Rows.{LaysRow, LaysPart, Dims};
 
-use crate::block::{BLOCK, dimmed, lay_block, tell_canonical};
+use crate::block::{BLOCK, cover_of, dimmed, lay_block, lay_covering, tell_canonical};
 use crate::plain::plain_pixel;
 use crate::rest::{FEW, dimmed_rest, lay_rest, masked_rest};
 use pixel_core::{Op, Pixel, compose};
@@ -158,9 +158,10 @@ fn lay_colour_blocks(op: Op, colour: Pixel, strength: u8, backdrop: &mut [Pixel]
     ensures { LaysPart op (λ _. colour) (λ _. strength) 0 (BLOCK * whole) backdrop.old backdrop.new }
 {
     let block = dimmed_all(colour, strength);
+    let above = cover_of(&block);
     for i in 0..whole {
         let at = BLOCK * i;
-        lay_block(op, &block, &mut backdrop[at..at + BLOCK]);
+        lay_covering(op, &block, above, &mut backdrop[at..at + BLOCK]);
     }
 }
 
