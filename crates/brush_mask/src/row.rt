@@ -46,11 +46,10 @@ fn soft_row(whole: u16, room: u16, dx: i16, row: &mut [u8])
     requires right { (dx +ℤ pos (length row.old)) ≤ℤ pos 129 }
     ensures { IsSoftRow whole room dx row.new }
 {
-    let fall = Fall::of(whole);
     if whole < NARROW {
-        narrow_row(fall, room, dx, row);
+        narrow_row(Fall::of(whole), room, dx, row);
     } else {
-        wide_row(fall, room, dx, row);
+        wide_row(whole, room, dx, row);
     }
 }
 
@@ -67,16 +66,23 @@ fn narrow_row(fall: Fall, room: u16, dx: i16, row: &mut [u8])
     }
 }
 
-/// The same for any whole.
-fn wide_row(fall: Fall, room: u16, dx: i16, row: &mut [u8])
-    requires whole { room ≤ fall.whole }
-    requires left { negsuc 127 ≤ℤ dx }
-    requires right { (dx +ℤ pos (length row.old)) ≤ℤ pos 129 }
-    ensures { IsSoftRow fall.whole room dx row.new }
+/// The same for any whole, by one exact division of floats a place.
+fn wide_row(whole: u16, room: u16, dx: i16, row: &mut [u8])
 {
     for i in 0..row.len() {
-        row[i] = fall.at(spare_at(room, dx + i as i16));
+        row[i] = share(spare_at(room, dx + i as i16), whole);
     }
+}
+
+/// 256 less 2^-16.
+const SHIFT: f32 = 255.999_984_741_210_94;
+
+/// 255 * n / whole, rounded down. 0 is what 255 / whole gives too, which is less than 1.
+#[inline]
+fn share(n: u16, whole: u16) -> u8
+{
+    let close = (255 * n.max(1) as i32) as f32 / whole as i32 as f32;
+    (((close + SHIFT).to_bits() >> 15) & 255) as u8
 }
 
 /// 255 where the square of a distance across is below `room`, else 0.
