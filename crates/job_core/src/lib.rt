@@ -16,5 +16,6 @@ mod task;
 mod tracks;
 
 pub use made::Made;
+pub use moves::lay_move;
 pub use painted::{Painted, paint_tile};
 pub use points::{PointWork, point_rect};

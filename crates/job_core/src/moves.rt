@@ -17,7 +17,7 @@ use crate::rows::lay_over;
 use geom_core::{NoMemory, Rect, TileKey};
 use pixel_core::Pixel;
 use std::alloc::Global;
-use tile_core::{Block, Shot};
+use tile_core::{Block, Shot, fill_part, part_in_tile};
 
 /// What a move leaves in the key's tile, where `to` is the moved rectangle.
 pub fn moved(
@@ -182,4 +182,25 @@ fn brought_from(rect: &Rect, dx: i32, dy: i32) -> Rect
     ensures { result ≡ moved_area rect.now (pos 0 -ℤ dx) (pos 0 -ℤ dy) }
 {
     rect.moved(-dx, -dy).unwrap()
+}
+
+/// Lays a move on the pixels of the key's tile, which are those of the shot: `to` is the moved rectangle.
+pub fn lay_move(
+    shot: &Shot,
+    key: TileKey,
+    rect: &Rect,
+    to: &Rect,
+    dx: i32,
+    dy: i32,
+    tile: &mut [Pixel],
+) {
+    if let Some(part) = rect.clip(&key.rect()) {
+        if !is_within(&part, to) {
+            fill_part(tile, part_in_tile(&part), shot.ground());
+        }
+    }
+    if let Some(part) = to.clip(&key.rect()) {
+        let place = part_in_tile(&part);
+        shot.lay_on_tile(&brought_from(&part, dx, dy), place.left, place.top, tile);
+    }
 }

@@ -22,6 +22,6 @@ pub use film::Film;
 pub use frame::Frame;
 pub use marks::Marks;
 pub use plain::PlainTile;
-pub use rows::Part;
+pub use rows::{Part, fill_part};
 pub use shot::Shot;
 pub use tile::{Lays, Tile, part_in_tile};

@@ -191,3 +191,19 @@ pub fn lay_tile_rows(
         to += width;
     }
 }
+
+/// Writes one pixel to each place of a part of a tile.
+pub fn fill_part(tile: &mut [Pixel], part: Part, pixel: Pixel) {
+    let mut from = 64 * part.top + part.left;
+    for _row in 0..part.h {
+        fill_row(&mut tile[from..from + part.w], pixel);
+        from += 64;
+    }
+}
+
+/// Writes one pixel to each place.
+fn fill_row(row: &mut [Pixel], pixel: Pixel) {
+    for i in 0..row.len() {
+        row[i] = pixel;
+    }
+}

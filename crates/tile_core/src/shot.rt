@@ -12,7 +12,7 @@ ghost use Rattle.tile_core.specs.Shots.{sight, sight_at, with_seen, LaysKey, Rea
 
 use crate::Tile;
 use crate::keyed::{pixel_under, put_under, tile_under};
-use crate::rows::{Part, lay_tile_rows};
+use crate::rows::{Part, fill_part, lay_tile_rows};
 use geom_core::{NoMemory, Rect, TileKey};
 use pixel_core::Pixel;
 use std::alloc::Global;
@@ -185,6 +185,33 @@ impl Shot {
         let mut pixels = plain_part(alloc, rect, self.ground())?;
         self.read_into(&mut pixels, rect);
         Ok(pixels)
+    }
+
+    /// Lays the pixels on a rectangle over a part of a tile, whose first column and row these are.
+    pub fn lay_on_tile(&self, rect: &Rect, left: usize, top: usize, tile: &mut [Pixel]) {
+        for i in 0..rect.tile_count() {
+            self.lay_piece(rect, rect.tile_at(i), left, top, tile);
+        }
+    }
+
+    /// The same of what the rectangle has of the key's tile.
+    fn lay_piece(&self, rect: &Rect, key: TileKey, left: usize, top: usize, tile: &mut [Pixel]) {
+        let Some(part) = rect.clip(&key.rect()) else {
+            return;
+        };
+        let place = Part {
+            left: left + (part.left() - rect.left()) as usize,
+            top: top + (part.top() - rect.top()) as usize,
+            w: part.w() as usize,
+            h: part.h() as usize,
+        };
+        match self.tiles.get(&key) {
+            Some(own) => {
+                let (col, row) = (part.left() as usize % 64, part.top() as usize % 64);
+                lay_tile_rows(tile, 64, place, own.pixels(), col, row);
+            }
+            None => fill_part(tile, place, self.ground),
+        }
     }
 
     /// Lays what the shot has of the rectangle over its pixels, which are the default pixel.

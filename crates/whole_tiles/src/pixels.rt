@@ -10,7 +10,7 @@ ghost use Rattle.whole_tiles.specs.Wholes.{IsNew, LaysPaint};
 use crate::circle::reaches;
 use doc_model::{Job, Kind};
 use geom_core::{NoMemory, TileKey};
-use job_core::{Painted, PointWork, paint_tile, point_rect};
+use job_core::{Painted, PointWork, lay_move, paint_tile, point_rect};
 use pixel_core::Pixel;
 use pixel_rows::tell_canonical;
 use std::alloc::Global;
@@ -112,9 +112,17 @@ fn assembled(alloc: Global, job: &Job, shot: &Shot, key: TileKey) -> Result<Tile
     requires { IsDue job.now shot.now key }
     ensures { IfOk result (IsNew job.now shot.now key) }
 {
-    let painted = paint_tile(alloc, job, shot, key)?;
     let mut pixels = pixels_under(alloc, shot, key)?;
-    lay_blocks(&painted, &mut pixels);
+    match *job {
+        Job::Move { rect, dx, dy } => {
+            let to = job.writes()[1];
+            lay_move(shot, key, &rect, &to, dx, dy, &mut pixels);
+        }
+        _ => {
+            let painted = paint_tile(alloc, job, shot, key)?;
+            lay_blocks(&painted, &mut pixels);
+        }
+    }
     Tile::from_pixels(alloc, pixels)
 }
 
