@@ -7,11 +7,10 @@ ghost use Rattle.tile_core.specs.Frames.{IsScene, scene, colours_at, row_colours
 
 use crate::Tile;
 use crate::colours::{lay_colours, lay_paper};
-use crate::keyed::{pixel_under, put_under};
-use geom_core::{NoMemory, TileKey, tile_of};
+use crate::marks::place_of;
+use geom_core::{NoMemory, TileKey};
 use pixel_core::{Pixel, on_paper};
 use std::alloc::Global;
-use std::collections::BTreeMap;
 use std::marker::Model;
 
 /// A picture of the canvas: shared tiles over an opaque paper. The canvas has its corner at (0, 0).
@@ -20,7 +19,8 @@ pub struct Frame {
     width: u16,
     height: u16,
     paper: Pixel,
-    tiles: BTreeMap<TileKey, Tile>,
+    /// Those of the largest canvas in row order, as far as one stands.
+    tiles: Vec<Option<Tile>>,
 }
 
 impl Model for Frame {
@@ -48,7 +48,7 @@ impl Frame {
             width: w,
             height: h,
             paper,
-            tiles: BTreeMap::new(alloc),
+            tiles: Vec::new(alloc),
         })
     }
 
@@ -81,8 +81,15 @@ impl Frame {
         ensures ok { OnOk result (self.new ≡ with_put self.old key tile.now) }
         ensures err { OnErr result (self.new ≡ self.old) }
     {
+        let Some(place) = place_of(key) else {
+            return Ok(());
+        };
         let tile = tile.share()?;
-        put_under(&mut self.tiles, key, tile)
+        for _ in self.tiles.len()..place + 1 {
+            self.tiles.push(None)?;
+        }
+        self.tiles[place] = Some(tile);
+        Ok(())
     }
 
     /// Red, green and blue of a point.
@@ -91,10 +98,11 @@ impl Frame {
         requires y { y < self.now.height }
         ensures { result ≡ colours_at self.now (point (pos x) (pos y)) }
     {
-        on_paper(
-            pixel_under(&self.tiles, Pixel::CLEAR, x as i32, y as i32),
-            self.paper,
-        )
+        let pixel = match self.tile(x / 64, y / 64) {
+            Some(tile) => tile.at(x as i32, y as i32),
+            None => Pixel::CLEAR,
+        };
+        on_paper(pixel, self.paper)
     }
 
     /// Writes red, green and blue of each point of a row to the first 3 * width places, from the left.
@@ -108,6 +116,14 @@ impl Frame {
         }
     }
 
+    /// The tile of a column and a row of the canvas.
+    fn tile(&self, col: u16, row: u16) -> Option<&Tile> {
+        match self.tiles.get(32 * row as usize + col as usize) {
+            Some(tile) => tile.as_ref(),
+            None => None,
+        }
+    }
+
     /// The same for the row's points in the tiles of one column.
     pub(crate) fn tile_row_into(&self, col: u16, y: u16, row: &mut [u8])
         requires col { 64 * col < self.now.width }
@@ -117,7 +133,7 @@ impl Frame {
     {
         let left = 64 * col as usize;
         let n = (self.width as usize - left).min(64);
-        match self.tiles.get(&tile_of(left as i32, y as i32)) {
+        match self.tile(col, y / 64) {
             Some(tile) => {
                 let from = 64 * (y as usize % 64);
                 lay_colours(row, 3 * left, &tile.pixels()[from..from + n], self.paper);
