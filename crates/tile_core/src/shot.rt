@@ -18,14 +18,15 @@ use pixel_core::Pixel;
 use std::alloc::Global;
 use std::collections::BTreeMap;
 use std::marker::Model;
+use std::sync::Arc;
 
 /// Rectangles, shared tiles under keys, and one pixel, the ground, wherever no tile stands.
 /// To take one copies no pixel.
 #[derive(Drop)]
 pub struct Shot {
     ground: Pixel,
-    rects: Vec<Rect>,
-    tiles: BTreeMap<TileKey, Tile>,
+    rects: Arc<Vec<Rect>>,
+    tiles: Arc<BTreeMap<TileKey, Tile>>,
 }
 
 impl Model for Shot {
@@ -46,8 +47,8 @@ impl Shot {
     {
         Ok(Shot {
             ground: default_pixel,
-            rects: Vec::from_slice(alloc, rects)?,
-            tiles: BTreeMap::new(alloc),
+            rects: Arc::new(alloc, Vec::from_slice(alloc, rects)?)?,
+            tiles: Arc::new(alloc, BTreeMap::new(alloc))?,
         })
     }
 
@@ -64,7 +65,19 @@ impl Shot {
         ensures err { OnErr result (self.new ≡ self.old) }
     {
         let tile = tile.share()?;
-        put_under(&mut self.tiles, key, tile)
+        match Arc::get_mut(&mut self.tiles) {
+            Some(tiles) => put_under(tiles, key, tile),
+            None => Err(NoMemory),
+        }
+    }
+
+    /// The same shot once more. `NoMemory` only where the count of references is full.
+    pub fn share(&self) -> Result<Shot, NoMemory> {
+        Ok(Shot {
+            ground: self.ground,
+            rects: Arc::try_clone(&self.rects)?,
+            tiles: Arc::try_clone(&self.tiles)?,
+        })
     }
 
     /// The pixel at a point of the world, which is the ground where no tile stands.

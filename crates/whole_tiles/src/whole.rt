@@ -11,7 +11,6 @@ ghost use Rattle.doc_model.specs.Shots.{in_tile};
 ghost use Rattle.job_core.specs.Paints.{paint};
 ghost use Rattle.whole_tiles.specs.Wholes.{IsEntire, IsOf};
 
-use crate::base::base_of;
 use crate::needs::needs_of;
 use crate::pixels::new_tile;
 use doc_model::Job;
@@ -115,7 +114,7 @@ pub fn whole_tile_like(
     ensures own { IfOk result (λ x. (p : Point) → in_tile x.key p ≡ true → sight_at x.base p ≡ sight_at shot.now p) }
 {
     let needs = needs_of(job, key);
-    let base = base_of(alloc, shot, key, &needs)?;
+    let base = shot.share()?;
     let tile = new_tile(alloc, job, shot, key, like)?;
     Ok(Whole {
         job: *job,
