@@ -25,8 +25,14 @@ use std::sync::Arc;
 #[derive(Drop)]
 pub struct Shot {
     ground: Pixel,
-    rects: Arc<Vec<Rect>>,
-    tiles: Arc<BTreeMap<TileKey, Tile>>,
+    seen: Arc<Seen>,
+}
+
+/// The rectangles of a shot, and its tiles.
+#[derive(Drop)]
+struct Seen {
+    rects: Vec<Rect>,
+    tiles: BTreeMap<TileKey, Tile>,
 }
 
 impl Model for Shot {
@@ -47,8 +53,13 @@ impl Shot {
     {
         Ok(Shot {
             ground: default_pixel,
-            rects: Arc::new(alloc, Vec::from_slice(alloc, rects)?)?,
-            tiles: Arc::new(alloc, BTreeMap::new(alloc))?,
+            seen: Arc::new(
+                alloc,
+                Seen {
+                    rects: Vec::from_slice(alloc, rects)?,
+                    tiles: BTreeMap::new(alloc),
+                },
+            )?,
         })
     }
 
@@ -65,8 +76,8 @@ impl Shot {
         ensures err { OnErr result (self.new ≡ self.old) }
     {
         let tile = tile.share()?;
-        match Arc::get_mut(&mut self.tiles) {
-            Some(tiles) => put_under(tiles, key, tile),
+        match Arc::get_mut(&mut self.seen) {
+            Some(seen) => put_under(&mut seen.tiles, key, tile),
             None => Err(NoMemory),
         }
     }
@@ -75,8 +86,7 @@ impl Shot {
     pub fn share(&self) -> Result<Shot, NoMemory> {
         Ok(Shot {
             ground: self.ground,
-            rects: Arc::try_clone(&self.rects)?,
-            tiles: Arc::try_clone(&self.tiles)?,
+            seen: Arc::try_clone(&self.seen)?,
         })
     }
 
@@ -85,21 +95,21 @@ impl Shot {
         requires { holds world (point x y) ≡ true }
         ensures { result ≡ sight_at self.now (point x y) }
     {
-        pixel_under(&self.tiles, self.ground, x, y)
+        pixel_under(&self.seen.tiles, self.ground, x, y)
     }
 
     /// The tile that was put under the key. Where there is none, the key's points are the ground.
     pub fn tile(&self, key: TileKey) -> Option<&Tile>
         ensures { option_copied result ≡ map.get self.now.tiles key }
     {
-        tile_under(&self.tiles, key)
+        tile_under(&self.seen.tiles, key)
     }
 
     /// Whether the rectangle lies in one of the shot's rectangles.
     pub fn covers(&self, rect: &Rect) -> bool
         ensures { result ≡ list_any (lies_in rect.now) self.now.rects }
     {
-        lies_in_some(rect, &self.rects)
+        lies_in_some(rect, &self.seen.rects)
     }
 
     /// Whether both shots have the same pixels on what a rectangle has of the key's tile. No memory.
@@ -184,7 +194,7 @@ impl Shot {
         ensures all { IfOk result (λ v. vec_len v ≡ rect.now.h * rect.now.w) }
         ensures has { IfOk result (λ v. HasPixels rect.now (sight_at self.now) v.items) }
     {
-        match self.tiles.get(&key) {
+        match self.seen.tiles.get(&key) {
             Some(tile) => tile.part(alloc, key, rect),
             None => plain_part(alloc, rect, self.ground),
         }
@@ -218,7 +228,7 @@ impl Shot {
             w: part.w() as usize,
             h: part.h() as usize,
         };
-        match self.tiles.get(&key) {
+        match self.seen.tiles.get(&key) {
             Some(own) => {
                 let (col, row) = (part.left() as usize % 64, part.top() as usize % 64);
                 lay_tile_rows(tile, 64, place, own.pixels(), col, row);
@@ -244,7 +254,7 @@ impl Shot {
         requires all { length pixels.old ≡ rect.now.h * rect.now.w }
         ensures { (ks : List Key) → ReadsKeys self.now rect.now pixels.old ks → ReadsKeys self.now rect.now pixels.new (ks ++ key ∷ []) }
     {
-        match self.tiles.get(&key) {
+        match self.seen.tiles.get(&key) {
             Some(tile) => lay_tile(pixels, rect, key, tile),
             None => {}
         }
