@@ -58,7 +58,7 @@ pub fn gather<S: Layers>(
     let _count = tree.node_count();
     let path = plan(alloc, tree, patch.walk)?;
     let groups: Path = SmallVec::from_slice(alloc, path.as_slice())?;
-    let mut inputs = Inputs::new(alloc, patch, path);
+    let mut inputs = Inputs::new(alloc, patch, path)?;
     let list = groups.as_slice();
     for group in list {
         add_children(alloc, tree, layers, caches, *group, &mut inputs)?;
