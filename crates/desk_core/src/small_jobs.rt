@@ -15,7 +15,7 @@ impl Desk {
     ///
     /// # Errors
     /// `NoMemory`; all is as it was.
-    pub fn paint_small(&mut self) -> Result<Option<Rect>, NoMemory>
+    pub fn paint_small(&mut self) -> Result<Option<Vec<Rect>>, NoMemory>
         ensures some { IfOk result (λ o. IfSome o (λ bound. PaintsSmall self.old bound self.new)) }
         ensures none { result ≡ Ok None → self.new ≡ self.old }
         ensures err { OnErr result (self.new ≡ self.old) }

@@ -5,7 +5,6 @@ ghost use Rattle.desk_machine.specs.SmallJobs.{PaintsSmall};
 
 use crate::tracked::TrackedMachine;
 use geom_core::{NoMemory, Rect};
-use std::slice;
 
 impl TrackedMachine {
     /// Paints jobs of the stroke at the head in place, the next one first: some in a row that write within
@@ -15,16 +14,16 @@ impl TrackedMachine {
     ///
     /// # Errors
     /// `NoMemory`; all is as it was.
-    pub fn paint_small(&mut self) -> Result<Option<Rect>, NoMemory>
+    pub fn paint_small(&mut self) -> Result<Option<Vec<Rect>>, NoMemory>
         ensures some { IfOk result (λ o. IfSome o (λ bound. PaintsSmall self.old bound self.new)) }
         ensures none { result ≡ Ok None → self.new ≡ self.old }
         ensures err { OnErr result (self.new ≡ self.old) }
     {
         match self.machine.paint_small()? {
-            Some(bound) => {
-                self.damage.add_all(slice::from_ref(&bound));
+            Some(rects) => {
+                self.damage.add_all(rects.as_slice());
                 self.calm = false;
-                Ok(Some(bound))
+                Ok(Some(rects))
             }
             None => Ok(None),
         }

@@ -20,17 +20,12 @@ use entry_queue::{Entry, Queue};
 use geom_core::{NoMemory, Rect, TileKey};
 use job_core::{PointWork, point_rect};
 use std::alloc::Global;
+use std::collections::BTreeMap;
 use update_queue::Updates;
+use whole_tiles::reaches;
 
 /// How many jobs are painted in one hold at most: so a hold stays short, and looking for a barrier too.
 const MOST: usize = 64;
-
-/// Jobs that were painted: how many, and in which tile.
-#[derive(Clone, Copy)]
-pub(crate) struct Laid {
-    pub(crate) count: usize,
-    pub(crate) key: TileKey,
-}
 
 impl Machine {
     /// Paints jobs of the stroke at the head in place, the next one first: some in a row that write within
@@ -40,7 +35,7 @@ impl Machine {
     ///
     /// # Errors
     /// `NoMemory`; all is as it was.
-    pub fn paint_small(&mut self) -> Result<Option<Rect>, NoMemory>
+    pub fn paint_small(&mut self) -> Result<Option<Vec<Rect>>, NoMemory>
         ensures some { IfOk result (λ o. IfSome o (λ bound. PaintsSmall self.old bound self.new)) }
         ensures none { result ≡ Ok None → self.new ≡ self.old }
         ensures err { OnErr result (self.new ≡ self.old) }
@@ -67,7 +62,7 @@ impl Machine {
     }
 
     /// Paints the next job and those behind it.
-    fn paint_run(&mut self) -> Result<Option<Rect>, NoMemory>
+    fn paint_run(&mut self) -> Result<Option<Vec<Rect>>, NoMemory>
         requires { IsAlone self.old }
         ensures some { IfOk result (λ o. IfSome o (λ bound. PaintsSmall self.old bound self.new)) }
         ensures none { result ≡ Ok None → self.new ≡ self.old }
@@ -76,16 +71,16 @@ impl Machine {
         let group = self.group_of(self.head_layer());
         let started = self.started();
         let jobs = next_jobs(&self.queue, started as usize);
-        match lay_run(self.alloc, &mut self.store, jobs)? {
-            Some(laid) => {
-                let (front, _) = jobs.split_at(laid.count);
-                widen_jobs(&mut self.updates, group, front);
-                self.way = Some(started + laid.count as u32);
-                self.next += laid.count as u64;
-                Ok(Some(bound_of(front)))
-            }
-            None => Ok(None),
+        let count = count_points(jobs);
+        if count == 0 {
+            return Ok(None);
         }
+        let (front, _) = jobs.split_at(count);
+        lay_span(self.alloc, &mut self.store, front)?;
+        widen_jobs(&mut self.updates, group, front);
+        self.way = Some(started + count as u32);
+        self.next += count as u64;
+        Ok(Some(rects_of(self.alloc, front)?))
     }
 
     /// How many jobs of the stroke at the head were started.
@@ -162,23 +157,83 @@ fn is_bar(kind: Kind) -> bool
     }
 }
 
-/// Paints the jobs, from the first on, that write within one tile alone. None where the first doesn't.
-fn lay_run(alloc: Global, store: &mut Store, jobs: &[(Kind, Job)]) -> Result<Option<Laid>, NoMemory>
-    requires checked { All (λ j. checks j.1 ≡ true) jobs.now }
-    requires limits { All (λ j. within_limits j.1 ≡ true) jobs.now }
-    requires under_way { is_some store.old.way ≡ true }
-    ensures some { IfOk result (λ o. IfSome o (λ laid. LaysRun jobs.now laid store.old store.new)) }
-    ensures none { result ≡ Ok None → store.new ≡ store.old }
-    ensures err { OnErr result (store.new ≡ store.old) }
-{
-    let Some(work) = PointWork::run(jobs) else {
-        return Ok(None);
-    };
-    store.paint(alloc, &work)?;
-    Ok(Some(Laid {
-        count: work.job_count(),
-        key: work.key(),
-    }))
+/// How many of the jobs, from the first on, are point operations.
+fn count_points(jobs: &[(Kind, Job)]) -> usize {
+    for i in 0..jobs.len() {
+        if point_rect(&jobs[i].1).is_none() {
+            return i;
+        }
+    }
+    jobs.len()
+}
+
+/// Paints point operations tile by tile.
+fn lay_span(alloc: Global, store: &mut Store, jobs: &[(Kind, Job)]) -> Result<(), NoMemory> {
+    if jobs.len() == 1 {
+        return lay_one(alloc, store, jobs);
+    }
+    let mut binned: BTreeMap<TileKey, Vec<(Kind, Job)>> = BTreeMap::new(alloc);
+    for entry in jobs {
+        bin(alloc, &mut binned, entry)?;
+    }
+    for (key, list) in &binned {
+        store.paint(alloc, &PointWork::new(list.as_slice(), *key))?;
+    }
+    Ok(())
+}
+
+/// Paints one point operation tile by tile.
+fn lay_one(alloc: Global, store: &mut Store, jobs: &[(Kind, Job)]) -> Result<(), NoMemory> {
+    let rect = written(&jobs[0].1);
+    for i in 0..rect.tile_count() {
+        let key = rect.tile_at(i);
+        if reaches(&jobs[0].1, key) {
+            store.paint(alloc, &PointWork::new(jobs, key))?;
+        }
+    }
+    Ok(())
+}
+
+/// Adds a job to the lists of the tiles that it reaches.
+fn bin(
+    alloc: Global,
+    binned: &mut BTreeMap<TileKey, Vec<(Kind, Job)>>,
+    entry: &(Kind, Job),
+) -> Result<(), NoMemory> {
+    let rect = written(&entry.1);
+    for i in 0..rect.tile_count() {
+        let key = rect.tile_at(i);
+        if reaches(&entry.1, key) {
+            add_to(alloc, binned, key, entry)?;
+        }
+    }
+    Ok(())
+}
+
+/// Adds a job to the list of a tile.
+fn add_to(
+    alloc: Global,
+    binned: &mut BTreeMap<TileKey, Vec<(Kind, Job)>>,
+    key: TileKey,
+    entry: &(Kind, Job),
+) -> Result<(), NoMemory> {
+    if let Some(list) = binned.get_mut(&key) {
+        list.push(*entry)?;
+        return Ok(());
+    }
+    let mut list = Vec::new(alloc);
+    list.push(*entry)?;
+    binned.insert(key, list)?;
+    Ok(())
+}
+
+/// The rectangles that the jobs write.
+fn rects_of(alloc: Global, jobs: &[(Kind, Job)]) -> Result<Vec<Rect>, NoMemory> {
+    let mut rects = Vec::with_capacity(alloc, jobs.len())?;
+    for entry in jobs {
+        rects.push(written(&entry.1))?;
+    }
+    Ok(rects)
 }
 
 /// What the jobs write waits for the group and those above it.
@@ -189,20 +244,6 @@ fn widen_jobs(updates: &mut Updates, group: u16, jobs: &[(Kind, Job)])
     for entry in jobs {
         widen_all(updates, group, &entry.1);
     }
-}
-
-/// A rectangle round all that the jobs write.
-fn bound_of(jobs: &[(Kind, Job)]) -> Rect
-    requires some { 1 ≤ length jobs.now }
-    requires checked { All (λ j. checks j.1 ≡ true) jobs.now }
-    requires points { All (λ j. is_point_op j.1 ≡ true) jobs.now }
-    ensures { All (λ j. WritesWithin result j.1) jobs.now }
-{
-    let mut bound = written(&jobs[0].1);
-    for entry in jobs {
-        bound = bound.bound(&written(&entry.1));
-    }
-    bound
 }
 
 /// The rectangle that a point operation writes.

@@ -34,7 +34,7 @@ use paint_device::Device;
 use std::alloc::Global;
 use std::collections::BTreeMap;
 use std::sync::ledger::Ledger;
-use tile_core::Tile;
+use tile_core::{PlainTile, Tile};
 use tree_core::Tree;
 use whole_tiles::Whole;
 
@@ -143,6 +143,7 @@ impl Document {
         alloc: Global,
         id: u16,
         found: &mut Revision<Tile>,
+        plain: &mut Option<PlainTile>,
         work: &PointWork<'_>,
     ) -> Result<(), NoMemory>
         requires layer { is_some (device_in self.old.slots id) ≡ true }
@@ -153,7 +154,7 @@ impl Document {
         ensures err { OnErr result (doc_in self.new ≡ doc_in self.old) }
         ensures no_note { OnErr result (found.new ≡ found.old) }
     {
-        paint_under(alloc, &mut self.slots, id, found, work)
+        paint_under(alloc, &mut self.slots, id, found, plain, work)
     }
 
     /// The arrangement that a change makes of the document. Of the document itself it may make the slot
@@ -274,6 +275,7 @@ fn paint_under(
     devices: &mut BTreeMap<u16, Option<Device>>,
     id: u16,
     found: &mut Revision<Tile>,
+    plain: &mut Option<PlainTile>,
     work: &PointWork<'_>,
 ) -> Result<(), NoMemory>
     requires layer { is_some (device_in devices.old id) ≡ true }
@@ -286,7 +288,7 @@ fn paint_under(
 {
     match devices.get_mut(&id) {
         Some(slot) => match slot {
-            Some(device) => paint(alloc, device, found, work),
+            Some(device) => paint(alloc, device, found, plain, work),
             None => unreachable!(),
         },
         None => unreachable!(),

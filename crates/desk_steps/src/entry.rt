@@ -12,7 +12,7 @@ use crate::document::Document;
 use crate::reach::Reach;
 use memento_core::{Revision, Steps};
 use std::sync::ledger::Ledger;
-use tile_core::Tile;
+use tile_core::{PlainTile, Tile};
 
 /// What gives back the document from before a change, or after it.
 #[derive(Drop)]
@@ -28,6 +28,7 @@ pub enum Entry {
 pub struct Way {
     pub id: u16,
     pub found: Revision<Tile>,
+    pub plain: Option<PlainTile>,
 }
 
 impl Entry {

@@ -13,13 +13,13 @@ ghost use Rattle.desk_steps.specs.Founds.{GivesBack, StandIn};
 ghost use Rattle.desk_steps.specs.Tiles.{IsPaintedOn, beside};
 
 use crate::laying::{changed_in_place, set_under};
-use geom_core::{NoMemory, TileKey};
+use geom_core::NoMemory;
 use job_core::PointWork;
 use memento_core::Revision;
 use paint_device::Device;
 use pixel_core::Pixel;
 use std::alloc::Global;
-use tile_core::{Lays, Tile};
+use tile_core::{Lays, PlainTile, Tile};
 
 /// Paints point operations in one tile of the device, and notes what stood there before the stroke.
 /// Where there is no memory no pixel has changed, and nothing was noted.
@@ -27,6 +27,7 @@ pub fn paint(
     alloc: Global,
     device: &mut Device,
     found: &mut Revision<Tile>,
+    plain: &mut Option<PlainTile>,
     work: &PointWork<'_>,
 ) -> Result<(), NoMemory>
     requires { StandIn found.old (Some device.old) }
@@ -40,16 +41,21 @@ pub fn paint(
     if changed_in_place(device, found, key, work) {
         return Ok(());
     }
-    let tile = painted(alloc, device, work)?;
+    let tile = painted(alloc, device, plain, work)?;
     set_under(device, found, key, tile)
 }
 
 /// The tile under the key with what the point operations make of it.
-fn painted(alloc: Global, device: &Device, work: &PointWork<'_>) -> Result<Tile, NoMemory>
+fn painted(
+    alloc: Global,
+    device: &Device,
+    plain: &mut Option<PlainTile>,
+    work: &PointWork<'_>,
+) -> Result<Tile, NoMemory>
     ensures { IfOk result (IsPaintedOn work.now device.now) }
 {
     match plain_left(device, work) {
-        Some(pixel) => plain_tile(alloc, device, work.key(), pixel),
+        Some(pixel) => plain_tile(alloc, plain, pixel),
         None => painted_copy(alloc, device, work),
     }
 }
@@ -64,34 +70,16 @@ fn plain_left(device: &Device, work: &PointWork<'_>) -> Option<Pixel>
     }
 }
 
-/// A tile of one pixel: a neighbour's, shared, where that is such a one, or else a new one.
-fn plain_tile(alloc: Global, device: &Device, key: TileKey, pixel: Pixel) -> Result<Tile, NoMemory>
-    requires { IsWorldKey key }
-    ensures { IfOk result (λ t. t ≡ replicate 4096 pixel) }
-{
-    match neighbour(device, key) {
-        Some(tile) if tile.is_plain(pixel) => tile.share(),
-        _ => Tile::plain(alloc, pixel),
+/// A tile of one pixel: the one that was made last, shared, where that has the pixel, or else a new one.
+fn plain_tile(alloc: Global, plain: &mut Option<PlainTile>, pixel: Pixel) -> Result<Tile, NoMemory> {
+    match plain {
+        Some(plain) if plain.pixel() == pixel => return plain.share(),
+        _ => {}
     }
-}
-
-/// The tile to the left of the key, or else the one above.
-fn neighbour(device: &Device, key: TileKey) -> Option<&Tile>
-    requires { IsWorldKey key }
-    ensures { option_copied result ≡ beside device.now key }
-{
-    let left = device.tile(TileKey {
-        row: key.row,
-        col: key.col - 1,
-    });
-    let above = TileKey {
-        row: key.row - 1,
-        col: key.col,
-    };
-    match left {
-        Some(tile) => Some(tile),
-        None => device.tile(above),
-    }
+    let newest = PlainTile::new(alloc, pixel)?;
+    let tile = newest.share()?;
+    *plain = Some(newest);
+    Ok(tile)
 }
 
 /// A copy of the pixels under the key, with the point operations painted on it.

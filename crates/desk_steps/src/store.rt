@@ -105,6 +105,7 @@ impl Store {
                 self.way = Some(Way {
                     id: layer,
                     found: Revision::new(self.alloc),
+                    plain: None,
                 });
                 Ok(Begun::Ready)
             }
@@ -202,7 +203,9 @@ impl Store {
         ensures err { OnErr result (self.new ≡ self.old) }
     {
         match &mut self.way {
-            Some(way) => self.doc.paint(alloc, way.id, &mut way.found, work),
+            Some(way) => self
+                .doc
+                .paint(alloc, way.id, &mut way.found, &mut way.plain, work),
             None => unreachable!(),
         }
     }

@@ -16,7 +16,7 @@ const CORNER: i32 = 16384;
 const LAST: u32 = 63;
 
 /// Whether a job may change a pixel in a tile that it writes in. A dab does so within its circle alone.
-pub(crate) fn reaches(job: &Job, key: TileKey) -> bool
+pub fn reaches(job: &Job, key: TileKey) -> bool
     requires checked { checks job.now ≡ true }
     requires key { IsWorldKey key }
     ensures { result ≡ false → LeavesTile job.now key }

@@ -7,5 +7,6 @@ mod painting;
 mod pixels;
 mod whole;
 
+pub use circle::reaches;
 pub use painting::Painting;
 pub use whole::{Whole, whole_tile, whole_tile_like};
