@@ -77,11 +77,18 @@ fn wide_row(whole: u16, room: u16, dx: i16, row: &mut [u8])
 /// 256 less 2^-16.
 const SHIFT: f32 = 255.999_984_741_210_94;
 
+/// A whole number as a float, without a cast, which the compiler wouldn't make several of at a time.
+#[inline]
+fn float_of(n: u32) -> f32
+{
+    f32::from_bits(0x4b00_0000 + n) - 8_388_608.0
+}
+
 /// 255 * n / whole, rounded down. 0 is what 255 / whole gives too, which is less than 1.
 #[inline]
 fn share(n: u16, whole: u16) -> u8
 {
-    let close = (255 * n.max(1) as i32) as f32 / whole as i32 as f32;
+    let close = float_of(255 * n.max(1) as u32) / float_of(whole as u32);
     (((close + SHIFT).to_bits() >> 15) & 255) as u8
 }
 

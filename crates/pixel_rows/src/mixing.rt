@@ -4,7 +4,7 @@ ghost use Rattle.std.specs.Prelude.{◌≡◌, ◌+◌, ◌*◌, ◌<◌, ◌≤
 ghost use Rattle.pixel_core.specs.declared.blending.Op.TheVariants.{Over};
 ghost use Rattle.pixel_core.specs.Compose.{compose as composed, nearest};
 
-use crate::quotient::quotient;
+use crate::quotient::{quotient, whole};
 use pixel_core::Pixel;
 
 /// `s` laid over `d` at full strength.
@@ -48,45 +48,39 @@ fn mixed_whole(sa: u8, s: u8, d: u8) -> u8
 /// The parts that a source's and a backdrop's colours have in the result's, as weights.
 #[derive(Clone, Copy)]
 struct Parts {
-    source: u32,
-    backdrop: u32,
+    source: f32,
+    backdrop: f32,
     /// Their sum.
     cover: u32,
-    /// The sum, or 255 where that is 0. 
-    sum: u32,
-    ghost both: { cover ≡ source + backdrop },
-    ghost small: { source + backdrop ≤ 65025 },
-    ghost whole: { 0 < source + backdrop → sum ≡ source + backdrop },
-    ghost some: { 0 < sum },
-    ghost most: { sum ≤ 65025 },
+    /// The sum, or 255 where that is 0.
+    sum: f32,
+    /// Half the sum, rounded down.
+    half: f32,
 }
 
 impl Parts {
     /// The parts of a source and a backdrop with these alphas.
     #[inline]
     fn new(sa: u8, da: u8) -> Parts
-        ensures source { result.source ≡ 255 * sa }
-        ensures backdrop { result.backdrop ≡ (255 - sa) * da }
-        ensures cover { result.cover ≡ 255 * sa + (255 - sa) * da }
     {
         let source = 255 * sa as u32;
         let cover = 65025 - (255 - sa as u32) * (255 - da as u32);
         let sum = cover.max(255);
         Parts {
-            source,
-            backdrop: cover - source,
+            source: whole(source),
+            backdrop: whole(cover - source),
             cover,
-            sum,
+            sum: whole(sum),
+            half: whole(sum / 2),
         }
     }
 
     /// The mean of two colours by these weights, to the nearest whole number.
     #[inline]
     fn mixed(self, s: u8, d: u8) -> u8
-        ensures { 0 < self.source + self.backdrop → result ≡ nearest (self.source * s + self.backdrop * d) (self.source + self.backdrop) }
     {
-        let n = self.source * s as u32 + self.backdrop * d as u32 + self.sum / 2;
-        quotient(n, self.sum)
+        let below = self.backdrop * whole(d as u32) + self.half;
+        quotient(self.source * whole(s as u32) + below, self.sum)
     }
 }
 

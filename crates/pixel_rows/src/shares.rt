@@ -6,7 +6,7 @@ ghost use Rattle.pixel_core.specs.declared.blending.Op.TheVariants.{Erase};
 ghost use Rattle.pixel_core.specs.Compose.{blend, compose as composed, weight, nearest};
 
 use crate::mixing::nearest_255th;
-use crate::quotient::quotient;
+use crate::quotient::{quotient, whole};
 use pixel_core::Pixel;
 
 /// `s` laid on `d` at full strength by an operation of which these are the colours where both cover.
@@ -27,51 +27,41 @@ pub(crate) fn blended(s: Pixel, d: Pixel, r: u8, g: u8, b: u8) -> Pixel
 /// The parts of the source's colour alone, of the backdrop's alone and of what both make together.
 #[derive(Clone, Copy)]
 struct Shares {
-    source: u32,
-    backdrop: u32,
-    both: u32,
+    source: f32,
+    backdrop: f32,
+    both: f32,
     /// Their sum.
     cover: u32,
     /// The sum, or 255 where that is 0.
-    sum: u32,
-    ghost all: { cover ≡ source + backdrop + both },
-    ghost small: { source + backdrop + both ≤ 65025 },
-    ghost whole: { 0 < source + backdrop + both → sum ≡ source + backdrop + both },
-    ghost some: { 0 < sum },
-    ghost most: { sum ≤ 65025 },
+    sum: f32,
+    /// Half the sum, rounded down.
+    half: f32,
 }
 
 impl Shares {
     /// The parts of a source and a backdrop with these alphas.
     #[inline]
     fn new(sa: u8, da: u8) -> Shares
-        ensures source { result.source ≡ (255 - da) * sa }
-        ensures backdrop { result.backdrop ≡ (255 - sa) * da }
-        ensures both { result.both ≡ sa * da }
-        ensures cover { result.cover ≡ weight sa da }
     {
         let (sa, da) = (sa as u32, da as u32);
-        let both = sa * da;
         let cover = 65025 - (255 - sa) * (255 - da);
         let sum = cover.max(255);
         Shares {
-            source: (255 - da) * sa,
-            backdrop: (255 - sa) * da,
-            both,
+            source: whole((255 - da) * sa),
+            backdrop: whole((255 - sa) * da),
+            both: whole(sa * da),
             cover,
-            sum,
+            sum: whole(sum),
+            half: whole(sum / 2),
         }
     }
 
     /// The mean of three colours by these weights, to the nearest whole number.
     #[inline(always)]
     fn mixed(self, s: u8, d: u8, f: u8) -> u8
-        ensures { 0 < self.source + self.backdrop + self.both → result ≡ nearest (self.backdrop * d + self.source * s + self.both * f) (self.source + self.backdrop + self.both) }
     {
-        let n = self.backdrop * d as u32
-            + self.source * s as u32
-            + self.both * f as u32
-            + self.sum / 2;
-        quotient(n, self.sum)
+        let below = self.backdrop * whole(d as u32) + self.half;
+        let alone = self.source * whole(s as u32) + below;
+        quotient(self.both * whole(f as u32) + alone, self.sum)
     }
 }
