@@ -13,7 +13,7 @@ ghost use Rattle.desk_steps.specs.Founds.{GivesBack, StandIn};
 ghost use Rattle.desk_steps.specs.Tiles.{IsPaintedOn, beside};
 
 use crate::laying::{changed_in_place, set_under};
-use geom_core::NoMemory;
+use geom_core::{NoMemory, TileKey};
 use job_core::PointWork;
 use memento_core::Revision;
 use paint_device::Device;
