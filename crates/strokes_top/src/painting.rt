@@ -154,10 +154,12 @@ fn painted_by_artists<R: Threads + Wait + Sync, G: Gate>(
     })
 }
 
-/// A trace of the script on so many slots, and nothing that it shows.
+/// A trace of the script on so many slots, and nothing that it shows. Not inlined, so that the desk of a
+/// trace takes no stack where none is written.
 ///
 /// # Errors
 /// `NoMemory`.
+#[inline(never)]
 fn traced(alloc: Global, script: Script, slots: u8) -> Result<Painting, NoMemory>
     requires some { 1 ≤ slots }
     requires slots { slots ≤ 17 }
