@@ -5,7 +5,7 @@ ghost use Rattle.pixel_core.specs.declared.blending.Op.{Op};
 ghost use Rattle.pixel_core.specs.declared.blending.Op.TheVariants.{Over, Erase, Multiply, Screen, Addition};
 ghost use Rattle.pixel_core.specs.Compose.{blend, compose as composed};
 
-use crate::mixing::{Guess, over};
+use crate::mixing::over;
 use crate::shares::blended;
 use pixel_core::{Pixel, mul};
 
@@ -13,9 +13,9 @@ use pixel_core::{Pixel, mul};
 pub(crate) trait Mix {
     ghost operation: { Op };
 
-    /// `s` laid on `d` at full strength, if nothing is missed.
-    fn mix(s: Pixel, d: Pixel) -> Guess
-        ensures { result.misses ≡ 0 → result.pixel ≡ composed operation s d 255 };
+    /// `s` laid on `d` at full strength.
+    fn mix(s: Pixel, d: Pixel) -> Pixel
+        ensures { result ≡ composed operation s d 255 };
 }
 
 /// `Op::Over`.
@@ -37,7 +37,7 @@ impl Mix for Covering {
     ghost operation = { Over };
 
     #[inline]
-    fn mix(s: Pixel, d: Pixel) -> Guess {
+    fn mix(s: Pixel, d: Pixel) -> Pixel {
         over(s, d)
     }
 }
@@ -46,13 +46,10 @@ impl Mix for Erasing {
     ghost operation = { Erase };
 
     #[inline]
-    fn mix(s: Pixel, d: Pixel) -> Guess {
+    fn mix(s: Pixel, d: Pixel) -> Pixel {
         let [_, _, _, sa] = s.bytes();
         let [r, g, b, da] = d.bytes();
-        Guess {
-            pixel: Pixel::new(r, g, b, mul(da, 255 - sa)),
-            misses: 0,
-        }
+        Pixel::new(r, g, b, mul(da, 255 - sa))
     }
 }
 
@@ -60,7 +57,7 @@ impl Mix for Multiplying {
     ghost operation = { Multiply };
 
     #[inline]
-    fn mix(s: Pixel, d: Pixel) -> Guess {
+    fn mix(s: Pixel, d: Pixel) -> Pixel {
         let [sr, sg, sb, _] = s.bytes();
         let [dr, dg, db, _] = d.bytes();
         blended(s, d, mul(sr, dr), mul(sg, dg), mul(sb, db))
@@ -71,7 +68,7 @@ impl Mix for Screening {
     ghost operation = { Screen };
 
     #[inline]
-    fn mix(s: Pixel, d: Pixel) -> Guess {
+    fn mix(s: Pixel, d: Pixel) -> Pixel {
         let [sr, sg, sb, _] = s.bytes();
         let [dr, dg, db, _] = d.bytes();
         blended(s, d, screened(sr, dr), screened(sg, dg), screened(sb, db))
@@ -82,7 +79,7 @@ impl Mix for Adding {
     ghost operation = { Addition };
 
     #[inline]
-    fn mix(s: Pixel, d: Pixel) -> Guess {
+    fn mix(s: Pixel, d: Pixel) -> Pixel {
         let [sr, sg, sb, _] = s.bytes();
         let [dr, dg, db, _] = d.bytes();
         blended(s, d, added(sr, dr), added(sg, dg), added(sb, db))

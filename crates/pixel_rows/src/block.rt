@@ -8,7 +8,7 @@ ghost use Rattle.pixel_rows.specs.Rows.{CoversWithin, Dims, LaysRow};
 
 use crate::blends::{Adding, Covering, Erasing, Mix, Multiplying, Screening};
 use crate::mixing::over_opaque;
-use pixel_core::{Op, Pixel, compose, mul};
+use pixel_core::{Op, Pixel, mul};
 
 /// How many pixels a block has.
 pub(crate) const BLOCK: usize = 16;
@@ -36,12 +36,12 @@ pub(crate) fn lay_block(op: Op, sources: &[Pixel], row: &mut [Pixel])
     }
     let below = alphas_of(row);
     match op {
-        Op::Erase => lay_guessed::<Erasing>(op, sources, row),
+        Op::Erase => lay_mixed::<Erasing>(op, sources, row),
         _ if below.most == 0 => row.copy_from_slice(sources),
         Op::Over => lay_over(sources, above, row, below),
-        Op::Multiply => lay_guessed::<Multiplying>(op, sources, row),
-        Op::Screen => lay_guessed::<Screening>(op, sources, row),
-        Op::Addition => lay_guessed::<Adding>(op, sources, row),
+        Op::Multiply => lay_mixed::<Multiplying>(op, sources, row),
+        Op::Screen => lay_mixed::<Screening>(op, sources, row),
+        Op::Addition => lay_mixed::<Adding>(op, sources, row),
     }
 }
 
@@ -93,7 +93,7 @@ fn lay_over(sources: &[Pixel], above: Alphas, row: &mut [Pixel], below: Alphas)
     } else if below.least == 255 {
         lay_on_opaque(sources, row);
     } else {
-        lay_guessed::<Covering>(Op::Over, sources, row);
+        lay_mixed::<Covering>(Op::Over, sources, row);
     }
 }
 
@@ -124,45 +124,28 @@ fn opaque_block(sources: &[Pixel], row: &[Pixel]) -> [Pixel; BLOCK]
     laid
 }
 
-/// Guesses all results, and does without guesses where one is missed.
+/// Lays each source on the pixel at its place.
 #[inline]
-fn lay_guessed<M: Mix>(op: Op, sources: &[Pixel], row: &mut [Pixel])
+fn lay_mixed<M: Mix>(op: Op, sources: &[Pixel], row: &mut [Pixel])
     requires operation { op ≡ M.operation }
     requires sources { length sources.now ≡ BLOCK }
     requires row { length row.old ≡ BLOCK }
     ensures { LaysRow op (λ k. slice_index_or sources.now k clear) (λ _. 255) row.old row.new }
 {
-    let mut laid = [Pixel::CLEAR; BLOCK];
-    if guess_block::<M>(sources, row, &mut laid) == 0 {
-        row.copy_from_slice(&laid);
-    } else {
-        lay_each(op, sources, row);
-    }
+    let laid = mixed_block::<M>(sources, row);
+    row.copy_from_slice(&laid);
 }
 
-/// What may be the results: they are where 0 comes back.
+/// The sources laid on the pixels of a row.
 #[inline]
-fn guess_block<M: Mix>(sources: &[Pixel], row: &[Pixel], laid: &mut [Pixel; BLOCK]) -> u32
+fn mixed_block<M: Mix>(sources: &[Pixel], row: &[Pixel]) -> [Pixel; BLOCK]
     requires sources { length sources.now ≡ BLOCK }
     requires row { length row.now ≡ BLOCK }
-    ensures { result ≡ 0 → (k : ℕ) → k < BLOCK → slice_index_or laid.new k clear ≡ composed M.operation (slice_index_or sources.now k clear) (slice_index_or row.now k clear) 255 }
+    ensures { (k : ℕ) → k < BLOCK → slice_index_or result k clear ≡ composed M.operation (slice_index_or sources.now k clear) (slice_index_or row.now k clear) 255 }
 {
-    let mut misses = 0;
+    let mut laid = [Pixel::CLEAR; BLOCK];
     for i in 0..BLOCK {
-        let guess = M::mix(sources[i], row[i]);
-        laid[i] = guess.pixel;
-        misses = misses.max(guess.misses);
+        laid[i] = M::mix(sources[i], row[i]);
     }
-    misses
-}
-
-/// Lays each source by itself.
-fn lay_each(op: Op, sources: &[Pixel], row: &mut [Pixel])
-    requires sources { length sources.now ≡ BLOCK }
-    requires row { length row.old ≡ BLOCK }
-    ensures { LaysRow op (λ k. slice_index_or sources.now k clear) (λ _. 255) row.old row.new }
-{
-    for i in 0..BLOCK {
-        row[i] = compose(op, sources[i], row[i], 255);
-    }
+    laid
 }

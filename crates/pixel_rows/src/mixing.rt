@@ -1,24 +1,16 @@
-//! One pixel laid over another by quotients that are guessed and checked.
+//! One pixel laid over another.
 
 ghost use Rattle.std.specs.Prelude.{◌≡◌, ◌+◌, ◌*◌, ◌<◌, ◌≤◌, ◌-◌};
 ghost use Rattle.pixel_core.specs.declared.blending.Op.TheVariants.{Over};
 ghost use Rattle.pixel_core.specs.Compose.{compose as composed, nearest};
-ghost use Rattle.pixel_rows.specs.declared.quotient.TheConstants.{LOW_BITS, HIGH_BITS};
 
-use crate::quotient::{guess, miss, reciprocal};
+use crate::quotient::mean;
 use pixel_core::Pixel;
 
-/// What may be the result of a pixel laid over another: it is where `misses` is 0.
-#[derive(Clone, Copy)]
-pub(crate) struct Guess {
-    pub(crate) pixel: Pixel,
-    pub(crate) misses: u32,
-}
-
-/// `s` laid over `d` at full strength, if nothing is missed.
+/// `s` laid over `d` at full strength.
 #[inline]
-pub(crate) fn over(s: Pixel, d: Pixel) -> Guess
-    ensures { result.misses ≡ 0 → result.pixel ≡ composed Over s d 255 }
+pub(crate) fn over(s: Pixel, d: Pixel) -> Pixel
+    ensures { result ≡ composed Over s d 255 }
 {
     let [sr, sg, sb, sa] = s.bytes();
     let [dr, dg, db, da] = d.bytes();
@@ -27,10 +19,7 @@ pub(crate) fn over(s: Pixel, d: Pixel) -> Guess
     let g = parts.mixed(sg, dg);
     let b = parts.mixed(sb, db);
     let a = nearest_255th(parts.cover);
-    Guess {
-        pixel: Pixel::new(r.colour, g.colour, b.colour, a),
-        misses: r.miss.max(g.miss).max(b.miss),
-    }
+    Pixel::new(r, g, b, a)
 }
 
 /// `s` laid over an opaque `d` at full strength.
@@ -63,23 +52,14 @@ struct Parts {
     backdrop: u32,
     /// Their sum.
     cover: u32,
-    /// The sum, or 255 where that is 0. The quotient 0 / 255 is guessed well, 0 / 1 isn't.
+    /// The sum, or 255 where that is 0.
     sum: u32,
-    reciprocal: u32,
     ghost both: { cover ≡ source + backdrop },
     ghost small: { source + backdrop ≤ 65025 },
     ghost whole: { 0 < source + backdrop → sum ≡ source + backdrop },
-    ghost some: { 0 < sum },
+    ghost least: { 255 ≤ sum },
+    ghost within: { source + backdrop ≤ sum },
     ghost most: { sum ≤ 65025 },
-    ghost above: { LOW_BITS ≤ reciprocal },
-    ghost below: { reciprocal < HIGH_BITS },
-}
-
-/// What may be a channel of the result: it is where `miss` is 0.
-#[derive(Clone, Copy)]
-pub(crate) struct Mixed {
-    pub(crate) colour: u8,
-    pub(crate) miss: u32,
 }
 
 impl Parts {
@@ -98,21 +78,15 @@ impl Parts {
             backdrop: cover - source,
             cover,
             sum,
-            reciprocal: reciprocal(sum),
         }
     }
 
     /// The mean of two colours by these weights, to the nearest whole number.
     #[inline]
-    fn mixed(self, s: u8, d: u8) -> Mixed
-        ensures { result.miss ≡ 0 → 0 < self.source + self.backdrop → result.colour ≡ nearest (self.source * s + self.backdrop * d) (self.source + self.backdrop) }
+    fn mixed(self, s: u8, d: u8) -> u8
+        ensures { 0 < self.source + self.backdrop → result ≡ nearest (self.source * s + self.backdrop * d) (self.source + self.backdrop) }
     {
-        let n = self.source * s as u32 + self.backdrop * d as u32 + self.sum / 2;
-        let colour = guess(n, self.reciprocal);
-        Mixed {
-            colour: colour as u8,
-            miss: miss(n, self.sum, colour),
-        }
+        mean(self.source, s, self.backdrop, d, self.sum)
     }
 }
 

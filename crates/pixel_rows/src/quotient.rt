@@ -1,46 +1,54 @@
-//! Quotients that are guessed and checked.
+//! Quotients of whole numbers by one division of floats. A cast between a whole number and a float
+//! would keep the compiler from making several at a time, so both ways go by a float's bits.
+ghost use Rattle.std.specs.Prelude.{◌≡◌, ◌<◌, ◌≤◌, ◌/◌, ◌*◌, ◌+◌, ◌^◌};
+ghost use Rattle.pixel_rows.specs.Floats.{IsWhole};
 
-ghost use Rattle.std.specs.Prelude.{◌≡◌, ◌<◌, ◌≤◌, ◌/◌, ◌^◌};
+/// What is added to a quotient, so that its whole part stands in the bits above the lowest 15: 256
+/// less 2^-16. Between 256 and 512 a float's last bit is worth 2^-15, and a tie goes to the even one.
+const SHIFT: f32 = 255.999_984_741_210_94;
 
-/// The bits of 2^-31 as an `f32`: each reciprocal is greater.
-pub(crate) const LOW_BITS: u32 = 0x3000_0000;
-
-/// The bits of 2 as an `f32`: each reciprocal is less.
-pub(crate) const HIGH_BITS: u32 = 0x4000_0000;
-
-/// The bits of an `f32` a little above 2 / `w`, so that a quotient that is whole isn't guessed too
-/// small. How near it is decides speed alone: nothing is promised but that it is a plain number
-/// above 0.
+/// A whole number as a float.
 #[inline]
-pub(crate) fn reciprocal(w: u32) -> u32
-    requires { w < 2 ^ 23 }
-    ensures least { LOW_BITS ≤ result }
-    ensures most { result < HIGH_BITS }
+pub(crate) fn whole(n: u32) -> f32
+    requires { n < 2 ^ 23 }
+    ensures { IsWhole result n }
 {
-    let close = 2.000_000_2 / (f32::from_bits(0x4b00_0000 + w) - 8_388_608.0);
-    LOW_BITS + (close.to_bits() & 0x0fff_ffff)
+    f32::from_bits(0x4b00_0000 + n) - 8_388_608.0
 }
 
-/// A number near `n / w`, by the reciprocal of `w`. Nothing is promised but that it is a byte.
+/// The mean of two numbers by these weights, to the nearest whole number, where `sum` is that of the
+/// weights. A quotient that isn't whole lies more than 2^-16 below the next whole number, so that the
+/// division, which rounds to the nearest float, doesn't reach it.
 #[inline]
-pub(crate) fn guess(n: u32, reciprocal: u32) -> u32
-    requires small { n < 2 ^ 24 }
-    requires least { LOW_BITS ≤ reciprocal }
-    requires most { reciprocal < HIGH_BITS }
-    ensures { result < 256 }
+pub(crate) fn mean(source: u32, s: u8, backdrop: u32, d: u8, sum: u32) -> u8
+    requires divisor { 255 ≤ sum }
+    requires small { sum ≤ 65025 }
+    requires parts { source + backdrop ≤ sum }
+    ensures { result ≡ (source * s + backdrop * d + sum / 2) / sum }
 {
-    let half = f32::from_bits(0x4b00_0000 + n / 2) - 8_388_608.0;
-    let close = half * f32::from_bits(reciprocal) + 8_388_607.5;
-    close.to_bits() & 255
+    let below = whole(backdrop) * whole(d as u32) + whole(sum / 2);
+    let n = whole(source) * whole(s as u32) + below;
+    (((n / whole(sum) + SHIFT).to_bits() >> 15) & 255) as u8
 }
 
-/// 0 where `quotient` is `n / w` rounded down.
-#[inline]
-pub(crate) fn miss(n: u32, w: u32, quotient: u32) -> u32
-    requires some { 0 < w }
-    requires byte { quotient < 256 }
-    requires small { w ≤ 65025 }
-    ensures { result ≡ 0 → quotient ≡ n / w }
+/// The same of three numbers.
+#[inline(always)]
+pub(crate) fn mean_of_three(
+    source: u32,
+    s: u8,
+    backdrop: u32,
+    d: u8,
+    both: u32,
+    f: u8,
+    sum: u32,
+) -> u8
+    requires divisor { 255 ≤ sum }
+    requires small { sum ≤ 65025 }
+    requires parts { source + backdrop + both ≤ sum }
+    ensures { result ≡ (backdrop * d + source * s + both * f + sum / 2) / sum }
 {
-    u32::from(n.wrapping_sub(quotient * w) >= w)
+    let below = whole(backdrop) * whole(d as u32) + whole(sum / 2);
+    let alone = whole(source) * whole(s as u32) + below;
+    let n = whole(both) * whole(f as u32) + alone;
+    (((n / whole(sum) + SHIFT).to_bits() >> 15) & 255) as u8
 }

@@ -4,16 +4,15 @@ ghost use Rattle.std.specs.Prelude.{◌≡◌, ◌≢◌, ◌+◌, ◌*◌, ◌<
 ghost use Rattle.pixel_core.specs.declared.blending.Op.{Op};
 ghost use Rattle.pixel_core.specs.declared.blending.Op.TheVariants.{Erase};
 ghost use Rattle.pixel_core.specs.Compose.{blend, compose as composed, weight, nearest};
-ghost use Rattle.pixel_rows.specs.declared.quotient.TheConstants.{LOW_BITS, HIGH_BITS};
 
-use crate::mixing::{Guess, Mixed, nearest_255th};
-use crate::quotient::{guess, miss, reciprocal};
+use crate::mixing::nearest_255th;
+use crate::quotient::mean_of_three;
 use pixel_core::Pixel;
 
-/// `s` laid on `d` at full strength by an operation of which these are the colours where both cover, if nothing is missed.
+/// `s` laid on `d` at full strength by an operation of which these are the colours where both cover.
 #[inline(always)]
-pub(crate) fn blended(s: Pixel, d: Pixel, r: u8, g: u8, b: u8) -> Guess
-    ensures { (op : Op) → op ≢ Erase → r ≡ blend op s.r d.r → g ≡ blend op s.g d.g → b ≡ blend op s.b d.b → result.misses ≡ 0 → result.pixel ≡ composed op s d 255 }
+pub(crate) fn blended(s: Pixel, d: Pixel, r: u8, g: u8, b: u8) -> Pixel
+    ensures { (op : Op) → op ≢ Erase → r ≡ blend op s.r d.r → g ≡ blend op s.g d.g → b ≡ blend op s.b d.b → result ≡ composed op s d 255 }
 {
     let [sr, sg, sb, sa] = s.bytes();
     let [dr, dg, db, da] = d.bytes();
@@ -22,10 +21,7 @@ pub(crate) fn blended(s: Pixel, d: Pixel, r: u8, g: u8, b: u8) -> Guess
     let g = shares.mixed(sg, dg, g);
     let b = shares.mixed(sb, db, b);
     let a = nearest_255th(shares.cover);
-    Guess {
-        pixel: Pixel::new(r.colour, g.colour, b.colour, a),
-        misses: r.miss.max(g.miss).max(b.miss),
-    }
+    Pixel::new(r, g, b, a)
 }
 
 /// The parts of the source's colour alone, of the backdrop's alone and of what both make together.
@@ -38,14 +34,12 @@ struct Shares {
     cover: u32,
     /// The sum, or 255 where that is 0.
     sum: u32,
-    reciprocal: u32,
     ghost all: { cover ≡ source + backdrop + both },
     ghost small: { source + backdrop + both ≤ 65025 },
     ghost whole: { 0 < source + backdrop + both → sum ≡ source + backdrop + both },
-    ghost some: { 0 < sum },
+    ghost least: { 255 ≤ sum },
+    ghost within: { source + backdrop + both ≤ sum },
     ghost most: { sum ≤ 65025 },
-    ghost above: { LOW_BITS ≤ reciprocal },
-    ghost below: { reciprocal < HIGH_BITS },
 }
 
 impl Shares {
@@ -67,23 +61,14 @@ impl Shares {
             both,
             cover,
             sum,
-            reciprocal: reciprocal(sum),
         }
     }
 
     /// The mean of three colours by these weights, to the nearest whole number.
     #[inline(always)]
-    fn mixed(self, s: u8, d: u8, f: u8) -> Mixed
-        ensures { result.miss ≡ 0 → 0 < self.source + self.backdrop + self.both → result.colour ≡ nearest (self.backdrop * d + self.source * s + self.both * f) (self.source + self.backdrop + self.both) }
+    fn mixed(self, s: u8, d: u8, f: u8) -> u8
+        ensures { 0 < self.source + self.backdrop + self.both → result ≡ nearest (self.backdrop * d + self.source * s + self.both * f) (self.source + self.backdrop + self.both) }
     {
-        let n = self.backdrop * d as u32
-            + self.source * s as u32
-            + self.both * f as u32
-            + self.sum / 2;
-        let colour = guess(n, self.reciprocal);
-        Mixed {
-            colour: colour as u8,
-            miss: miss(n, self.sum, colour),
-        }
+        mean_of_three(self.source, s, self.backdrop, d, self.both, f, self.sum)
     }
 }

@@ -5,5 +5,5 @@ use Rattle.pixel_core.proofs.Sums.{erase_is}
 use Rattle.pixel_rows.proofs.blends.ErasingMix.mix.Goals as goal
 
 pub returns : goal.returns
-returns c = λ _.
+returns c =
     (rw c.bytes-2.ensures.value at c.new.ensures) ∙ erase_is Erase c.args.s c.args.d 255 c.args.s.a c.mul.result refl (sym (whole c.args.s.a)) (rw (c.bytes.ensures.value, c.bytes-2.ensures.value) at c.mul.ensures.value)

@@ -6,4 +6,4 @@ pub returns : goal.returns
 returns c =
     let parts = c.args.self in
     let n = parts.source * c.args.s + parts.backdrop * c.args.d in
-    λ hit some. c.miss.ensures hit ∙ ap (λ w. (n + w / 2) / w) (parts.whole some) ∙ rounds n (parts.source + parts.backdrop) some
+    λ some. c.mean.ensures ∙ ap (λ w. (n + w / 2) / w) (parts.whole some) ∙ rounds n (parts.source + parts.backdrop) some

@@ -6,4 +6,4 @@ pub returns : goal.returns
 returns c =
     let parts = c.args.self in
     let n = parts.backdrop * c.args.d + parts.source * c.args.s + parts.both * c.args.f in
-    λ hit some. c.miss.ensures hit ∙ ap (λ w. (n + w / 2) / w) (parts.whole some) ∙ rounds n (parts.source + parts.backdrop + parts.both) some
+    λ some. c.mean_of_three.ensures ∙ ap (λ w. (n + w / 2) / w) (parts.whole some) ∙ rounds n (parts.source + parts.backdrop + parts.both) some
