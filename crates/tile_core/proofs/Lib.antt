@@ -16,3 +16,4 @@ pub mod DamagedPoints
 pub mod Films
 pub mod SameParts
 pub mod SameSights
+pub mod WholeTiles

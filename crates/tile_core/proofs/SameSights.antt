@@ -52,7 +52,7 @@ none_in_tile s other k a area e apart p h at = absurd (no (sym (apart p h) ∙ a
 abbrev pub SameUpTo : Sight → Sight → Area → ℕ → Type 0
 SameUpTo s other a i = (p : Point) → holds a p ≡ true → list_any (same_key (key_of p)) (take i (keys_of a)) ≡ true → sight_at s p ≡ sight_at other p
 
-or_none : (b : Bool) → (b || false) ≡ true → b ≡ true
+pub or_none : (b : Bool) → (b || false) ≡ true → b ≡ true
 or_none true e = refl
 or_none false e = e
 

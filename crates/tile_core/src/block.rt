@@ -84,6 +84,15 @@ impl Block {
         self.rect
     }
 
+    /// Its pixels in row order. They are not copied.
+    pub fn into_pixels(self) -> Vec<Pixel>
+        ensures value { result.items ≡ self.pixels }
+        ensures known { IsPiece self }
+    {
+        let Block { pixels, .. } = self;
+        pixels
+    }
+
     /// Its pixels in row order.
     pub(crate) fn pixels(&self) -> &[Pixel]
         ensures value { result.now ≡ self.now.pixels }

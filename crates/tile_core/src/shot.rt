@@ -1,6 +1,6 @@
 //! The pixels that a job reads, kept as they were when it started.
 
-ghost use Rattle.std.specs.Prelude.{List, [], ◌∷◌, ◌++◌, length, replicate, ◌≡◌, ℕ, ◌*◌, true, IfOk, OnOk, OnErr, vec_len, ◌+◌, ◌≤◌, IsTrue, ◌↔◌};
+ghost use Rattle.std.specs.Prelude.{List, [], ◌∷◌, ◌++◌, length, replicate, ◌≡◌, ℕ, ◌*◌, true, IfOk, IfSome, OnOk, OnErr, vec_len, ◌+◌, ◌≤◌, IsTrue, ◌↔◌};
 ghost use Rattle.std.specs.List.{list_any};
 ghost use Rattle.std.specs.Option.{option_copied};
 ghost use Rattle.std.specs.FinMap as map;
@@ -182,6 +182,17 @@ impl Shot {
         ensures all { IfOk result (λ v. vec_len v ≡ rect.now.h * rect.now.w) }
         ensures has { IfOk result (λ v. HasPixels rect.now (sight_at self.now) v.items) }
     {
+        match only_tile(rect) {
+            Some(key) => self.read(alloc, key, rect),
+            None => self.gathered(alloc, rect),
+        }
+    }
+
+    /// The same, tile by tile.
+    fn gathered(&self, alloc: Global, rect: &Rect) -> Result<Vec<Pixel>, NoMemory>
+        ensures all { IfOk result (λ v. vec_len v ≡ rect.now.h * rect.now.w) }
+        ensures has { IfOk result (λ v. HasPixels rect.now (sight_at self.now) v.items) }
+    {
         let mut pixels = plain_part(alloc, rect, self.ground())?;
         self.read_into(&mut pixels, rect);
         Ok(pixels)
@@ -208,6 +219,19 @@ impl Shot {
             Some(tile) => lay_tile(pixels, rect, key, tile),
             None => {}
         }
+    }
+}
+
+/// The tile that has all points of the rectangle. None where there is no such one.
+fn only_tile(rect: &Rect) -> Option<TileKey>
+    ensures world { IfSome result IsWorldKey }
+    ensures inside { IfSome result (λ k. IsWithin rect.now (tile_area k)) }
+{
+    let _sides = (rect.w(), rect.h());
+    if rect.tile_count() == 1 {
+        Some(rect.tile_at(0))
+    } else {
+        None
     }
 }
 
