@@ -18,12 +18,19 @@ use pixel_core::Pixel;
 use std::alloc::Global;
 use std::collections::BTreeMap;
 use std::marker::Model;
+use std::sync::Arc;
 
 /// Rectangles, shared tiles under keys, and one pixel, the ground, wherever no tile stands.
-/// To take one copies no pixel.
+/// To take one copies no pixel. It may be shared in turn, and then it takes no further tile.
 #[derive(Drop)]
 pub struct Shot {
     ground: Pixel,
+    seen: Arc<Seen>,
+}
+
+/// The rectangles of a shot, and its tiles.
+#[derive(Drop)]
+struct Seen {
     rects: Vec<Rect>,
     tiles: BTreeMap<TileKey, Tile>,
 }
@@ -36,7 +43,7 @@ impl Model for Shot {
 
     ghost coded = { sight_code };
 
-    ghost view = { λ s. sight s.ground s.rects.items (map.from_entries s.tiles.entries) };
+    ghost view = { λ s. sight s.ground s.seen.value.rects.items (map.from_entries s.seen.value.tiles.entries) };
 }
 
 impl Shot {
@@ -44,10 +51,13 @@ impl Shot {
     pub fn new(alloc: Global, rects: &[Rect], default_pixel: Pixel) -> Result<Shot, NoMemory>
         ensures { IfOk result (λ s. s ≡ sight default_pixel rects.now map.empty) }
     {
-        Ok(Shot {
-            ground: default_pixel,
+        let seen = Seen {
             rects: Vec::from_slice(alloc, rects)?,
             tiles: BTreeMap::new(alloc),
+        };
+        Ok(Shot {
+            ground: default_pixel,
+            seen: Arc::new(alloc, seen)?,
         })
     }
 
@@ -58,13 +68,27 @@ impl Shot {
         self.ground
     }
 
-    /// The points of the key become the tile's pixels, which are shared and not copied.
+    /// The points of the key become the tile's pixels, which are shared and not copied. `NoMemory`
+    /// also where somebody shares the shot.
     pub fn put(&mut self, key: TileKey, tile: &Tile) -> Result<(), NoMemory>
         ensures ok { OnOk result (self.new ≡ with_seen self.old key tile.now) }
         ensures err { OnErr result (self.new ≡ self.old) }
     {
         let tile = tile.share()?;
-        put_under(&mut self.tiles, key, tile)
+        let Some(seen) = Arc::get_mut(&mut self.seen) else {
+            return Err(NoMemory);
+        };
+        put_under(&mut seen.tiles, key, tile)
+    }
+
+    /// The same shot once more. `NoMemory` only where the count of references is full.
+    pub fn share(&self) -> Result<Shot, NoMemory>
+        ensures { IfOk result (λ s. s ≡ self.now) }
+    {
+        Ok(Shot {
+            ground: self.ground,
+            seen: Arc::try_clone(&self.seen)?,
+        })
     }
 
     /// The pixel at a point of the world, which is the ground where no tile stands.
@@ -72,21 +96,21 @@ impl Shot {
         requires { holds world (point x y) ≡ true }
         ensures { result ≡ sight_at self.now (point x y) }
     {
-        pixel_under(&self.tiles, self.ground, x, y)
+        pixel_under(&self.seen.tiles, self.ground, x, y)
     }
 
     /// The tile that was put under the key. Where there is none, the key's points are the ground.
     pub fn tile(&self, key: TileKey) -> Option<&Tile>
         ensures { option_copied result ≡ map.get self.now.tiles key }
     {
-        tile_under(&self.tiles, key)
+        tile_under(&self.seen.tiles, key)
     }
 
     /// Whether the rectangle lies in one of the shot's rectangles.
     pub fn covers(&self, rect: &Rect) -> bool
         ensures { result ≡ list_any (lies_in rect.now) self.now.rects }
     {
-        lies_in_some(rect, &self.rects)
+        lies_in_some(rect, &self.seen.rects)
     }
 
     /// Whether both shots have the same pixels on what a rectangle has of the key's tile. No memory.
@@ -171,7 +195,7 @@ impl Shot {
         ensures all { IfOk result (λ v. vec_len v ≡ rect.now.h * rect.now.w) }
         ensures has { IfOk result (λ v. HasPixels rect.now (sight_at self.now) v.items) }
     {
-        match self.tiles.get(&key) {
+        match self.tile(key) {
             Some(tile) => tile.part(alloc, key, rect),
             None => plain_part(alloc, rect, self.ground),
         }
@@ -215,7 +239,7 @@ impl Shot {
         requires all { length pixels.old ≡ rect.now.h * rect.now.w }
         ensures { (ks : List Key) → ReadsKeys self.now rect.now pixels.old ks → ReadsKeys self.now rect.now pixels.new (ks ++ key ∷ []) }
     {
-        match self.tiles.get(&key) {
+        match self.tile(key) {
             Some(tile) => lay_tile(pixels, rect, key, tile),
             None => {}
         }

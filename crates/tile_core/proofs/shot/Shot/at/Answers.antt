@@ -10,5 +10,5 @@ use Rattle.tile_core.proofs.shot.Shot.at.Goals as goal
 
 pub returns : goal.returns
 returns c =
-    let e : c.pixel_under.result ≡ pixel_or (tree.get key_cmp c.self.inside.tiles (key_of (point c.args.x c.args.y))) c.self.inside.ground (point c.args.x c.args.y) = simp (to_z-of_z, c.ranges.x, c.ranges.y) at c.pixel_under.ensures in
-    e ∙ seen_under c.self.inside.tiles (key_of (point c.args.x c.args.y)) c.self.inside.ground (point c.args.x c.args.y) ∙ ap (λ (s : Sight). sight_at s (point c.args.x c.args.y)) c.self.view_is
+    let e : c.pixel_under.result ≡ pixel_or (tree.get key_cmp c.deref.result.now.tiles (key_of (point c.args.x c.args.y))) c.self.inside.ground (point c.args.x c.args.y) = simp (to_z-of_z, c.ranges.x, c.ranges.y) at c.pixel_under.ensures in
+    e ∙ (λ i. pixel_or (tree.get key_cmp (c.deref.ensures i).tiles (key_of (point c.args.x c.args.y))) c.self.inside.ground (point c.args.x c.args.y)) ∙ seen_under c.self.inside.seen.value.tiles (key_of (point c.args.x c.args.y)) c.self.inside.ground (point c.args.x c.args.y) ∙ ap (λ (s : Sight). sight_at s (point c.args.x c.args.y)) c.self.view_is
