@@ -1,25 +1,22 @@
 -- Pictures of frames, row by row, and what stays of the picture of the frame before.
-use Rattle.std.proofs.Common.{◌≡◌, ℕ, suc, zero, ◌+◌, ◌-◌, ◌*◌, ◌/◌, ◌≤◌, ◌<◌, false, List, [], ◌∷◌, ◌++◌, length, take, drop, map, min, refl, sym, ap, subst, ◌∙◌, arith, append_assoc, append-nil, length-append}
-use Rattle.std.specs.List.{flat_map}
-use Rattle.std.specs.Prelude.{ℤ, pos, slice_range}
+use Rattle.std.proofs.Common.{◌≡◌, ℕ, suc, zero, ◌+◌, ◌-◌, ◌*◌, ◌/◌, ◌≤◌, ◌<◌, Bool, true, false, ◌&&◌, get_or, Some, None, List, [], ◌∷◌, ◌++◌, length, take, drop, map, min, refl, sym, ap, subst, ◌∙◌, arith, append_assoc, append-nil, length-append}
+use Rattle.std.specs.List.{flat_map, list_any}
+use Rattle.std.specs.Prelude.{ℤ, pos, slice_range, slice_index_or, nat_lt, if◌then◌else◌}
 use Rattle.std.proofs.Math.ListN.{drop_of_length-le}
 use borrow.Rule.Slice.PartMut.{put_mid}
 use Rattle.std.proofs.Math.Seq.{take-append_seam, drop-append_seam}
-use Rattle.std.proofs.lemmas.List.{length-take, drop-take}
+use Rattle.std.proofs.lemmas.Bool.{ltb-true}
+use Rattle.std.proofs.lemmas.List.{length-take, drop-take, take_all, get_or-take, get_or-drop}
 use Rattle.std.proofs.lemmas.List.Folds.{flat_map-map}
 use Rattle.std.proofs.lemmas.Slice.{drop-append-drop}
 use Rattle.std.proofs.lemmas.Grind.{flat_map-append}
 use Rattle.pixel_core.specs.Compose.{on_paper}
 use Rattle.geom_core.specs.Areas.{row, rows, Point, point}
-use Rattle.tile_core.specs.Frames.{Scene, put_at, colours_at, row_colours, Shows, SameCanvas, LaysPoints}
-use Rattle.tile_core.specs.Marks.{Grid, mark_at, place_at}
+use Rattle.tile_core.specs.Frames.{Scene, put_at, colours_at, row_colours, rows_colours, Shows, SameCanvas, LaysPoints}
+use Rattle.tile_core.specs.Marks.{Grid, mark_at, place_at, some_mark}
 use Rattle.tile_core.specs.Films.{Renews}
 use Rattle.tile_core.proofs.LaidColours.{put_row}
 use Rattle.tile_core.proofs.FrameRows.{written, many_colours, length-row, row-add, RowSoFar}
-
--- the colours of the first n rows
-abbrev pub first_rows : Scene → ℕ → List ℕ
-first_rows s n = flat_map (colours_at s) (rows (pos 0) (pos 0) s.width n)
 
 rows-add : (b w m n : ℕ) → rows (pos 0) (pos b) w (m + n) ≡ rows (pos 0) (pos b) w m ++ rows (pos 0) (pos (b + m)) w n
 rows-add b w zero n =
@@ -40,53 +37,67 @@ length-rows b w (suc n) =
     let m : w + w * n ≡ w * suc n = grind arith in
     length-append (row (pos 0) (pos b) w) (rows (pos 0) (pos (b + 1)) w n) ∙ ap (λ i. i + length (rows (pos 0) (pos (b + 1)) w n)) (length-row (pos 0) (pos b) w) ∙ ap (λ i. w + i) h ∙ m
 
-length-first : (s : Scene) (n : ℕ) → length (first_rows s n) ≡ 3 * (s.width * n)
-length-first s n = many_colours (colours_at s) (rows (pos 0) (pos 0) s.width n) (λ _. refl) ∙ ap (λ i. 3 * i) (length-rows 0 s.width n)
+length-rows_colours : (s : Scene) (y n : ℕ) → length (rows_colours s y n) ≡ 3 * (s.width * n)
+length-rows_colours s y n = many_colours (colours_at s) (rows (pos 0) (pos y) s.width n) (λ _. refl) ∙ ap (λ i. 3 * i) (length-rows y s.width n)
 
--- one row more
-first_more : (s : Scene) (y : ℕ) → first_rows s y ++ row_colours s y ≡ first_rows s (y + 1)
-first_more s y =
-    let z : 0 + y ≡ y = omega arith in
-    sym (ap (flat_map (colours_at s)) (rows-add 0 s.width y 1 ∙ ap (λ i. rows (pos 0) (pos 0) s.width y ++ rows (pos 0) (pos i) s.width 1) z ∙ ap (λ l. rows (pos 0) (pos 0) s.width y ++ l) (append-nil (row (pos 0) (pos y) s.width)))
-    ∙ flat_map-append (colours_at s) (rows (pos 0) (pos 0) s.width y) (row (pos 0) (pos y) s.width))
+-- more rows
+rows_more : (s : Scene) (y m n : ℕ) → rows_colours s y m ++ rows_colours s (y + m) n ≡ rows_colours s y (m + n)
+rows_more s y m n = sym (ap (flat_map (colours_at s)) (rows-add y s.width m n) ∙ flat_map-append (colours_at s) (rows (pos 0) (pos y) s.width m) (rows (pos 0) (pos (y + m)) s.width n))
 
--- how far a picture has come
-pub record PictureSoFar (s : Scene) (old new : List ℕ) (y at : ℕ) : Type 0 where
-  pub laid : new ≡ first_rows s y ++ drop at old
-  pub at_is : at ≡ 3 * (s.width * y)
+one_row : (s : Scene) (y : ℕ) → row_colours s y ≡ rows_colours s y 1
+one_row s y = sym (ap (flat_map (colours_at s)) (append-nil (row (pos 0) (pos y) s.width)))
 
-length-row_colours : (s : Scene) (y : ℕ) → length (row_colours s y) ≡ 3 * s.width
-length-row_colours s y = many_colours (colours_at s) (row (pos 0) (pos y) s.width) (λ _. refl) ∙ ap (λ i. 3 * i) (length-row (pos 0) (pos y) s.width)
+-- how far the rows from the top on have come
+pub record PictureSoFar (s : Scene) (top : ℕ) (old new : List ℕ) (n at : ℕ) : Type 0 where
+  pub laid : new ≡ rows_colours s top n ++ drop at old
+  pub at_is : at ≡ 3 * (s.width * n)
 
--- the next row is written
-pub picture_next : (s : Scene) (old mid colours : List ℕ) (y at across w : ℕ) → PictureSoFar s old mid y at → w ≡ s.width → across ≡ at + 3 * w → colours ≡ row_colours s y
-    → PictureSoFar s old (put_mid at (across - at) mid colours) (y + 1) across
-picture_next s old mid colours y at across w so ew ea ec =
-    let n : length (first_rows s y) ≡ at = length-first s y ∙ sym so.at_is in
-    let k : length colours ≡ 3 * w = ap length ec ∙ length-row_colours s y ∙ ap (λ i. 3 * i) (sym ew) in
-    let m : s.width * y + s.width ≡ s.width * (y + 1) = grind arith in
+-- the next rows are written
+pub rows_next : (s : Scene) (top : ℕ) (old mid colours : List ℕ) (m n y at end : ℕ) → PictureSoFar s top old mid m at → end ≡ at + 3 * (s.width * n) → y ≡ top + m → colours ≡ rows_colours s y n
+    → PictureSoFar s top old (put_mid at (end - at) mid colours) (m + n) end
+rows_next s top old mid colours m n y at end so ee ey ec =
+    let k : length (rows_colours s top m) ≡ at = length-rows_colours s top m ∙ sym so.at_is in
+    let w : s.width * m + s.width * n ≡ s.width * (m + n) = grind arith in
+    let e : colours ≡ rows_colours s (top + m) n = ec ∙ ap (λ i. rows_colours s i n) ey in
     record {
-      laid = written old mid _ (first_rows s y) colours at (3 * w) so.laid n (put_row mid colours at across (3 * w) ea) ∙ ap (λ l. (first_rows s y ++ l) ++ drop (at + 3 * w) old) ec ∙ ap (λ l. l ++ drop (at + 3 * w) old) (first_more s y) ∙ ap (λ i. first_rows s (y + 1) ++ drop i old) (sym ea);
-      at_is = omega (arith, so.at_is, ea, ew, m);
+      laid = written old mid _ (rows_colours s top m) colours at (3 * (s.width * n)) so.laid k (put_row mid colours at end (3 * (s.width * n)) ee) ∙ ap (λ l. (rows_colours s top m ++ l) ++ drop (at + 3 * (s.width * n)) old) e
+          ∙ ap (λ l. l ++ drop (at + 3 * (s.width * n)) old) (rows_more s top m n) ∙ ap (λ i. rows_colours s top (m + n) ++ drop i old) (sym ee);
+      at_is = omega (arith, so.at_is, ee, w);
     }
 
-pub picture_shown : (s : Scene) (old new : List ℕ) (y at : ℕ) → PictureSoFar s old new y at → y ≡ s.height → Shows s new
+-- the next row is written
+pub row_next : (s : Scene) (top : ℕ) (old mid colours : List ℕ) (m y at end w : ℕ) → PictureSoFar s top old mid m at → w ≡ s.width → end ≡ at + 3 * w → y ≡ top + m → colours ≡ row_colours s y
+    → PictureSoFar s top old (put_mid at (end - at) mid colours) (m + 1) end
+row_next s top old mid colours m y at end w so ew ee ey ec =
+    let one : s.width * 1 ≡ s.width = grind arith in
+    rows_next s top old mid colours m 1 y at end so (omega (arith, ew, ee, one)) ey (ec ∙ one_row s y)
+
+pub picture_shown : (s : Scene) (old new : List ℕ) (y at : ℕ) → PictureSoFar s 0 old new y at → y ≡ s.height → Shows s new
 picture_shown s old new y at so e =
-    let n : length (first_rows s s.height) ≡ 3 * (s.width * s.height) = length-first s s.height in
-    let laid : new ≡ first_rows s s.height ++ drop at old = so.laid ∙ ap (λ i. first_rows s i ++ drop at old) e in
-    ap (take (3 * (s.width * s.height))) laid ∙ ap (λ i. take i (first_rows s s.height ++ drop at old)) (sym n) ∙ take-append_seam (first_rows s s.height) (drop at old)
+    let n : length (rows_colours s 0 s.height) ≡ 3 * (s.width * s.height) = length-rows_colours s 0 s.height in
+    let laid : new ≡ rows_colours s 0 s.height ++ drop at old = so.laid ∙ ap (λ i. rows_colours s 0 i ++ drop at old) e in
+    ap (take (3 * (s.width * s.height))) laid ∙ ap (λ i. take i (rows_colours s 0 s.height ++ drop at old)) (sym n) ∙ take-append_seam (rows_colours s 0 s.height) (drop at old)
 
-pub picture_rest : (s : Scene) (old new : List ℕ) (y at : ℕ) → PictureSoFar s old new y at → y ≡ s.height → drop (3 * (s.width * s.height)) new ≡ drop (3 * (s.width * s.height)) old
+pub picture_rest : (s : Scene) (old new : List ℕ) (y at : ℕ) → PictureSoFar s 0 old new y at → y ≡ s.height → drop (3 * (s.width * s.height)) new ≡ drop (3 * (s.width * s.height)) old
 picture_rest s old new y at so e =
-    let n : length (first_rows s s.height) ≡ 3 * (s.width * s.height) = length-first s s.height in
+    let n : length (rows_colours s 0 s.height) ≡ 3 * (s.width * s.height) = length-rows_colours s 0 s.height in
     let end : at ≡ 3 * (s.width * s.height) = so.at_is ∙ ap (λ i. 3 * (s.width * i)) e in
-    let laid : new ≡ first_rows s s.height ++ drop at old = so.laid ∙ ap (λ i. first_rows s i ++ drop at old) e in
-    ap (drop (3 * (s.width * s.height))) laid ∙ ap (λ i. drop i (first_rows s s.height ++ drop at old)) (sym n) ∙ drop-append_seam (first_rows s s.height) (drop at old) ∙ ap (λ i. drop i old) end
+    let laid : new ≡ rows_colours s 0 s.height ++ drop at old = so.laid ∙ ap (λ i. rows_colours s 0 i ++ drop at old) e in
+    ap (drop (3 * (s.width * s.height))) laid ∙ ap (λ i. drop i (rows_colours s 0 s.height ++ drop at old)) (sym n) ∙ drop-append_seam (rows_colours s 0 s.height) (drop at old) ∙ ap (λ i. drop i old) end
 
-pub row_fits : (w y h at across : ℕ) → y < h → at ≡ 3 * (w * y) → across ≡ 3 * w → at + across ≤ 3 * (w * h)
-row_fits w y h at across l e f =
-    let m : w * y + w ≤ w * h = grind arith in
-    omega arith
+-- a band that is written to its end
+pub band_shown : (s : Scene) (top : ℕ) (old new : List ℕ) (n at : ℕ) → PictureSoFar s top old new n at → length old ≡ 3 * (s.width * n) → new ≡ rows_colours s top n
+band_shown s top old new n at so all =
+    let over : length old ≤ at = omega (arith, so.at_is, all) in
+    so.laid ∙ ap (λ l. rows_colours s top n ++ l) (drop_of_length-le old over) ∙ append-nil (rows_colours s top n)
+
+-- rows end where the canvas does, or before
+pub rows_fit : (w m n h : ℕ) → m + n ≤ h → 3 * (w * m) + 3 * (w * n) ≤ 3 * (w * h)
+rows_fit w m n h l =
+    let k : h ≡ m + n + (h - (m + n)) = omega arith in
+    let e : w * h ≡ w * (m + n + (h - (m + n))) = ap (λ i. w * i) k in
+    let f : w * (m + n + (h - (m + n))) ≡ w * m + w * n + w * (h - (m + n)) = grind arith in
+    omega (arith, e, f)
 
 take_front : (n m : ℕ) (xs : List ℕ) → n ≤ m → take n (take m xs) ≡ take n xs
 take_front zero m xs h = refl
@@ -94,27 +105,44 @@ take_front (suc n) zero xs h = absurd (omega arith)
 take_front (suc n) (suc m) [] h = refl
 take_front (suc n) (suc m) (x ∷ xs) h = ap (λ l. x ∷ l) (take_front n m xs (omega arith))
 
--- a row of a picture
-row_shown : (s : Scene) (bytes : List ℕ) (y at across : ℕ) → Shows s bytes → y < s.height → at ≡ 3 * (s.width * y) → across ≡ 3 * s.width → take across (drop at bytes) ≡ row_colours s y
-row_shown s bytes y at across shows l e f =
-    let fits : at + across ≤ 3 * (s.width * s.height) = row_fits s.width y s.height at across l e f in
-    let h : s.height ≡ (y + 1) + (s.height - (y + 1)) = omega arith in
-    let z : first_rows s s.height ≡ first_rows s (y + 1) ++ flat_map (colours_at s) (rows (pos 0) (pos (0 + (y + 1))) s.width (s.height - (y + 1))) =
-    ap (λ n. first_rows s n) h ∙ ap (flat_map (colours_at s)) (rows-add 0 s.width (y + 1) (s.height - (y + 1))) ∙ flat_map-append (colours_at s) _ _ in
-    let m : s.width * y + s.width ≡ s.width * (y + 1) = grind arith in
-    let n : length (first_rows s (y + 1)) ≡ at + across = length-first s (y + 1) ∙ omega (arith, e, f, m) in
-    let k : length (first_rows s y) ≡ at = length-first s y ∙ sym e in
-    let front : take (at + across) bytes ≡ first_rows s (y + 1) = sym (take_front (at + across) (3 * (s.width * s.height)) bytes fits) ∙ ap (take (at + across)) (shows ∙ z) ∙ ap (λ i. take i (first_rows s (y + 1) ++ flat_map (colours_at s) (rows (pos 0) (pos (0 + (y + 1))) s.width (s.height - (y + 1))))) (sym n) ∙ take-append_seam (first_rows s (y + 1)) _ in
-    sym (drop-take at across bytes) ∙ ap (drop at) (front ∙ sym (first_more s y)) ∙ ap (λ i. drop i (first_rows s y ++ row_colours s y)) (sym k) ∙ drop-append_seam (first_rows s y) (row_colours s y)
+pub bytes_of_rows : (w v n : ℕ) → w ≡ v → 3 * w * n ≡ 3 * (v * n)
+bytes_of_rows w v n e = ap (λ i. 3 * i * n) e ∙ (grind arith)
 
--- the next row is still that of the frame before
-pub row_before : (s b : Scene) (old mid : List ℕ) (y at across w : ℕ) → PictureSoFar s old mid y at → SameCanvas s b → Shows b old → y < s.height → w ≡ s.width → across ≡ at + 3 * w → slice_range mid at across ≡ row_colours b y
-row_before s b old mid y at across w so alike shows l ew ea =
-    let n : length (first_rows s y) ≡ at = length-first s y ∙ sym so.at_is in
-    let many : across - at ≡ 3 * w = omega arith in
-    let e : at ≡ 3 * (b.width * y) = so.at_is ∙ ap (λ i. 3 * (i * y)) (sym alike.width) in
-    ap (λ i. take i (drop at mid)) many ∙ ap (λ l. take (3 * w) (drop at l)) so.laid ∙ ap (λ i. take (3 * w) (drop i (first_rows s y ++ drop at old))) (sym n) ∙ ap (take (3 * w)) (drop-append_seam (first_rows s y) (drop at old))
-    ∙ row_shown b old y at (3 * w) shows (omega (arith, alike.height)) e (omega (arith, alike.width))
+-- a picture of the frame before, by the sides of this one
+pub shown_as : (s b : Scene) (bytes : List ℕ) → SameCanvas s b → Shows b bytes → take (3 * (s.width * s.height)) bytes ≡ rows_colours b 0 s.height
+shown_as s b bytes alike shows = ap (λ w. take (3 * (w * s.height)) bytes) (sym alike.width) ∙ ap (λ h. take (3 * (b.width * h)) bytes) (sym alike.height) ∙ shows ∙ ap (rows_colours b 0) alike.height
+
+-- rows of a picture
+rows_shown : (s : Scene) (bytes : List ℕ) (top h m n at many : ℕ) → take (3 * (s.width * h)) bytes ≡ rows_colours s top h → m + n ≤ h → at ≡ 3 * (s.width * m) → many ≡ 3 * (s.width * n) → take many (drop at bytes) ≡ rows_colours s (top + m) n
+rows_shown s bytes top h m n at many shows l e f =
+    let fits : at + many ≤ 3 * (s.width * h) = omega (arith, rows_fit s.width m n h l, e, f) in
+    let k : h ≡ (m + n) + (h - (m + n)) = omega arith in
+    let z : rows_colours s top h ≡ rows_colours s top (m + n) ++ rows_colours s (top + (m + n)) (h - (m + n)) = ap (rows_colours s top) k ∙ sym (rows_more s top (m + n) (h - (m + n))) in
+    let w : s.width * m + s.width * n ≡ s.width * (m + n) = grind arith in
+    let both : length (rows_colours s top (m + n)) ≡ at + many = length-rows_colours s top (m + n) ∙ omega (arith, e, f, w) in
+    let first : length (rows_colours s top m) ≡ at = length-rows_colours s top m ∙ sym e in
+    let front : take (at + many) bytes ≡ rows_colours s top (m + n) = sym (take_front (at + many) (3 * (s.width * h)) bytes fits) ∙ ap (take (at + many)) (shows ∙ z)
+    ∙ ap (λ i. take i (rows_colours s top (m + n) ++ rows_colours s (top + (m + n)) (h - (m + n)))) (sym both) ∙ take-append_seam (rows_colours s top (m + n)) _ in
+    sym (drop-take at many bytes) ∙ ap (drop at) (front ∙ sym (rows_more s top m n)) ∙ ap (λ i. drop i (rows_colours s top m ++ rows_colours s (top + m) n)) (sym first) ∙ drop-append_seam (rows_colours s top m) (rows_colours s (top + m) n)
+
+-- the next rows are still those of the frame before
+pub rows_before : (s b : Scene) (top h : ℕ) (old mid : List ℕ) (m n y at end : ℕ) → PictureSoFar s top old mid m at → SameCanvas s b → take (3 * (s.width * h)) old ≡ rows_colours b top h → m + n ≤ h → end ≡ at + 3 * (s.width * n) → y ≡ top + m
+    → slice_range mid at end ≡ rows_colours b y n
+rows_before s b top h old mid m n y at end so alike shows l ee ey =
+    let k : length (rows_colours s top m) ≡ at = length-rows_colours s top m ∙ sym so.at_is in
+    let many : end - at ≡ 3 * (s.width * n) = omega arith in
+    let e : at ≡ 3 * (b.width * m) = so.at_is ∙ ap (λ i. 3 * (i * m)) (sym alike.width) in
+    ap (λ i. take i (drop at mid)) many ∙ ap (λ v. take (3 * (s.width * n)) (drop at v)) so.laid ∙ ap (λ i. take (3 * (s.width * n)) (drop i (rows_colours s top m ++ drop at old))) (sym k)
+    ∙ ap (take (3 * (s.width * n))) (drop-append_seam (rows_colours s top m) (drop at old))
+    ∙ rows_shown b old top h m n at (3 * (s.width * n)) (ap (λ i. take (3 * (i * h)) old) alike.width ∙ shows) l e (ap (λ i. 3 * (i * n)) (sym alike.width)) ∙ ap (λ i. rows_colours b i n) (sym ey)
+
+-- the next row of a band is still that of the frame before
+pub row_before : (s b : Scene) (top h : ℕ) (old mid : List ℕ) (m y at end w : ℕ) → PictureSoFar s top old mid m at → SameCanvas s b → length old ≡ 3 * (s.width * h) → old ≡ rows_colours b top h → m < h → w ≡ s.width → end ≡ at + 3 * w → y ≡ top + m
+    → slice_range mid at end ≡ row_colours b y
+row_before s b top h old mid m y at end w so alike all shown l ew ee ey =
+    let one : s.width * 1 ≡ s.width = grind arith in
+    let whole : take (3 * (s.width * h)) old ≡ old = take_all (3 * (s.width * h)) old (omega (arith, all)) in
+    rows_before s b top h old mid m 1 y at end so alike (whole ∙ shown) (omega arith) (omega (arith, ew, ee, one)) ey ∙ sym (one_row b y)
 
 -- both frames have the same pixel at n points of a row, from x on
 abbrev SamePoints : Scene → Scene → ℕ → ℕ → ℕ → Type 0
@@ -185,3 +213,36 @@ tile_stays s b fresh col y alike renews h unmarked k from to =
     let inside : k < s.width = omega arith in
     let e : k / 64 ≡ col = omega arith in
     renews k y inside h (omega (arith, alike.width)) (omega (arith, alike.height)) (subst (λ c. mark_at fresh (place_at (pos c) (pos (y / 64))) ≡ false) (sym e) unmarked)
+
+-- a tile in a row of the canvas without a mark isn't marked
+unmarked : (g : Grid) (c r : ℕ) → some_mark g r ≡ false → mark_at g (place_at (pos c) (pos r)) ≡ false
+unmarked g c r none = at (nat_lt c 32) (nat_lt r 32) (λ e. sym (get_or-take 32 (drop (32 * r) g) c false (ltb-true c 32 e) ∙ get_or-drop (32 * r) g c false) ∙ no_mark (take 32 (drop (32 * r) g)) c none)
+  where
+    no_mark : (marks : List Bool) (i : ℕ) → list_any (λ mark. mark) marks ≡ false → get_or marks i false ≡ false
+    no_mark [] i e = refl
+    no_mark (false ∷ marks) zero e = refl
+    no_mark (false ∷ marks) (suc i) e = no_mark marks i e
+    no_mark (true ∷ marks) i e = cc
+
+    at : (a b : Bool) → (a ≡ true → slice_index_or g (32 * r + c) false ≡ false) → mark_at g (if a && b then Some (32 * r + c) else None) ≡ false
+    at true true h = h refl
+    at true false h = refl
+    at false b h = refl
+
+same_rows : (s b : Scene) (y n : ℕ) → SameCanvas s b → ((k : ℕ) → y ≤ k → k < y + n → SamePoints s b k 0 s.width) → flat_map (colours_at b) (rows (pos 0) (pos y) s.width n) ≡ rows_colours s y n
+same_rows s b y zero alike same = refl
+same_rows s b y (suc n) alike same =
+    let w : ℕ = s.width in
+    flat_map-append (colours_at b) (row (pos 0) (pos y) s.width) (rows (pos 0) (pos (y + 1)) s.width n)
+    ∙ ap (λ l. l ++ flat_map (colours_at b) (rows (pos 0) (pos (y + 1)) s.width n)) (same_colours s b y 0 s.width alike (same y (omega arith) (omega arith)))
+    ∙ ap (λ l. row_colours s y ++ l) (same_rows s b (y + 1) n alike (λ k h l. same k (omega arith) (omega arith)))
+    ∙ sym (flat_map-append (colours_at s) (row (pos 0) (pos y) s.width) (rows (pos 0) (pos (y + 1)) s.width n))
+
+-- a band without a mark shows what it showed in the frame before
+pub band_stays : (s b : Scene) (fresh : Grid) (r n : ℕ) → SameCanvas s b → Renews s b fresh → n ≤ 64 → 64 * r + n ≤ s.height → some_mark fresh r ≡ false → rows_colours b (64 * r) n ≡ rows_colours s (64 * r) n
+band_stays s b fresh r n alike renews few inside none = ap (λ w. flat_map (colours_at b) (rows (pos 0) (pos (64 * r)) w n)) alike.width ∙ same_rows s b (64 * r) n alike points
+  where
+    points : (k : ℕ) → 64 * r ≤ k → k < 64 * r + n → SamePoints s b k 0 s.width
+    points k from to x low high =
+        let e : k / 64 ≡ r = omega arith in
+        renews x k (omega arith) (omega arith) (omega (arith, alike.width)) (omega (arith, alike.height)) (subst (λ i. mark_at fresh (place_at (pos (x / 64)) (pos i)) ≡ false) (sym e) (unmarked fresh (x / 64) r none))

@@ -7,7 +7,7 @@ use Rattle.std.specs.Coded.{Coded, code_by, coded×, coded_ℕ, coded_list}
 use Rattle.pixel_core.specs.Rgba.{Rgba, clear}
 use Rattle.pixel_core.specs.Words.{pixel_code}
 use Rattle.pixel_core.specs.Compose.{on_paper}
-use Rattle.geom_core.specs.Areas.{row, area, points_of, Point}
+use Rattle.geom_core.specs.Areas.{row, rows, area, points_of, Point}
 use Rattle.geom_core.specs.Grid.{Key, key_cmp, key_of, key_code}
 use Rattle.tile_core.specs.Pixels.{Pixels, pixel_or}
 
@@ -45,6 +45,10 @@ colours_at s p = on_paper (put_at s p) s.paper
 -- the colours of the points of a row, from the left
 abbrev pub row_colours : Scene → ℕ → List ℕ
 row_colours s y = flat_map (colours_at s) (row (pos 0) (pos y) s.width)
+
+-- the colours of the points of n rows from y on, in row order
+abbrev pub rows_colours : Scene → ℕ → ℕ → List ℕ
+rows_colours s y n = flat_map (colours_at s) (rows (pos 0) (pos y) s.width n)
 
 -- the colours of all points, in row order
 abbrev pub picture_colours : Scene → List ℕ

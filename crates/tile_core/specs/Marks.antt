@@ -1,5 +1,6 @@
 -- Marks of the tiles of a canvas.
-use Rattle.std.specs.Prelude.{ℕ, ◌+◌, ◌*◌, ℤ, pos, negsuc, nat_lt, Bool, ◌&&◌, false, if◌then◌else◌, Option, Some, None, is_some, List, slice_index_or, replicate}
+use Rattle.std.specs.Prelude.{ℕ, ◌+◌, ◌*◌, ℤ, pos, negsuc, nat_lt, Bool, ◌&&◌, false, if◌then◌else◌, Option, Some, None, is_some, List, slice_index_or, take, drop, replicate}
+use Rattle.std.specs.List.{list_any}
 use Rattle.geom_core.specs.Grid.{Key}
 
 -- a mark for each of the 32 by 32 tiles of the largest canvas, in row order
@@ -20,6 +21,10 @@ mark_at g (Some i) = slice_index_or g i false
 -- whether the key's tile is marked; outside the largest canvas no tile is
 abbrev pub has_mark : Grid → Key → Bool
 has_mark g k = mark_at g (place_at k.col k.row)
+
+-- whether a tile of a row of the largest canvas is marked
+abbrev pub some_mark : Grid → ℕ → Bool
+some_mark g row = list_any (λ mark. mark) (take 32 (drop (32 * row) g))
 
 -- whether the key is that of a tile of the largest canvas
 abbrev pub on_canvas : Key → Bool

@@ -2,7 +2,7 @@
 
 ghost use Rattle.std.specs.Prelude.{◌≡◌, ◌<◌, ◌&&◌, ◌||◌, true, pos, IfSome};
 ghost use Rattle.geom_core.specs.Grid.{Key, same_key};
-ghost use Rattle.tile_core.specs.Marks.{place_at, mark_at, has_mark, on_canvas, no_marks};
+ghost use Rattle.tile_core.specs.Marks.{place_at, mark_at, has_mark, some_mark, on_canvas, no_marks};
 
 use geom_core::TileKey;
 use std::marker::Model;
@@ -51,6 +51,15 @@ impl Marks {
         ensures { result ≡ mark_at self.now (place_at (pos col) (pos row)) }
     {
         col < 32 && row < 32 && self.tiles[32 * row as usize + col as usize]
+    }
+
+    /// Whether a tile of a row of the canvas is marked.
+    pub(crate) fn has_in_row(&self, row: u16) -> bool
+        requires { row < 32 }
+        ensures { result ≡ some_mark self.now row }
+    {
+        let at = 32 * row as usize;
+        self.tiles[at..at + 32].iter().any(|mark| *mark)
     }
 
     /// The same marks once more.

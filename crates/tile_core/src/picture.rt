@@ -1,8 +1,8 @@
 //! The colours of all points of a frame, and how they follow from those of the frame before.
 
-ghost use Rattle.std.specs.Prelude.{◌≡◌, ◌*◌, ◌<◌, ◌≤◌, ◌↔◌, IsTrue, length, drop};
+ghost use Rattle.std.specs.Prelude.{◌≡◌, ◌+◌, ◌*◌, ◌<◌, ◌≤◌, ◌↔◌, IsTrue, length, drop};
 ghost use Rattle.tile_core.specs.Films.{Renews};
-ghost use Rattle.tile_core.specs.Frames.{row_colours, picture_colours, Shows, SameCanvas};
+ghost use Rattle.tile_core.specs.Frames.{row_colours, rows_colours, Shows, SameCanvas};
 
 use crate::{Frame, Marks};
 
@@ -57,8 +57,44 @@ impl Frame {
     {
         let across = 3 * self.width() as usize;
         let mut at = 0;
-        for y in 0..self.height() {
-            self.row_after(before, fresh, y, &mut picture[at..at + across]);
+        for row in 0..self.height().div_ceil(64) {
+            let n = (self.height() - 64 * row).min(64);
+            let end = at + across * n as usize;
+            self.band_after(before, fresh, row, n, &mut picture[at..end]);
+            at = end;
+        }
+    }
+
+    /// Writes the points of the marked tiles of one row of tiles. The band is the first n rows of points
+    /// in these tiles.
+    fn band_after(&self, before: &Frame, fresh: &Marks, row: u16, n: u16, band: &mut [u8])
+        requires alike { SameCanvas self.now before.now }
+        requires renews { Renews self.now before.now fresh.now }
+        requires row { row < 32 }
+        requires few { n ≤ 64 }
+        requires inside { 64 * row + n ≤ self.now.height }
+        requires whole { length band.old ≡ 3 * (self.now.width * n) }
+        requires shown { band.old ≡ rows_colours before.now (64 * row) n }
+        ensures { band.new ≡ rows_colours self.now (64 * row) n }
+    {
+        if fresh.has_in_row(row) {
+            self.rows_after(before, fresh, 64 * row, n, band);
+        }
+    }
+
+    /// Writes the points of n rows from `top` on that lie in marked tiles.
+    fn rows_after(&self, before: &Frame, fresh: &Marks, top: u16, n: u16, band: &mut [u8])
+        requires alike { SameCanvas self.now before.now }
+        requires renews { Renews self.now before.now fresh.now }
+        requires inside { top + n ≤ self.now.height }
+        requires whole { length band.old ≡ 3 * (self.now.width * n) }
+        requires shown { band.old ≡ rows_colours before.now top n }
+        ensures { band.new ≡ rows_colours self.now top n }
+    {
+        let across = 3 * self.width() as usize;
+        let mut at = 0;
+        for y in 0..n {
+            self.row_after(before, fresh, top + y, &mut band[at..at + across]);
             at += across;
         }
     }
