@@ -195,7 +195,7 @@ impl Shot {
         ensures all { IfOk result (λ v. vec_len v ≡ rect.now.h * rect.now.w) }
         ensures has { IfOk result (λ v. HasPixels rect.now (sight_at self.now) v.items) }
     {
-        match self.tile(key) {
+        match self.seen.tiles.get(&key) {
             Some(tile) => tile.part(alloc, key, rect),
             None => plain_part(alloc, rect, self.ground),
         }
