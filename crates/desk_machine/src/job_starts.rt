@@ -39,7 +39,7 @@ impl Machine {
         let next = self.next_job(place);
         let reads = next.job.reads();
         let kept = self.store.grab(self.alloc, reads.as_slice())?;
-        let shot = self.store.grab(self.alloc, reads.as_slice())?;
+        let shot = kept.share()?;
         let since = self.least_at_work(next.index);
         let serial = self.next;
         let painter = Painter {

@@ -1,6 +1,5 @@
 pub mod Seen
 pub mod Hanging
-pub mod Based
 pub mod News
 pub mod Tiles
 pub mod Circles

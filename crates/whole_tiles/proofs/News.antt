@@ -31,7 +31,7 @@ use Rattle.doc_model.proofs.Shots.{at-published}
 use Rattle.doc_model.proofs.JobLaws.{laws_of_jobs}
 use Rattle.job_core.proofs.Values.{or-false}
 use Rattle.whole_tiles.specs.Enough.{IsEnough}
-use Rattle.whole_tiles.specs.Base.{tile_of, IsBase}
+use Rattle.whole_tiles.specs.Base.{tile_of}
 use Rattle.whole_tiles.specs.Wholes.{IsNew, LaysPaint, entire, Shows, IsEntire}
 use Rattle.whole_tiles.proofs.Hanging.{both_values, point_value}
 use Rattle.whole_tiles.proofs.Seen.{default-layer_of, covered_seen}
@@ -151,24 +151,21 @@ points_new job kind s key t due op lays p inside =
 
 -- ---- the tile made whole
 
-module _ (job : Job) (s : Sight) (key : Key) (a : Area) (base : Sight) (t : Pixels) (due : IsDue job s key) (enough : IsEnough job key a) (based : IsBase s key a base) where
-  seen_base : (p : Point) → holds a p ≡ true → at (layer_of s) p ≡ sight_at base p
-  seen_base p h = covered_seen s (reads job) p due.seen (enough.read p h) ∙ sym (based.needed p h)
+module _ (job : Job) (s : Sight) (key : Key) (a : Area) (t : Pixels) (due : IsDue job s key) (enough : IsEnough job key a) where
+  pub shows_shot : Shows a s (layer_of s)
+  shows_shot = record { default_pixel = default-layer_of s; pixels = λ p h. covered_seen s (reads job) p due.seen (enough.read p h) }
 
-  pub shows_base : Shows a base (layer_of s)
-  shows_base = record { default_pixel = default-layer_of s ∙ sym based.default_pixel; pixels = seen_base }
-
-  pub is_entire : IsWorldKey key → IsNew job s key t → IsEntire (entire job key a base t)
+  pub is_entire : IsWorldKey key → IsNew job s key t → IsEntire (entire job key a s t)
   is_entire world new = record {
     world = world;
     checked = due.checked;
     read = enough.read;
     value = λ layer shows p inside h. new p inside ∙ taken (any_holds (writes job) p) _ _ h ∙ enough.enough (layer_of s) layer (same layer shows) p inside h;
-    rest = λ p inside h. new p inside ∙ kept (any_holds (writes job) p) _ _ h ∙ sym (based.own p inside);
+    rest = λ p inside h. new p inside ∙ kept (any_holds (writes job) p) _ _ h;
   }
     where
-      same : (layer : Layer) → Shows a base layer → SameOn (a ∷ []) (layer_of s) layer
+      same : (layer : Layer) → Shows a s layer → SameOn (a ∷ []) (layer_of s) layer
       same layer shows = record {
-        default_pixel = shows_base.default_pixel ∙ sym shows.default_pixel;
-        pixels = λ p h. let held : holds a p ≡ true = sym (or-false (holds a p)) ∙ h in seen_base p held ∙ sym (shows.pixels p held);
+        default_pixel = shows_shot.default_pixel ∙ sym shows.default_pixel;
+        pixels = λ p h. let held : holds a p ≡ true = sym (or-false (holds a p)) ∙ h in shows_shot.pixels p held ∙ sym (shows.pixels p held);
       }

@@ -15,7 +15,7 @@ use Rattle.doc_model.specs.Jobs.{checks, reads, writes, apply}
 use Rattle.doc_model.specs.Shots.{in_tile}
 use Rattle.job_core.specs.Paints.{Paint, layer_of}
 
--- a job, the key of a tile, the rectangle on which it hangs what the job leaves there, the few tiles that it was made from, and the new tile
+-- a job, the key of a tile, the rectangle on which it hangs what the job leaves there, the shot that it was made from, and the new tile
 pub record Entire : Type 0 where
   pub job : Job
   pub key : Key

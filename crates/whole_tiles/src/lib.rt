@@ -1,7 +1,6 @@
 //! Tiles of a job, made whole away from the layer that they are for.
 #![tactic(auto)]
 
-mod base;
 mod circle;
 mod needs;
 mod painting;

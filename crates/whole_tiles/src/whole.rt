@@ -11,7 +11,6 @@ ghost use Rattle.doc_model.specs.Shots.{in_tile};
 ghost use Rattle.job_core.specs.Paints.{paint};
 ghost use Rattle.whole_tiles.specs.Wholes.{IsEntire, IsOf};
 
-use crate::base::base_of;
 use crate::needs::needs_of;
 use crate::pixels::new_tile;
 use doc_model::Job;
@@ -20,9 +19,9 @@ use std::alloc::Global;
 use std::marker::Model;
 use tile_core::{Shot, Tile};
 
-/// A tile with what a job leaves there, made whole from the job's shot. It keeps the job and the few
-/// tiles that it was made from, shared, so that it can be told whether it is of another job or of
-/// other pixels. It borrows nothing: the shot may be let go, and threads may hand it on.
+/// A tile with what a job leaves there, made whole from the job's shot. It keeps the job and the shot
+/// that it was made from, shared, so that it can be told whether it is of another job or of other
+/// pixels. It borrows nothing: the shot may be let go, and threads may hand it on.
 #[derive(Drop)]
 pub struct Whole {
     job: Job,
@@ -68,7 +67,7 @@ impl Whole {
         self.needs
     }
 
-    /// The few tiles that it was made from: what stood under its key, and what the job reads for it.
+    /// The shot that it was made from.
     pub fn base(&self) -> &Shot
         ensures { result.now ≡ self.now.base }
     {
@@ -115,7 +114,7 @@ pub fn whole_tile_like(
     ensures own { IfOk result (λ x. (p : Point) → in_tile x.key p ≡ true → sight_at x.base p ≡ sight_at shot.now p) }
 {
     let needs = needs_of(job, key);
-    let base = base_of(alloc, shot, key, &needs)?;
+    let base = shot.share()?;
     let tile = new_tile(alloc, job, shot, key, like)?;
     Ok(Whole {
         job: *job,

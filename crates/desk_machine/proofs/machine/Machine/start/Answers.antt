@@ -1,5 +1,8 @@
 use Rattle.std.proofs.Common.{◌≡◌, ◌≤◌, ◌+◌, suc, Some, refl, sym, ap, ◌∙◌, subst, arith, add-one}
+use Rattle.tile_core.specs.Shots.{Sight}
+use Rattle.doc_model.specs.Jobs.{reads}
 use Rattle.doc_model.specs.Shots.{shot_of}
+use Rattle.job_core.specs.Paints.{layer_of}
 use Rattle.desk_steps.specs.Archives.{layer_under_way}
 use Rattle.desk_steps.specs.Tiles.{ShowsTiles}
 use Rattle.machine_model.specs.State.{State}
@@ -57,8 +60,9 @@ returns-clause-ticket c = paint_ticket (before c) (state_of (after c))
     (subst (λ (t : State). (can : Enabled t (Start c.args.place)) → c.next_job-next.result.no ≡ can.1.stroke.no) (sym c.self.view_is) c.next_job-next.ensures.no (state_of (after c), (does c).step))
     (add-one c.next_job-next.result.index ∙ ap suc (subst (λ (t : State). (can : Enabled t (Start c.args.place)) → c.next_job-next.result.index ≡ can.1.next) (sym c.self.view_is) c.next_job-next.ensures.index (state_of (after c), (does c).step)))
     (subst (λ (t : State). (can : Enabled t (Start c.args.place)) → c.next_job-next.result.job ≡ can.1.job.1) (sym c.self.view_is) c.next_job-next.ensures.job (state_of (after c), (does c).step))
-    c.next_job-next.ensures.checked (c.in_ok-shot.ensures.rects ∙ c.as_slice-2.ensures.value ∙ c.reads-reads.ensures)
-    (c.in_ok-shot.ensures.shot ∙ ap (λ rects. shot_of rects (layer_under_way c.self.inside.store.way c.self.inside.store.present)) (c.as_slice-2.ensures.value ∙ c.reads-reads.ensures))
+    c.next_job-next.ensures.checked (ap (λ (s : Sight). s.rects) c.in_ok-shot.ensures ∙ c.in_ok-kept.ensures.rects ∙ c.as_slice.ensures.value ∙ c.reads-reads.ensures)
+    (ap layer_of c.in_ok-shot.ensures ∙ c.in_ok-kept.ensures.shot ∙ ap (λ rects. shot_of rects (layer_under_way c.self.inside.store.way c.self.inside.store.present)) (c.as_slice.ensures.value ∙ c.reads-reads.ensures))
     (subst (λ n. c.least_at_work-since.result ≤ n) (subst (λ (t : State). (can : Enabled t (Start c.args.place)) → c.next_job-next.result.index ≡ can.1.next) (sym c.self.view_is) c.next_job-next.ensures.index (state_of (after c), (does c).step)) c.least_at_work-since.ensures.low)
     (subst (λ (t : State). AreFrom c.least_at_work-since.result t.slots) (sym c.self.view_is) c.least_at_work-since.ensures.all)
-    (subst (λ rects. ShowsTiles rects (layer_under_way c.self.inside.store.way c.self.inside.store.present) c.in_ok-shot.shot) (c.as_slice-2.ensures.value ∙ c.reads-reads.ensures) c.in_ok-shot.ensures.tiles)
+    (subst (ShowsTiles (reads c.next_job-next.result.job) (layer_under_way c.self.inside.store.way c.self.inside.store.present)) (sym c.in_ok-shot.ensures)
+    (subst (λ rects. ShowsTiles rects (layer_under_way c.self.inside.store.way c.self.inside.store.present) c.in_ok-kept.kept) (c.as_slice.ensures.value ∙ c.reads-reads.ensures) c.in_ok-kept.ensures.tiles))
