@@ -10,7 +10,7 @@ use Rattle.machine_model.specs.State.{Child}
 use Rattle.machine_model.specs.Walks.{value_in, walk_folded, walk_values, looked_up}
 use Rattle.compose_core.specs.declared.children.Given.{Given}
 use Rattle.compose_core.specs.declared.children.Given.TheVariants.{Plain}
-use Rattle.walker_core.specs.declared.inputs.Source.{Source}
+use Rattle.walker_core.specs.declared.gathered.Source.{Source}
 use Rattle.compose_core.specs.Spots.{given_on}
 use Rattle.walker_core.specs.Rows.{given_values, found}
 use Rattle.walker_core.specs.Knowing.{value_at}

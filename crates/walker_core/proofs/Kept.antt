@@ -24,7 +24,7 @@ use Rattle.compose_core.specs.declared.children.Given.{Given}
 use Rattle.compose_core.specs.declared.spot.Spot.{Spot}
 use Rattle.compose_core.specs.Spots.{given_on, Catches}
 use Rattle.compose_core.proofs.SpotPoints.{tile_held}
-use Rattle.walker_core.specs.declared.inputs.Source.{Source}
+use Rattle.walker_core.specs.declared.gathered.Source.{Source}
 use Rattle.walker_core.specs.declared.known.Damaged.{Damaged}
 use Rattle.walker_core.specs.declared.known.Known.{Known}
 use Rattle.walker_core.specs.Readings.{Readings}

@@ -9,7 +9,7 @@ use Rattle.doc_model.specs.declared.tree.Look.{Look}
 use Rattle.doc_model.specs.Picture.{with_look}
 use Rattle.machine_model.specs.State.{Child}
 use Rattle.machine_model.specs.Walks.{value_in, walk_folded}
-use Rattle.walker_core.specs.declared.inputs.Source.{Source}
+use Rattle.walker_core.specs.declared.gathered.Source.{Source}
 use Rattle.walker_core.specs.Views.{child_of, children_in}
 
 -- the children of a group as a walk has them, with one more source

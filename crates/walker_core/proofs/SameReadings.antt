@@ -15,7 +15,7 @@ use Rattle.doc_model.specs.Layers.{at}
 use Rattle.doc_model.specs.Picture.{with_look}
 use Rattle.machine_model.specs.State.{Child}
 use Rattle.machine_model.specs.Walks.{value_in, walk_folded, walk_values, looked_up, walk_value}
-use Rattle.walker_core.specs.declared.inputs.Source.{Source}
+use Rattle.walker_core.specs.declared.gathered.Source.{Source}
 use Rattle.walker_core.specs.Readings.{Readings, path_in}
 use Rattle.walker_core.specs.Sameness.{child_at, groups_at, ReadTheSame, SameValues}
 use Rattle.walker_core.specs.Alike.{HasPointIn, AlikeChild, AlikeChildren, AlikeGroups}

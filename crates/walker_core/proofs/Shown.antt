@@ -11,10 +11,10 @@ use Rattle.paint_device.specs.Sheets.{Sheet, sheet_at}
 use Rattle.paint_device.specs.Seen.{layer_of}
 use Rattle.paint_device.proofs.Shown.{at-layer_of, default-layer_of}
 use Rattle.machine_model.specs.State.{Child}
-use Rattle.walker_core.specs.declared.inputs.Source.{Source}
+use Rattle.walker_core.specs.declared.gathered.Source.{Source}
 use Rattle.walker_core.specs.Readings.{Readings, readings, path_in, childless, child_on, with_child_in, with_child}
 use Rattle.walker_core.specs.Views.{shown_by, layer_on, child_of, children_in, groups_of}
-use Rattle.walker_core.specs.declared.inputs.Inputs.TheInside.{Inside}
+use Rattle.walker_core.specs.declared.gathered.Gathered.TheInside.{Inside}
 use Rattle.walker_core.proofs.Given.{groups_path}
 use Rattle.walker_core.proofs.Laid.{children_more}
 

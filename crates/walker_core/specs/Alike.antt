@@ -4,7 +4,7 @@ use Rattle.geom_core.specs.Areas.{Area, holds, Point}
 use Rattle.geom_core.specs.Grid.{Key}
 use Rattle.doc_model.specs.Shots.{in_tile}
 use Rattle.machine_model.specs.State.{Child}
-use Rattle.walker_core.specs.declared.inputs.Source.{Source}
+use Rattle.walker_core.specs.declared.gathered.Source.{Source}
 use Rattle.walker_core.specs.Sameness.{child_at, groups_at}
 use Rattle.walker_core.specs.Views.{groups_of}
 

@@ -3,7 +3,7 @@ use Rattle.std.specs.Prelude.{◌≡◌, ◌↔◌, ℕ, ◌+◌, List, ◌∷�
 use Rattle.geom_core.specs.Areas.{Area}
 use Rattle.geom_core.specs.Grid.{Key}
 use Rattle.machine_model.specs.State.{Child}
-use Rattle.walker_core.specs.declared.inputs.Source.{Source}
+use Rattle.walker_core.specs.declared.gathered.Source.{Source}
 use Rattle.walker_core.specs.Alike.{AlikeChildren}
 use Rattle.walker_core.specs.Views.{child_of, children_in}
 

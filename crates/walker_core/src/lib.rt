@@ -2,6 +2,7 @@
 #![tactic(auto)]
 
 mod composed;
+mod gathered;
 mod inputs;
 mod known;
 mod overlay;
@@ -10,6 +11,7 @@ mod row;
 mod same;
 
 pub use composed::{Composed, compose_key, compose_keys, compose_walk};
+pub use gathered::Gathered;
 pub use inputs::Inputs;
 pub use known::{Damaged, Known};
 pub use paths::{Path, all_groups, plan};

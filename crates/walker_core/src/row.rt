@@ -15,7 +15,8 @@ ghost use Rattle.compose_core.specs.Spots.{IsSpot, given_on};
 ghost use Rattle.compose_core.specs.Piles.{IsPile, pile_at};
 ghost use Rattle.walker_core.specs.Rows.{given_values, found, maybe_on, IsRow};
 
-use crate::inputs::{Inputs, Source};
+use crate::gathered::Source;
+use crate::inputs::Inputs;
 use crate::known::Kept;
 use crate::overlay::{overlaid, shown_on};
 use compose_core::{Given, Pile, Spot};

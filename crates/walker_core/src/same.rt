@@ -8,7 +8,7 @@ ghost use Rattle.walker_core.specs.Sameness.{SameValues};
 ghost use Rattle.walker_core.specs.Steps.{StepsOn, StopsAt, IsNext};
 ghost use Rattle.walker_core.specs.Views.{child_of, children_in};
 
-use crate::inputs::Source;
+use crate::gathered::Source;
 use doc_model::{Look, Patch};
 use geom_core::{Rect, TileKey};
 

@@ -1,6 +1,6 @@
 use Rattle.std.proofs.Common.{◌≡◌, false, refl, sym, ap, subst, arith, ◌+◌, ◌∙◌}
 use Rattle.tile_core.proofs.SameParts.{not_true}
-use Rattle.walker_core.specs.declared.inputs.Source.{Source}
+use Rattle.walker_core.specs.declared.gathered.Source.{Source}
 use Rattle.walker_core.proofs.SameReadings.{Sides, same_default, own_source, other_source, sides_skip, sides_step, sides_more, some_source}
 use Rattle.walker_core.proofs.same.same_children.Goals as goal
 use Rattle.walker_core.proofs.same.same_children.Goals.{then-xs-i+in-Some, else-xs-i}
