@@ -12,3 +12,4 @@ pub mod MoveValues
 pub mod BlurValues
 pub mod InPlace
 pub mod Runs
+pub mod WholeTiles

@@ -1,5 +1,5 @@
 -- What painting one tile of a job leaves.
-use Rattle.std.specs.Prelude.{◌≡◌, true, ◌&&◌, List, map, All, refl}
+use Rattle.std.specs.Prelude.{◌≡◌, Bool, true, false, ◌&&◌, nat_eq, List, [], ◌∷◌, map, All, refl}
 use Rattle.std.specs.Coded.{Coded, code_by, coded×, coded_list}
 use Rattle.pixel_core.specs.Rgba.{Rgba}
 use Rattle.pixel_core.specs.Words.{pixel_code}
@@ -7,6 +7,7 @@ use Rattle.geom_core.specs.Areas.{Area, holds, Point}
 use Rattle.geom_core.specs.Overlaps.{any_holds, area_code}
 use Rattle.geom_core.specs.Grid.{Key, key_code, IsWorldKey}
 use Rattle.tile_core.specs.Blocks.{Piece, piece, piece_at}
+use Rattle.tile_core.specs.Pixels.{Pixels, pixel_at}
 use Rattle.tile_core.specs.Shots.{Sight, sight_at, sight_code}
 use Rattle.doc_model.specs.contracts.job.Job as job
 use Rattle.doc_model.specs.declared.job.Job.{Job}
@@ -52,6 +53,17 @@ pub record IsPainted (w : Paint) : Type 0 where
   pub key_is : IsWorldKey w.key
   pub values : All (HasValue w.job w.shot w.key) w.blocks
   pub covers : (p : Point) → any_holds (map (λ (b : Piece). b.rect) w.blocks) p ≡ (any_holds (writes w.job) p && in_tile w.key p)
+
+-- whether the blocks are one that has 64 columns and rows, and so all points of its tile
+abbrev pub is_whole : List Piece → Bool
+is_whole [] = false
+is_whole (b ∷ []) = nat_eq b.rect.w 64 && nat_eq b.rect.h 64
+is_whole (b ∷ c ∷ rest) = false
+
+-- the job writes each point of the tile, and there the pixels are what it makes of the shot
+pub record FillsTile (w : Paint) (pixels : Pixels) : Type 0 where
+  pub written : (p : Point) → in_tile w.key p ≡ true → any_holds (writes w.job) p ≡ true
+  pub value : (p : Point) → in_tile w.key p ≡ true → pixel_at pixels p ≡ at (apply w.job (layer_of w.shot)) p
 
 -- painting left this key with these blocks
 pub record Makes (w : Paint) (s : Stuff) : Type 0 where

@@ -1,7 +1,7 @@
 //! Blocks on their own, without the shot that they were painted on.
 
 ghost use Rattle.std.specs.Prelude.{◌≡◌, length, ◌<◌, Some, slice_get};
-ghost use Rattle.job_core.specs.Paints.{IsMade};
+ghost use Rattle.job_core.specs.Paints.{IsMade, is_whole};
 
 use geom_core::TileKey;
 use std::marker::Model;
@@ -57,5 +57,24 @@ impl Made {
             Some(second) if i == 1 => second,
             _ => &self.first,
         }
+    }
+
+    /// Whether it is one block that has all points of the tile.
+    pub(crate) fn is_whole(&self) -> bool
+        ensures { result ≡ is_whole self.now.blocks }
+    {
+        let rect = self.first.rect();
+        match self.second {
+            None => rect.w() == 64 && rect.h() == 64,
+            Some(_) => false,
+        }
+    }
+
+    /// The first block. The other one goes.
+    pub(crate) fn into_first(self) -> Block
+        ensures { Some result ≡ slice_get self.blocks 0 }
+    {
+        let Made { first, .. } = self;
+        first
     }
 }

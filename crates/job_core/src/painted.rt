@@ -1,12 +1,12 @@
 //! What a job leaves in one tile.
 
-ghost use Rattle.std.specs.Prelude.{◌≡◌, true, IfOk, IfSome, IfNone, slice_get, length, ◌<◌, Some, ◌∷◌, option_to_list};
+ghost use Rattle.std.specs.Prelude.{◌≡◌, true, IfOk, IfSome, IfNone, slice_get, length, ◌<◌, Some, ◌∷◌, option_to_list, vec_len};
 ghost use Rattle.std.specs.List.{list_any, list_all};
 ghost use Rattle.geom_core.specs.Grid.{same_key, all_keys_of};
 ghost use Rattle.geom_core.specs.Areas.{lies_in};
 ghost use Rattle.doc_model.specs.Jobs.{reads, writes, checks};
 ghost use Rattle.doc_model.specs.Lawful.{within_limits};
-ghost use Rattle.job_core.specs.Paints.{paint, made_of, IsPainted};
+ghost use Rattle.job_core.specs.Paints.{paint, made_of, is_whole, IsPainted, FillsTile};
 ghost use Rattle.job_core.specs.Due.{IsDue};
 
 use crate::blocks::{Blocks, alone};
@@ -19,6 +19,7 @@ use crate::task::{Task, task_of};
 use crate::tracks::tracked;
 use doc_model::Job;
 use geom_core::{NoMemory, Rect, TileKey};
+use pixel_core::Pixel;
 use std::alloc::Global;
 use std::marker::Model;
 use tile_core::{Block, Shot};
@@ -88,6 +89,23 @@ impl<'a> Painted<'a> {
         ensures known { IsPainted self.now }
     {
         &self.made
+    }
+
+    /// Whether it is one block that has all points of the tile.
+    pub fn is_whole(&self) -> bool
+        ensures { result ≡ is_whole self.now.blocks }
+    {
+        self.made.is_whole()
+    }
+
+    /// The pixels of one block that has all points of the tile. They are not copied.
+    pub fn into_whole(self) -> Vec<Pixel>
+        requires { is_whole self.blocks ≡ true }
+        ensures all { vec_len result ≡ 4096 }
+        ensures value { FillsTile self.entry result.items }
+    {
+        let Painted { made, .. } = self;
+        made.into_first().into_pixels()
     }
 }
 
