@@ -1,9 +1,8 @@
 -- The pixels of a tile with what a job makes of them.
-use Rattle.std.proofs.Common.{◌≡◌, ℕ, suc, zero, ◌+◌, ◌*◌, ◌%◌, ◌<◌, Bool, true, false, ◌&&◌, ◌||◌, cond, Option, Some, None, List, [], ◌∷◌, length, take, map, refl, sym, ap, subst, ◌∙◌, arith, inl, inr, replicate}
+use Rattle.std.proofs.Common.{◌≡◌, ℕ, suc, zero, ◌+◌, ◌*◌, ◌%◌, ◌<◌, Bool, true, false, ◌&&◌, ◌||◌, cond, Option, Some, None, List, [], ◌∷◌, length, take, map, refl, sym, ap, ◌∙◌, arith, replicate}
 use Rattle.std.specs.Prelude.{slice_get}
 use Rattle.std.specs.Option.{unwrap_or}
 use Rattle.std.specs.FinMap as fin
-use Rattle.std.proofs.lemmas.Option.{slice_get_cases}
 use Rattle.std.proofs.lemmas.List.{get_or-replicate}
 use Rattle.std.proofs.Math.Seq.{take-length}
 use Rattle.pixel_core.specs.Rgba.{Rgba, clear}
@@ -20,7 +19,8 @@ use Rattle.doc_model.specs.declared.job.Job.{Job}
 use Rattle.doc_model.specs.Layers.{Layer, at, painted, plain}
 use Rattle.doc_model.specs.Jobs.{reads, writes, apply}
 use Rattle.doc_model.specs.Shots.{in_tile}
-use Rattle.job_core.specs.Paints.{Paint, layer_of, HasValue, IsPainted}
+use Rattle.job_core.specs.Paints.{Paint, layer_of, HasValue, IsPainted, FillsTile}
+use Rattle.job_core.proofs.WholeTiles.{some_same, some_none, value_of}
 use Rattle.job_core.proofs.Values.{tile_held}
 use Rattle.job_core.specs.Due.{IsDue}
 use Rattle.job_core.specs.Points.{spot, LaysPoints, is_point_op}
@@ -46,12 +46,6 @@ made w p = at (apply w.job (layer_of w.shot)) p
 abbrev pub LaidSoFar : Paint → Pixels → Pixels → List Piece → Type 0
 LaidSoFar w old new bs = (p : Point) → in_tile w.key p ≡ true → pixel_at new p ≡ cond (any_holds (map (λ (b : Piece). b.rect) bs) p) (made w p) (pixel_at old p)
 
-some_same : {A : Type 0} (x y : A) → Some x ≡ Some y → x ≡ y
-some_same x y e = cc
-
-some_none : {A : Type 0} (x : A) → Some x ≡ None → ⊥
-some_none x e = cc
-
 or_end : (a : Bool) → a ≡ (a || false)
 or_end true = refl
 or_end false = refl
@@ -64,12 +58,6 @@ more_held : (bs : List Piece) (i : ℕ) (b : Piece) (p : Point) → Some b ≡ s
 more_held [] i b p e = absurd (some_none b e)
 more_held (x ∷ bs) zero b p e = ap (λ (c : Piece). holds c.rect p || false) (some_same x b (sym e)) ∙ sym (or_end (holds b.rect p))
 more_held (x ∷ bs) (suc i) b p e = ap (λ h. holds x.rect p || h) (more_held bs i b p e) ∙ or_again (holds x.rect p) _ (holds b.rect p)
-
-value_of : (w : Paint) (i : ℕ) (b : Piece) → IsPainted w → Some b ≡ slice_get w.blocks i → HasValue w.job w.shot w.key b
-value_of w i b known e = elim (slice_get_cases w.blocks i).1 [
-  | inl f ↦ subst (HasValue w.job w.shot w.key) (f.3 ∙ some_same f.0 b (sym f.2 ∙ sym e)) (known.values i f.0 f.1)
-  | inr f ↦ absurd (some_none b (e ∙ f.1))
-]
 
 -- one block more
 pub one_laid : (w : Paint) (old t new : Pixels) (i : ℕ) (b : Piece) → IsPainted w → Some b ≡ slice_get w.blocks i → LaysBlock t new b → LaidSoFar w old t (take i w.blocks) → LaidSoFar w old new (take (i + 1) w.blocks)
@@ -99,6 +87,10 @@ all_laid w old t n known e so p h = so p h ∙ ap (λ bs. cond (any_holds (map (
     and_true : (a : Bool) → (a && true) ≡ a
     and_true true = refl
     and_true false = refl
+
+-- or one that has all points of the tile
+pub whole_laid : (w : Paint) (old new : Pixels) → FillsTile w new → LaysPaint w old new
+whole_laid w old new fills p h = fills.value p h ∙ sym (taken (any_holds (writes w.job) p) (made w p) (pixel_at old p) (fills.written p h))
 
 -- ---- the shot's tile
 

@@ -103,14 +103,26 @@ fn painted_copy(alloc: Global, shot: &Shot, work: &PointWork<'_>) -> Result<Tile
     Tile::from_pixels(alloc, pixels)
 }
 
-/// The same of any job: the blocks that it leaves are laid on a copy of the tile.
+/// The same of any job: a block with all points of the tile becomes the tile, and other blocks are
+/// laid on a copy of it.
 fn assembled(alloc: Global, job: &Job, shot: &Shot, key: TileKey) -> Result<Tile, NoMemory>
     requires { IsDue job.now shot.now key }
     ensures { IfOk result (IsNew job.now shot.now key) }
 {
     let painted = paint_tile(alloc, job, shot, key)?;
-    let mut pixels = pixels_under(alloc, shot, key)?;
-    lay_blocks(&painted, &mut pixels);
+    if painted.is_whole() {
+        Tile::from_pixels(alloc, painted.into_whole())
+    } else {
+        patched(alloc, &painted)
+    }
+}
+
+/// A copy of the shot's tile with what was painted laid on it.
+fn patched(alloc: Global, painted: &Painted<'_>) -> Result<Tile, NoMemory>
+    ensures { IfOk result (LaysPaint painted.now (tile_of painted.now.shot painted.now.key)) }
+{
+    let mut pixels = pixels_under(alloc, painted.shot(), painted.key())?;
+    lay_blocks(painted, &mut pixels);
     Tile::from_pixels(alloc, pixels)
 }
 
