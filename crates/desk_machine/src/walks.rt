@@ -81,7 +81,7 @@ impl Machine {
             unreachable!()
         };
         let kept = self.inputs_of(&patch)?;
-        let inputs = self.inputs_of(&patch)?;
+        let inputs = kept.share()?;
         let _patch = self.updates.take(running.as_slice());
         let serial = self.next;
         let walker = Walker {

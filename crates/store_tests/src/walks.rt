@@ -12,7 +12,7 @@ use std::test::Fail;
 use tile_core::Tile;
 use tree_core::Tree;
 use walker_core::{
-    Composed, Inputs, Path, all_groups, compose_key, compose_keys, compose_walk, plan,
+    Composed, Gathered, Inputs, Path, all_groups, compose_key, compose_keys, compose_walk, plan,
 };
 
 const NEXT: TileKey = TileKey { row: 0, col: 1 };
@@ -51,7 +51,7 @@ fn over(opacity: u8) -> Look {
 /// What a walk of the root reads where these are its children from the bottom, each of one pixel.
 fn root_of(alloc: Global, rect: Rect, children: &[(Look, Pixel)]) -> Result<Inputs, NoMemory> {
     let path = path_of(alloc, &Tree::new(), Walk::Up(0))?;
-    let mut inputs = Inputs::new(
+    let mut gathered = Gathered::new(
         alloc,
         Patch {
             walk: Walk::Up(0),
@@ -60,9 +60,9 @@ fn root_of(alloc: Global, rect: Rect, children: &[(Look, Pixel)]) -> Result<Inpu
         path,
     );
     for &(look, pixel) in children {
-        inputs.add_child(alloc, 0, 7, look, &Device::new(alloc, pixel))?;
+        gathered.add_child(alloc, 0, 7, look, &Device::new(alloc, pixel))?;
     }
-    Ok(inputs)
+    Inputs::new(alloc, gathered)
 }
 
 /// The pixel of a group at the corner of a tile, or None where it isn't there.
@@ -182,7 +182,7 @@ fn a_group_in_a_group(rt: HostRuntime) -> Result<(), Fail> {
     let alloc = rt.alloc();
     let rect = Rect::new(0, 0, 64, 64).expect(&rt, "a rectangle of the world");
     let path = path_of(alloc, &two_groups(), Walk::Up(1))?;
-    let mut inputs = Inputs::new(
+    let mut gathered = Gathered::new(
         alloc,
         Patch {
             walk: Walk::Up(1),
@@ -197,8 +197,9 @@ fn a_group_in_a_group(rt: HostRuntime) -> Result<(), Fail> {
         layer.set_tile(ORIGIN, tile);
     }
     let old = Device::new(alloc, green());
-    inputs.add_child(alloc, 1, 7, over(255), &layer)?;
-    inputs.add_child(alloc, 0, 1, over(51), &old)?;
+    gathered.add_child(alloc, 1, 7, over(255), &layer)?;
+    gathered.add_child(alloc, 0, 1, over(51), &old)?;
+    let inputs = Inputs::new(alloc, gathered)?;
     let composed = compose_key(alloc, &inputs, ORIGIN)?;
     assert_eq!(rt; pixel_of(&composed, 1, ORIGIN), Some(blue()));
     assert_eq!(rt;
@@ -213,6 +214,7 @@ fn what_two_walks_read(rt: HostRuntime) -> Result<(), Fail> {
     let alloc = rt.alloc();
     let rect = Rect::new(0, 0, 64, 64).expect(&rt, "a rectangle of the world");
     let first = root_of(alloc, rect, &[(over(255), red())])?;
+    assert_eq!(rt; first.same_in(&first.share()?, ORIGIN), true);
     for (children, same) in [
         ([(over(255), red())].as_slice(), true),
         ([(over(255), blue())].as_slice(), false),

@@ -22,7 +22,7 @@ use pixel_core::Pixel;
 use smallvec::SmallVec;
 use std::alloc::Global;
 use tree_core::Tree;
-use walker_core::{Inputs, Path, plan};
+use walker_core::{Gathered, Inputs, Path, plan};
 
 /// The layers of a document.
 pub trait Layers {
@@ -58,12 +58,12 @@ pub fn gather<S: Layers>(
     let _count = tree.node_count();
     let path = plan(alloc, tree, patch.walk)?;
     let groups: Path = SmallVec::from_slice(alloc, path.as_slice())?;
-    let mut inputs = Inputs::new(alloc, patch, path);
+    let mut gathered = Gathered::new(alloc, patch, path);
     let list = groups.as_slice();
     for group in list {
-        add_children(alloc, tree, layers, caches, *group, &mut inputs)?;
+        add_children(alloc, tree, layers, caches, *group, &mut gathered)?;
     }
-    Ok(inputs)
+    Inputs::new(alloc, gathered)
 }
 
 /// The children of a group, from the bottom.
@@ -73,14 +73,14 @@ fn add_children<S: Layers>(
     layers: &S,
     caches: &Caches,
     group: u16,
-    inputs: &mut Inputs,
+    gathered: &mut Gathered,
 ) -> Result<(), NoMemory>
     requires tree { tree.now ≡ shape (S.doc layers.now) }
     requires limits { IsDocument tree.now }
-    ensures { OnOk result (inputs.new ≡ with_children inputs.old group (with_pixels caches.now (nodes_in group (S.doc layers.now)))) }
+    ensures { OnOk result (gathered.new ≡ with_children gathered.old group (with_pixels caches.now (nodes_in group (S.doc layers.now)))) }
 {
     for place in 0..tree.child_count(group) {
-        add_child(alloc, tree, layers, caches, group, place, inputs)?;
+        add_child(alloc, tree, layers, caches, group, place, gathered)?;
     }
     Ok(())
 }
@@ -93,11 +93,11 @@ fn add_child<S: Layers>(
     caches: &Caches,
     group: u16,
     place: u16,
-    inputs: &mut Inputs,
+    gathered: &mut Gathered,
 ) -> Result<(), NoMemory>
     requires tree { tree.now ≡ shape (S.doc layers.now) }
     requires limits { IsDocument tree.now }
-    ensures { OnOk result (with_children inputs.new group (with_pixels caches.now (upper (suc place) (nodes_in group (S.doc layers.now)))) ≡ with_children inputs.old group (with_pixels caches.now (upper place (nodes_in group (S.doc layers.now))))) }
+    ensures { OnOk result (with_children gathered.new group (with_pixels caches.now (upper (suc place) (nodes_in group (S.doc layers.now)))) ≡ with_children gathered.old group (with_pixels caches.now (upper place (nodes_in group (S.doc layers.now))))) }
 {
     let Some(id) = tree.child(group, place) else {
         return Ok(());
@@ -106,10 +106,10 @@ fn add_child<S: Layers>(
         return Ok(());
     };
     match pixels_of(tree, layers, caches, id) {
-        Some(device) => inputs.add_child(alloc, group, id, look, device),
+        Some(device) => gathered.add_child(alloc, group, id, look, device),
         None => {
             let clear = Device::new(alloc, Pixel::CLEAR);
-            inputs.add_child(alloc, group, id, look, &clear)
+            gathered.add_child(alloc, group, id, look, &clear)
         }
     }
 }

@@ -23,9 +23,6 @@ add_one n = omega arith
 pub inputs_of-requires : goal.inputs_of-requires
 inputs_of-requires c = subst (λ (s : State). IsGroupOf s.present c.in-Some.patch.walk) c.self.view_is (group_found (parts c.self.inside.canvas c.self.inside.fed.items c.self.inside.queue c.self.inside.store c.self.inside.filmed.caches c.self.inside.updates c.self.inside.slots c.self.inside.filmed.frames c.self.inside.way c.self.inside.next) c.in-Some.patch c.self.invariant (ap (λ rects. find (avoids rects) c.self.inside.updates.patches) (sym (c.as_slice.ensures.value ∙ c.running-running.ensures)) ∙ sym c.peek.ensures ∙ c.in-Some.is))
 
-pub inputs_of-requires-2 : goal.inputs_of-requires-2
-inputs_of-requires-2 c = subst (λ (s : State). IsGroupOf s.present c.in-Some.patch.walk) c.self.view_is (group_found (parts c.self.inside.canvas c.self.inside.fed.items c.self.inside.queue c.self.inside.store c.self.inside.filmed.caches c.self.inside.updates c.self.inside.slots c.self.inside.filmed.frames c.self.inside.way c.self.inside.next) c.in-Some.patch c.self.invariant (ap (λ rects. find (avoids rects) c.self.inside.updates.patches) (sym (c.as_slice.ensures.value ∙ c.running-running.ensures)) ∙ sym c.peek.ensures ∙ c.in-Some.is))
-
 pub put-requires : goal.put-requires
 put-requires c = free_as c.self.inside.slots c.args.place (subst (λ s. CanWalk s c.args.place) (sym c.self.view_is) c.requires).enabled.1.free
 
@@ -44,7 +41,7 @@ invariant_of-self c = subst IsDesk (λ i. (record (parts c.self.inside.canvas c.
 
 pub returns-clause-ok : goal.returns-clause-ok
 returns-clause-ok c = subst (λ s. WalkStartStep s c.args.place c.in_ok-inputs.inputs.patch (state_of (record (parts c.self.inside.canvas c.self.inside.fed.items c.self.inside.queue c.self.inside.store c.self.inside.filmed.caches c.self.inside.updates c.self.inside.slots c.self.inside.filmed.frames c.self.inside.way c.self.inside.next) { updates = c.take-patch.new.self; slots = c.put.new.self; next = c.self.inside.next + 1 }))) c.self.view_is
-    (subst (λ p. WalkStartStep (state_of (parts c.self.inside.canvas c.self.inside.fed.items c.self.inside.queue c.self.inside.store c.self.inside.filmed.caches c.self.inside.updates c.self.inside.slots c.self.inside.filmed.frames c.self.inside.way c.self.inside.next)) c.args.place p (state_of (record (parts c.self.inside.canvas c.self.inside.fed.items c.self.inside.queue c.self.inside.store c.self.inside.filmed.caches c.self.inside.updates c.self.inside.slots c.self.inside.filmed.frames c.self.inside.way c.self.inside.next) { updates = c.take-patch.new.self; slots = c.put.new.self; next = c.self.inside.next + 1 }))) (ap (λ (r : Readings). r.patch) (c.in_ok-kept.ensures ∙ sym c.in_ok-inputs.ensures))
+    (subst (λ p. WalkStartStep (state_of (parts c.self.inside.canvas c.self.inside.fed.items c.self.inside.queue c.self.inside.store c.self.inside.filmed.caches c.self.inside.updates c.self.inside.slots c.self.inside.filmed.frames c.self.inside.way c.self.inside.next)) c.args.place p (state_of (record (parts c.self.inside.canvas c.self.inside.fed.items c.self.inside.queue c.self.inside.store c.self.inside.filmed.caches c.self.inside.updates c.self.inside.slots c.self.inside.filmed.frames c.self.inside.way c.self.inside.next) { updates = c.take-patch.new.self; slots = c.put.new.self; next = c.self.inside.next + 1 }))) (sym (ap (λ (r : Readings). r.patch) c.in_ok-inputs.ensures))
     (subst (λ t. WalkStartStep (state_of (parts c.self.inside.canvas c.self.inside.fed.items c.self.inside.queue c.self.inside.store c.self.inside.filmed.caches c.self.inside.updates c.self.inside.slots c.self.inside.filmed.frames c.self.inside.way c.self.inside.next)) c.args.place c.in_ok-kept.kept.patch t) (λ i. state_of (record (parts c.self.inside.canvas c.self.inside.fed.items c.self.inside.queue c.self.inside.store c.self.inside.filmed.caches c.self.inside.updates c.self.inside.slots c.self.inside.filmed.frames c.self.inside.way c.self.inside.next) { updates = c.take-patch.new.self; slots = c.put.new.self; next = add_one c.self.inside.next i }))
     (walk_start_does (parts c.self.inside.canvas c.self.inside.fed.items c.self.inside.queue c.self.inside.store c.self.inside.filmed.caches c.self.inside.updates c.self.inside.slots c.self.inside.filmed.frames c.self.inside.way c.self.inside.next) c.args.place (record { serial = c.self.inside.next; inputs = c.in_ok-kept.kept; published = c.new.result }) c.take-patch.new.self c.put.new.self c.self.invariant (subst (λ s. CanWalk s c.args.place) (sym c.self.view_is) c.requires)
     ((ap (λ rects. find (avoids rects) c.self.inside.updates.patches) (sym (c.as_slice.ensures.value ∙ c.running-running.ensures)) ∙ sym c.peek.ensures ∙ c.in-Some.is) ∙ ap Some (sym (ap (λ (r : Readings). r.patch) c.in_ok-kept.ensures))) refl
@@ -55,4 +52,4 @@ returns-clause-ok c = subst (λ s. WalkStartStep s c.args.place c.in_ok-inputs.i
 pub returns-clause-ticket : goal.returns-clause-ticket
 returns-clause-ticket c = walk_ticket c.args.self.now (state_of (record (parts c.self.inside.canvas c.self.inside.fed.items c.self.inside.queue c.self.inside.store c.self.inside.filmed.caches c.self.inside.updates c.self.inside.slots c.self.inside.filmed.frames c.self.inside.way c.self.inside.next) { updates = c.take-patch.new.self; slots = c.put.new.self; next = c.self.inside.next + 1 }))
     (record { slot = record { place = c.args.place; serial = c.self.inside.next }; inputs = c.in_ok-inputs.inputs }) (returns-clause-ok c) (ap (λ (s : State). s.next) c.self.view_is)
-    (ap (λ (r : Readings). r.groups) c.in_ok-inputs.ensures ∙ ap (walk_shot c.args.self.now) (sym (ap (λ (r : Readings). r.patch) c.in_ok-inputs.ensures)))
+    (ap (λ (r : Readings). r.groups) (c.in_ok-inputs.ensures ∙ c.in_ok-kept.ensures) ∙ ap (walk_shot c.args.self.now) (sym (ap (λ (r : Readings). r.patch) (c.in_ok-inputs.ensures ∙ c.in_ok-kept.ensures))))
