@@ -13,7 +13,6 @@ use geom_core::NoMemory;
 use stamp_core::{Naming, Stamp};
 use std::alloc::Global;
 use std::marker::Model;
-use tile_core::Tile;
 use whole_tiles::{Painting, Whole};
 
 /// A job that any number of threads may paint, tile by tile, beside its stamp. Contracts see its ticket.
@@ -145,17 +144,10 @@ fn paint_all(
 {
     let to = to.min(painting.tile_count());
     let mut made = Vec::with_capacity(alloc, to.saturating_sub(from))?;
+    let mut plain = None;
     for i in from..to {
-        let whole = painting.paint_like(alloc, i, newest(&made))?;
+        let whole = painting.paint_like(alloc, i, &mut plain)?;
         made.push(whole)?;
     }
     Ok(made)
-}
-
-/// The tile that was painted last.
-fn newest(made: &[Whole]) -> Option<&Tile> {
-    match made.last() {
-        Some(whole) => Some(whole.tile()),
-        None => None,
-    }
 }

@@ -17,7 +17,7 @@ use doc_model::Job;
 use geom_core::{NoMemory, Rect, TileKey};
 use std::alloc::Global;
 use std::marker::Model;
-use tile_core::{Shot, Tile};
+use tile_core::{PlainTile, Shot};
 
 /// A job with the pixels that it reads, and the tiles that it writes, each once. It keeps all that
 /// painting a tile asks for, so any thread may paint any of the tiles.
@@ -82,16 +82,16 @@ impl Painting {
         ensures key { IfOk result (λ x. slice_get (tiles_of_job self.now.job) i ≡ Some x.key) }
         ensures own { IfOk result (λ x. (p : Point) → in_tile x.key p ≡ true → sight_at x.base p ≡ sight_at self.now.shot p) }
     {
-        self.paint_like(alloc, i, None)
+        self.paint_like(alloc, i, &mut None)
     }
 
-    /// The same. Where a fill leaves one pixel all over the tile, and the tile `like` has that pixel
-    /// everywhere, that tile is shared, and none is made.
+    /// The same. Where a fill leaves one pixel all over the tile, and `like` has that pixel, its tile is
+    /// shared, and none is made. Where `like` has another, or none, the tile that is made stays in it.
     pub fn paint_like(
         &self,
         alloc: Global,
         i: usize,
-        like: Option<&Tile>,
+        like: &mut Option<PlainTile>,
     ) -> Result<Whole, NoMemory>
         requires { i < length (tiles_of_job self.now.job) }
         ensures of { IfOk result (λ x. IsOf (paint self.now.job self.now.shot x.key []) x) }

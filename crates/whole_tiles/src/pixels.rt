@@ -14,16 +14,16 @@ use job_core::{Painted, PointWork, paint_tile, point_rect};
 use pixel_core::Pixel;
 use pixel_rows::tell_canonical;
 use std::alloc::Global;
-use tile_core::{Lays, Shot, Tile};
+use tile_core::{Lays, PlainTile, Shot, Tile};
 
-/// The shot's tile under the key with what the job makes of the shot. Where that is the tile `like`,
-/// which has one pixel everywhere, it may be shared.
+/// The shot's tile under the key with what the job makes of the shot. Where that has one pixel
+/// everywhere, it may be shared with `like`.
 pub fn new_tile(
     alloc: Global,
     job: &Job,
     shot: &Shot,
     key: TileKey,
-    like: Option<&Tile>,
+    like: &mut Option<PlainTile>,
 ) -> Result<Tile, NoMemory>
     requires { IsDue job.now shot.now key }
     ensures { IfOk result (IsNew job.now shot.now key) }
@@ -41,7 +41,7 @@ fn pointed(
     job: &Job,
     shot: &Shot,
     key: TileKey,
-    like: Option<&Tile>,
+    like: &mut Option<PlainTile>,
 ) -> Result<Tile, NoMemory>
     requires due { IsDue job.now shot.now key }
     requires point_op { is_point_op job.now ≡ true }
@@ -74,13 +74,19 @@ fn tile_under(alloc: Global, shot: &Shot, key: TileKey) -> Result<Tile, NoMemory
     }
 }
 
-/// A tile of one pixel: the one that is given, shared, where that is such a one, or else a new one.
-fn plain_tile(alloc: Global, like: Option<&Tile>, pixel: Pixel) -> Result<Tile, NoMemory>
+/// A tile of one pixel: that of `like`, shared, where it has the pixel, or else a new one, which stays
+/// in `like` for the next.
+fn plain_tile(alloc: Global, like: &mut Option<PlainTile>, pixel: Pixel) -> Result<Tile, NoMemory>
     ensures { IfOk result (λ t. t ≡ replicate 4096 pixel) }
 {
     match like {
-        Some(tile) if tile.is_plain(pixel) => tile.share(),
-        _ => Tile::plain(alloc, pixel),
+        Some(plain) if plain.pixel() == pixel => plain.share(),
+        _ => {
+            let plain = PlainTile::new(alloc, pixel)?;
+            let tile = plain.share()?;
+            *like = Some(plain);
+            Ok(tile)
+        }
     }
 }
 

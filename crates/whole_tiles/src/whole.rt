@@ -18,7 +18,7 @@ use doc_model::Job;
 use geom_core::{NoMemory, Rect, TileKey};
 use std::alloc::Global;
 use std::marker::Model;
-use tile_core::{Shot, Tile};
+use tile_core::{PlainTile, Shot, Tile};
 
 /// A tile with what a job leaves there, made whole from the job's shot. It keeps the job and the few
 /// tiles that it was made from, shared, so that it can be told whether it is of another job or of
@@ -94,17 +94,17 @@ pub fn whole_tile(alloc: Global, job: &Job, shot: &Shot, key: TileKey) -> Result
     ensures key { IfOk result (λ x. x.key ≡ key) }
     ensures own { IfOk result (λ x. (p : Point) → in_tile x.key p ≡ true → sight_at x.base p ≡ sight_at shot.now p) }
 {
-    whole_tile_like(alloc, job, shot, key, None)
+    whole_tile_like(alloc, job, shot, key, &mut None)
 }
 
-/// The same. Where a fill leaves one pixel all over the tile, and the tile `like` has that pixel
-/// everywhere, that tile is shared, and none is made.
+/// The same. Where a fill leaves one pixel all over the tile, and `like` has that pixel, its tile is
+/// shared, and none is made. Where `like` has another, or none, the tile that is made stays in it.
 pub fn whole_tile_like(
     alloc: Global,
     job: &Job,
     shot: &Shot,
     key: TileKey,
-    like: Option<&Tile>,
+    like: &mut Option<PlainTile>,
 ) -> Result<Whole, NoMemory>
     requires checked { checks job.now ≡ true }
     requires limits { within_limits job.now ≡ true }
