@@ -5,8 +5,9 @@ use blur_core::blur_block;
 use geom_core::{NoMemory, Rect, TileKey};
 use pixel_core::Pixel;
 use std::alloc::Global;
+use std::process::Abort;
 use std::test::Fail;
-use tile_core::{Shot, Tile};
+use tile_core::{Block, Shot, Tile};
 
 /// The tile to the left of that whose corner is (0, 0).
 const LEFT: TileKey = TileKey { row: 0, col: -1 };
@@ -20,6 +21,14 @@ fn red_dot(alloc: Global, part: Rect) -> Result<Shot, NoMemory> {
     Ok(shot)
 }
 
+/// The block has these pixels at these points.
+fn has(rt: &impl Abort, block: &Block, pixels: &[(i32, i32, Pixel)]) {
+    for (x, y, want) in pixels {
+        assert!(rt; block.rect().holds(*x, *y));
+        assert_eq!(rt; block.at(*x, *y), *want);
+    }
+}
+
 /// 255 / 9 is 28.3, 255 / 25 is 10.2, and 255 / 1089 is 0.2.
 #[test]
 fn a_red_dot(rt: HostRuntime) -> Result<(), Fail> {
@@ -27,20 +36,21 @@ fn a_red_dot(rt: HostRuntime) -> Result<(), Fail> {
     let (ninth, clear) = (Pixel::new(255, 0, 0, 28), Pixel::CLEAR);
     let part = rect(&rt, 0, 0, 5, 3);
     let shot = red_dot(alloc, part)?;
-    for (r, x, y, want) in [
-        (1, 0, 0, ninth),
-        (1, 2, 1, ninth),
-        (1, 3, 0, clear),
-        (1, 1, 2, clear),
-        (2, 3, 2, Pixel::new(255, 0, 0, 10)),
-        (2, 4, 0, clear),
-        (16, 1, 0, clear),
-    ] {
-        assert!(rt; 1 <= r && r <= 16 && part.holds(x, y));
-        let block = blur_block(alloc, &shot, ORIGIN, &part, r)?;
-        crosses(&block);
-        assert_eq!(rt; block.at(x, y), want);
-    }
+    let near = blur_block(alloc, &shot, ORIGIN, &part, 1)?;
+    crosses(&near);
+    has(
+        &rt,
+        &near,
+        &[(0, 0, ninth), (2, 1, ninth), (3, 0, clear), (1, 2, clear)],
+    );
+    let wider = blur_block(alloc, &shot, ORIGIN, &part, 2)?;
+    has(
+        &rt,
+        &wider,
+        &[(3, 2, Pixel::new(255, 0, 0, 10)), (4, 0, clear)],
+    );
+    let widest = blur_block(alloc, &shot, ORIGIN, &part, 16)?;
+    has(&rt, &widest, &[(1, 0, clear)]);
     Ok(())
 }
 
