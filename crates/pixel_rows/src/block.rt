@@ -62,21 +62,26 @@ struct Alphas {
     most: u8,
 }
 
-/// The least and the greatest alpha of a block. It stays a call, since the compiler then compares
-/// all at a time.
-#[inline(never)]
+/// Bounds of a block's alphas: of the bits that all its pixels have, and of those that any has, the
+/// highest eight. So the lower one is 255 exactly where all pixels are opaque, and the upper one 0 where
+/// all are clear.
+#[inline]
+#[tactic(auto, using(std::proofs::lemmas::Nat::and_le_l, std::proofs::lemmas::Nat::and_le_r, std::proofs::lemmas::Nat::le_or_l, std::proofs::lemmas::Nat::le_or_r))]
 fn alphas_of(pixels: &[Pixel]) -> Alphas
     requires { length pixels.now ≡ BLOCK }
     ensures { (k : ℕ) → k < BLOCK → CoversWithin result.least result.most (slice_index_or pixels.now k clear) }
 {
-    let mut least = 255;
-    let mut most = 0;
+    let mut all = u32::MAX;
+    let mut any = 0;
     for i in 0..BLOCK {
-        let [_, _, _, a] = pixels[i].bytes();
-        least = least.min(a);
-        most = most.max(a);
+        let word = u32::from_le_bytes(pixels[i].bytes());
+        all &= word;
+        any |= word;
     }
-    Alphas { least, most }
+    Alphas {
+        least: (all >> 24) as u8,
+        most: (any >> 24) as u8,
+    }
 }
 
 /// The same for `Op::Over`, by what is known of the alphas.

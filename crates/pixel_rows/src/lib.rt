@@ -5,6 +5,7 @@ mod blends;
 mod block;
 mod each;
 mod mixing;
+mod paper;
 mod plain;
 mod quotient;
 mod rest;
@@ -13,5 +14,6 @@ mod shares;
 
 pub use block::tell_canonical;
 pub use each::compose_row;
+pub use paper::lay_on_paper;
 pub use plain::all_are;
 pub use rows::{lay_colour, lay_masked, lay_sources, left_everywhere};

@@ -10,7 +10,6 @@ use Rattle.pixel_core.specs.declared.blending.Op.TheVariants.{Over}
 use Rattle.pixel_core.specs.Rgba.{Rgba, clear}
 use Rattle.pixel_core.specs.Words.{bytes_of}
 use Rattle.pixel_core.specs.Compose.{compose, on_paper}
-use Rattle.pixel_rows.specs.Rows.{LaysRow}
 use Rattle.tile_core.specs.Frames.{colours}
 use Rattle.tile_core.proofs.OnPaper.{paper_shows}
 
@@ -38,12 +37,11 @@ take_colours (p ∷ ps) (suc n) =
     ap (λ m. take m (colours p ++ flat_map colours ps)) e ∙ take-append-add (colours p) (flat_map colours ps) (3 * n) ∙ ap (λ v. colours p ++ v) (take_colours ps n)
 
 -- pixels laid on the paper have the colours that they show there
-pub laid_colours : (paper : Rgba) (ps old new : List Rgba) → length new ≡ length ps → length old ≡ length ps → ((k : ℕ) → k < length ps → get_or old k clear ≡ paper) → LaysRow Over (λ k. get_or ps k clear) (λ _. 255) old new
-    → flat_map colours new ≡ flat_map (λ p. on_paper p paper) ps
-laid_colours paper ps old new n m all laid =
+pub laid_colours : (paper : Rgba) (ps laid : List Rgba) → length laid ≡ length ps → ((k : ℕ) → k < length ps → get_or laid k clear ≡ compose Over (get_or ps k clear) paper 255) → flat_map colours laid ≡ flat_map (λ p. on_paper p paper) ps
+laid_colours paper ps laid n each =
     let f : Rgba → Rgba = (λ p. compose Over p paper 255) in
-    let same : new ≡ map f ps =
-    ext_get_or clear new (map f ps) (n ∙ sym (length-map ps f)) (λ k t. laid k (omega (arith, n, m, t)) ∙ ap (λ d. compose Over (get_or ps k clear) d 255) (all k (omega (arith, n, t))) ∙ sym (get_or-map f ps k clear clear (omega (arith, n, t)))) in
+    let same : laid ≡ map f ps =
+    ext_get_or clear laid (map f ps) (n ∙ sym (length-map ps f)) (λ k t. each k (omega (arith, n, t)) ∙ sym (get_or-map f ps k clear clear (omega (arith, n, t)))) in
     ap (flat_map colours) same ∙ flat_map-map colours f ps
 
 -- bare paper has the colours that clear pixels show there

@@ -6,18 +6,19 @@ ghost use Rattle.pixel_core.specs.Compose.{on_paper};
 ghost use Rattle.pixel_core.specs.Rgba.{clear};
 ghost use Rattle.tile_core.specs.Frames.{colours};
 
-use pixel_core::{Op, Pixel};
-use pixel_rows::lay_sources;
+use pixel_core::Pixel;
+use pixel_rows::lay_on_paper;
 
 /// Writes the colours of the pixels on the paper to the places from `at` on.
 pub fn lay_colours(row: &mut [u8], at: usize, pixels: &[Pixel], paper: Pixel)
+    requires opaque { paper.a ≡ 255 }
     requires few { length pixels.now ≤ 64 }
     requires room { at + 3 * length pixels.now ≤ length row.old }
     ensures { row.new ≡ take at row.old ++ flat_map (λ p. on_paper p paper) pixels.now ++ drop (at + 3 * length pixels.now) row.old }
 {
     let mut laid = [paper; 64];
     let count = pixels.len();
-    lay_sources(Op::Over, pixels, 255, &mut laid[..count]);
+    lay_on_paper(pixels, paper, &mut laid[..count]);
     put_colours(row, at, &laid, count);
 }
 

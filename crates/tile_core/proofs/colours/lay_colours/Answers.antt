@@ -10,10 +10,9 @@ use Rattle.tile_core.proofs.colours.lay_colours.Goals as goal
 pub returns : goal.returns
 returns c =
     let old : length (take (length c.args.pixels.now) (replicate 64 c.args.paper)) ≡ length c.args.pixels.now = length-take-le (length c.args.pixels.now) (replicate 64 c.args.paper) c.requires.few in
-    let new : length c.lay_sources.new.backdrop ≡ length c.args.pixels.now = omega (arith, old, c.lay_sources.auto.backdrop) in
-    let front : flat_map colours (take (length c.args.pixels.now) (c.lay_sources.new.backdrop ++ drop (length c.args.pixels.now) (replicate 64 c.args.paper))) ≡ flat_map colours c.lay_sources.new.backdrop =
-    ap (flat_map colours) (take-put_mid 0 (length c.args.pixels.now) (replicate 64 c.args.paper) c.lay_sources.new.backdrop (length c.args.pixels.now) (omega (arith, new)) (omega arith)) in
+    let new : length c.lay_on_paper.new.laid ≡ length c.args.pixels.now = omega (arith, old, c.lay_on_paper.auto.laid) in
+    let front : flat_map colours (take (length c.args.pixels.now) (c.lay_on_paper.new.laid ++ drop (length c.args.pixels.now) (replicate 64 c.args.paper))) ≡ flat_map colours c.lay_on_paper.new.laid =
+    ap (flat_map colours) (take-put_mid 0 (length c.args.pixels.now) (replicate 64 c.args.paper) c.lay_on_paper.new.laid (length c.args.pixels.now) (omega (arith, new)) (omega arith)) in
     c.put_colours.ensures
     ∙ ap (λ v. take c.args.at c.args.row.now ++ v ++ drop (c.args.at + 3 * length c.args.pixels.now) c.args.row.now)
-    (front ∙ laid_colours c.args.paper c.args.pixels.now (take (length c.args.pixels.now) (replicate 64 c.args.paper)) c.lay_sources.new.backdrop new old
-    (λ k t. get_or-take (length c.args.pixels.now) (replicate 64 c.args.paper) k clear t ∙ get_or-replicate 64 k c.args.paper clear (omega (arith, t, c.requires.few))) c.lay_sources.ensures)
+    (front ∙ laid_colours c.args.paper c.args.pixels.now c.lay_on_paper.new.laid new (λ k t. c.lay_on_paper.ensures k (omega (arith, old, t))))
