@@ -3,6 +3,7 @@ pub mod LaidRows
 pub mod LaidBlocks
 pub mod Places
 pub mod MapViews
+pub mod PlacedTiles
 pub mod Taken
 pub mod LaidKeys
 pub mod OnPaper

@@ -1,5 +1,5 @@
 -- A frame as contracts see it: its sides, its paper, and tiles under some keys.
-use Rattle.std.specs.Prelude.{◌≡◌, ℕ, ◌+◌, ◌*◌, ◌≤◌, pos, List, [], ◌∷◌, take, drop, ◌++◌, refl}
+use Rattle.std.specs.Prelude.{◌≡◌, ℕ, ◌+◌, ◌*◌, ◌≤◌, pos, ◌*ℤ◌, ◌≤ℤ◌, ◌<ℤ◌, List, [], ◌∷◌, take, drop, ◌++◌, refl}
 use Rattle.std.specs.List.{flat_map}
 use Rattle.std.specs.FinMap as map
 use Rattle.std.specs.FinMap.{FinMap}
@@ -67,6 +67,13 @@ pub record SameCanvas (s before : Scene) : Type 0 where
 -- in rows of colours, the new one has those of the n points from x on, and the old one's elsewhere
 abbrev pub LaysPoints : Scene → ℕ → List ℕ → List ℕ → ℕ → ℕ → Type 0
 LaysPoints s y old new x n = new ≡ take (3 * x) old ++ flat_map (colours_at s) (row (pos x) (pos y) n) ++ drop (3 * (x + n)) old
+
+-- the key is that of a tile of the frame's canvas
+pub record IsTileOf (s : Scene) (k : Key) : Type 0 where
+  pub left : pos 0 ≤ℤ k.col
+  pub right : (pos 64 *ℤ k.col) <ℤ pos s.width
+  pub top : pos 0 ≤ℤ k.row
+  pub bottom : (pos 64 *ℤ k.row) <ℤ pos s.height
 
 -- the same with that tile under the key
 abbrev pub with_put : Scene → Key → Pixels → Scene

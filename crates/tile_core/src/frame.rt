@@ -1,17 +1,17 @@
 //! Pictures of the canvas.
 
-ghost use Rattle.std.specs.Prelude.{◌≡◌, ◌*◌, ◌<◌, ◌≤◌, ◌++◌, IfOk, OnOk, OnErr, length, ◌-◌, pos, drop, min};
+ghost use Rattle.std.specs.Prelude.{◌≡◌, ◌+◌, ◌*◌, ◌<◌, ◌≤◌, ◌++◌, None, IfOk, OnOk, OnErr, length, ◌-◌, pos, drop, min, replicate};
 ghost use Rattle.std.specs.FinMap as map;
+ghost use Rattle.std.specs.Option.{option_copied};
 ghost use Rattle.geom_core.specs.Areas.{row as points, point};
-ghost use Rattle.tile_core.specs.Frames.{IsScene, scene, colours_at, row_colours, with_put, LaysPoints};
+ghost use Rattle.geom_core.specs.Grid.{key_of};
+ghost use Rattle.tile_core.specs.Frames.{IsScene, scene, colours_at, row_colours, IsTileOf, with_put, LaysPoints};
 
 use crate::Tile;
 use crate::colours::{lay_colours, lay_paper};
-use crate::keyed::{pixel_under, put_under};
-use geom_core::{NoMemory, TileKey, tile_of};
+use geom_core::{NoMemory, TileKey};
 use pixel_core::{Pixel, on_paper};
 use std::alloc::Global;
-use std::collections::BTreeMap;
 use std::marker::Model;
 
 /// A picture of the canvas: shared tiles over an opaque paper. The canvas has its corner at (0, 0).
@@ -20,20 +20,21 @@ pub struct Frame {
     width: u16,
     height: u16,
     paper: Pixel,
-    tiles: BTreeMap<TileKey, Tile>,
+    /// Row by row from the top, 32 to a row as on the largest canvas, as far as the canvas goes.
+    tiles: Vec<Option<Tile>>,
 }
 
 impl Model for Frame {
-    ghost use Rattle.std.specs.FinMap as map;
-    ghost use Rattle.tile_core.specs.Frames.{Scene, IsScene, scene, scene_code};
+    ghost use Rattle.tile_core.specs.Frames.{Scene, scene, scene_code};
+    ghost use Rattle.tile_core.specs.Placed.{tiles_from, IsPlaced};
 
     ghost Value = { Scene };
 
     ghost coded = { scene_code };
 
-    ghost view = { λ f. scene f.width f.height f.paper (map.from_entries f.tiles.entries) };
+    ghost view = { λ f. scene f.width f.height f.paper (tiles_from 0 f.tiles.items) };
 
-    ghost invariant = { λ f. IsScene (scene f.width f.height f.paper (map.from_entries f.tiles.entries)) };
+    ghost invariant = { λ f. IsPlaced (scene f.width f.height f.paper (tiles_from 0 f.tiles.items)) f.tiles.items };
 }
 
 impl Frame {
@@ -48,7 +49,7 @@ impl Frame {
             width: w,
             height: h,
             paper,
-            tiles: BTreeMap::new(alloc),
+            tiles: no_tiles(alloc, place((w - 1) / 64, (h - 1) / 64) + 1)?,
         })
     }
 
@@ -78,11 +79,13 @@ impl Frame {
 
     /// The points of the key become the tile's pixels on the paper. The tile is shared, not copied.
     pub fn put(&mut self, key: TileKey, tile: &Tile) -> Result<(), NoMemory>
+        requires { IsTileOf self.old key }
         ensures ok { OnOk result (self.new ≡ with_put self.old key tile.now) }
         ensures err { OnErr result (self.new ≡ self.old) }
     {
         let tile = tile.share()?;
-        put_under(&mut self.tiles, key, tile)
+        self.tiles[place(key.col as u16, key.row as u16)] = Some(tile);
+        Ok(())
     }
 
     /// Red, green and blue of a point.
@@ -91,10 +94,11 @@ impl Frame {
         requires y { y < self.now.height }
         ensures { result ≡ colours_at self.now (point (pos x) (pos y)) }
     {
-        on_paper(
-            pixel_under(&self.tiles, Pixel::CLEAR, x as i32, y as i32),
-            self.paper,
-        )
+        let pixel = match self.tile(x, y) {
+            Some(tile) => tile.at(x as i32, y as i32),
+            None => Pixel::CLEAR,
+        };
+        on_paper(pixel, self.paper)
     }
 
     /// Writes red, green and blue of each point of a row to the first 3 * width places, from the left.
@@ -117,7 +121,7 @@ impl Frame {
     {
         let left = 64 * col as usize;
         let n = (self.width as usize - left).min(64);
-        match self.tiles.get(&tile_of(left as i32, y as i32)) {
+        match self.tile(64 * col, y) {
             Some(tile) => {
                 let from = 64 * (y as usize % 64);
                 lay_colours(row, 3 * left, &tile.pixels()[from..from + n], self.paper);
@@ -125,4 +129,32 @@ impl Frame {
             None => lay_paper(row, 3 * left, n, self.paper),
         }
     }
+
+    /// The tile that a point lies in, if one was put there.
+    fn tile(&self, x: u16, y: u16) -> Option<&Tile>
+        requires x { x < self.now.width }
+        requires y { y < self.now.height }
+        ensures value { option_copied result ≡ map.get self.now.tiles (key_of (point (pos x) (pos y))) }
+        ensures known { IsScene self.now }
+    {
+        self.tiles[place(x / 64, y / 64)].as_ref()
+    }
+}
+
+/// Where the tile of a column and a row of the canvas stands.
+fn place(col: u16, row: u16) -> usize
+    ensures { result ≡ 32 * row + col }
+{
+    32 * row as usize + col as usize
+}
+
+/// That many places where no tile stands.
+fn no_tiles(alloc: Global, places: usize) -> Result<Vec<Option<Tile>>, NoMemory>
+    ensures { IfOk result (λ tiles. tiles.items ≡ replicate places None) }
+{
+    let mut tiles = Vec::with_capacity(alloc, places)?;
+    for _ in 0..places {
+        tiles.push(None)?;
+    }
+    Ok(tiles)
 }

@@ -1,10 +1,17 @@
-use Rattle.std.proofs.Common.{ap}
-use Rattle.std.proofs.lemmas.Result.{IfOk-weaker}
-use Rattle.tile_core.specs.Maps.{PutsUnder}
-use Rattle.tile_core.specs.Frames.{scene}
-use Rattle.tile_core.proofs.MapViews.{view-put}
+use Rattle.std.proofs.Common.{◌≡◌, ◌<◌, ◌∙◌, ◌+◌, ◌*◌, ap, arith, length}
+use Rattle.std.specs.Prelude.{pos, nat_abs, ◌<ℤ◌}
+use borrow.Author.Differences.{ints}
+use Rattle.tile_core.specs.Pixels.{Pixels}
+use Rattle.tile_core.specs.Frames.{Scene, scene, with_put}
+use Rattle.tile_core.proofs.PlacedTiles.{put_tile}
 use Rattle.tile_core.proofs.frame.Frame.put.Goals as goal
 
 pub returns-clause-ok : goal.returns-clause-ok
-returns-clause-ok c = rw (← c.self.view_is, ← c.in_ok-tile.ensures) (IfOk-weaker c.put_under.result (λ _. PutsUnder c.self.inside.tiles c.put_under.new.tiles c.args.key c.in_ok-tile.tile) _
-    (λ _ p. ap (scene c.self.inside.width c.self.inside.height c.self.inside.paper) (view-put c.self.inside.tiles c.put_under.new.tiles c.args.key c.in_ok-tile.tile p)) c.put_under.ensures.ok)
+returns-clause-ok c =
+    let width : c.self.inside.width ≡ c.args.self.now.width = ap (λ (s : Scene). s.width) c.self.view_is in
+    let height : c.self.inside.height ≡ c.args.self.now.height = ap (λ (s : Scene). s.height) c.self.view_is in
+    let right : c.args.key.col <ℤ pos 32 = omega (arith, ints, width, c.self.invariant.scene.columns) in
+    let place : c.place.result ≡ 32 * nat_abs c.args.key.row + nat_abs c.args.key.col = omega (arith, ints, c.place.ensures) in
+    let small : c.place.result < length c.self.inside.tiles.items = omega (arith, ints, width, height, place, c.self.invariant.places) in
+    ap (scene c.self.inside.width c.self.inside.height c.self.inside.paper) (put_tile c.self.inside.tiles.items c.args.key c.place.result c.in_ok-tile.tile c.requires.left right c.requires.top place small)
+    ∙ ap (λ (s : Scene). with_put s c.args.key c.in_ok-tile.tile) c.self.view_is ∙ ap (λ (t : Pixels). with_put c.args.self.now c.args.key t) c.in_ok-tile.ensures
