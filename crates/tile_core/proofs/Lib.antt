@@ -12,6 +12,7 @@ pub mod PartsOf
 pub mod FrameRows
 pub mod TileLaws
 pub mod PictureRows
+pub mod Bands
 pub mod DamagedParts
 pub mod DamagedPoints
 pub mod Films

@@ -6,7 +6,7 @@ use Rattle.std.proofs.Math.ListN.{drop_of_length-le}
 use borrow.Rule.Slice.PartMut.{put_mid}
 use Rattle.std.proofs.Math.Seq.{take-append_seam, drop-append_seam}
 use Rattle.std.proofs.lemmas.Bool.{ltb-true}
-use Rattle.std.proofs.lemmas.List.{length-take, drop-take, take_all, get_or-take, get_or-drop}
+use Rattle.std.proofs.lemmas.List.{drop-take, take_all, get_or-take, get_or-drop}
 use Rattle.std.proofs.lemmas.List.Folds.{flat_map-map}
 use Rattle.std.proofs.lemmas.Slice.{drop-append-drop}
 use Rattle.std.proofs.lemmas.Grind.{flat_map-append}
@@ -41,10 +41,10 @@ length-rows_colours : (s : Scene) (y n : ℕ) → length (rows_colours s y n) �
 length-rows_colours s y n = many_colours (colours_at s) (rows (pos 0) (pos y) s.width n) (λ _. refl) ∙ ap (λ i. 3 * i) (length-rows y s.width n)
 
 -- more rows
-rows_more : (s : Scene) (y m n : ℕ) → rows_colours s y m ++ rows_colours s (y + m) n ≡ rows_colours s y (m + n)
+pub rows_more : (s : Scene) (y m n : ℕ) → rows_colours s y m ++ rows_colours s (y + m) n ≡ rows_colours s y (m + n)
 rows_more s y m n = sym (ap (flat_map (colours_at s)) (rows-add y s.width m n) ∙ flat_map-append (colours_at s) (rows (pos 0) (pos y) s.width m) (rows (pos 0) (pos (y + m)) s.width n))
 
-one_row : (s : Scene) (y : ℕ) → row_colours s y ≡ rows_colours s y 1
+pub one_row : (s : Scene) (y : ℕ) → row_colours s y ≡ rows_colours s y 1
 one_row s y = sym (ap (flat_map (colours_at s)) (append-nil (row (pos 0) (pos y) s.width)))
 
 -- how far the rows from the top on have come
@@ -199,12 +199,6 @@ column_stays s b y i old mid so h alike shown same =
     let fits : 64 * i + min 64 (s.width - 64 * i) ≤ b.width = omega (arith, alike.width) in
     stays s y (64 * i) (min 64 (s.width - 64 * i)) old mid (so.laid ∙ ap (λ m. flat_map (colours_at s) (row (pos 0) (pos y) m) ++ drop (3 * m) old) here)
     (behind s b y (64 * i) (min 64 (s.width - 64 * i)) old shown fits (same_colours s b y (64 * i) (min 64 (s.width - 64 * i)) alike same))
-
--- a row with nothing behind it
-pub row_alone : (s : Scene) (y at w across : ℕ) (mid new : List ℕ) → w ≡ s.width → across ≡ at + 3 * w → new ≡ row_colours s y ++ drop (3 * s.width) (slice_range mid at across) → new ≡ row_colours s y
-row_alone s y at w across mid new ew ea e =
-    let h : length (slice_range mid at across) ≤ 3 * s.width = omega (arith, length-take (across - at) (drop at mid)) in
-    e ∙ ap (λ l. row_colours s y ++ l) (drop_of_length-le (slice_range mid at across) h) ∙ append-nil (row_colours s y)
 
 -- a tile that isn't marked has the pixels of the frame before
 pub tile_stays : (s b : Scene) (fresh : Grid) (col y : ℕ) → SameCanvas s b → Renews s b fresh → y < s.height → mark_at fresh (place_at (pos col) (pos (y / 64))) ≡ false → SamePoints s b y (64 * col) (min 64 (s.width - 64 * col))

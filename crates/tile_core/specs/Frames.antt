@@ -1,5 +1,5 @@
 -- A frame as contracts see it: its sides, its paper, and tiles under some keys.
-use Rattle.std.specs.Prelude.{◌≡◌, ℕ, ◌+◌, ◌*◌, ◌≤◌, pos, ◌*ℤ◌, ◌≤ℤ◌, ◌<ℤ◌, List, [], ◌∷◌, take, drop, ◌++◌, refl}
+use Rattle.std.specs.Prelude.{◌≡◌, ℕ, ◌+◌, ◌*◌, ◌≤◌, ◌<◌, pos, ◌*ℤ◌, ◌≤ℤ◌, ◌<ℤ◌, List, [], ◌∷◌, take, drop, ◌++◌, refl}
 use Rattle.std.specs.List.{flat_map}
 use Rattle.std.specs.FinMap as map
 use Rattle.std.specs.FinMap.{FinMap}
@@ -67,6 +67,14 @@ pub record SameCanvas (s before : Scene) : Type 0 where
 -- in rows of colours, the new one has those of the n points from x on, and the old one's elsewhere
 abbrev pub LaysPoints : Scene → ℕ → List ℕ → List ℕ → ℕ → ℕ → Type 0
 LaysPoints s y old new x n = new ≡ take (3 * x) old ++ flat_map (colours_at s) (row (pos x) (pos y) n) ++ drop (3 * (x + n)) old
+
+-- the bytes of a band in the place of its k-th row
+abbrev pub band_row : Scene → ℕ → List ℕ → List ℕ
+band_row s k band = take (3 * s.width) (drop (3 * (s.width * k)) band)
+
+-- in each of n rows from y on, the colours of n' points from x on are written in their places, and nothing else is
+abbrev pub LaysRows : Scene → ℕ → ℕ → List ℕ → List ℕ → ℕ → ℕ → Type 0
+LaysRows s y n old new x n' = (k : ℕ) → k < n → LaysPoints s (y + k) (band_row s k old) (band_row s k new) x n'
 
 -- the key is that of a tile of the frame's canvas
 pub record IsTileOf (s : Scene) (k : Key) : Type 0 where

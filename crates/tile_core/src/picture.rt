@@ -1,8 +1,8 @@
 //! The colours of all points of a frame, and how they follow from those of the frame before.
 
-ghost use Rattle.std.specs.Prelude.{◌≡◌, ◌+◌, ◌*◌, ◌<◌, ◌≤◌, ◌↔◌, IsTrue, length, drop};
+ghost use Rattle.std.specs.Prelude.{◌≡◌, ◌+◌, ◌-◌, ◌*◌, ◌<◌, ◌≤◌, ◌↔◌, IsTrue, length, drop, min};
 ghost use Rattle.tile_core.specs.Films.{Renews};
-ghost use Rattle.tile_core.specs.Frames.{row_colours, rows_colours, Shows, SameCanvas};
+ghost use Rattle.tile_core.specs.Frames.{row_colours, rows_colours, LaysRows, Shows, SameCanvas};
 
 use crate::{Frame, Marks};
 
@@ -15,8 +15,37 @@ impl Frame {
     {
         let across = 3 * self.width() as usize;
         let mut at = 0;
-        for y in 0..self.height() {
-            self.row_into(y, &mut picture[at..at + across]);
+        for row in 0..self.height().div_ceil(64) {
+            let n = (self.height() - 64 * row).min(64);
+            let end = at + across * n as usize;
+            self.band_into(64 * row, n, &mut picture[at..end]);
+            at = end;
+        }
+    }
+
+    /// Writes the points of n rows from `top` on that lie in one row of tiles, tile by tile: a tile's pixels
+    /// stand one after another in memory, so they are read sooner than a row of points across all tiles.
+    fn band_into(&self, top: u16, n: u16, band: &mut [u8])
+        requires inside { top + n ≤ self.now.height }
+        requires whole { length band.old ≡ 3 * (self.now.width * n) }
+        ensures { band.new ≡ rows_colours self.now top n }
+    {
+        for col in 0..self.width().div_ceil(64) {
+            self.tile_into(col, top, n, band);
+        }
+    }
+
+    /// Writes the points of n rows from `top` on that lie in the tiles of one column.
+    fn tile_into(&self, col: u16, top: u16, n: u16, band: &mut [u8])
+        requires col { 64 * col < self.now.width }
+        requires inside { top + n ≤ self.now.height }
+        requires whole { length band.old ≡ 3 * (self.now.width * n) }
+        ensures { LaysRows self.now top n band.old band.new (64 * col) (min 64 (self.now.width - 64 * col)) }
+    {
+        let across = 3 * self.width() as usize;
+        let mut at = 0;
+        for y in 0..n {
+            self.tile_row_into(col, top + y, &mut band[at..at + across]);
             at += across;
         }
     }

@@ -1,8 +1,7 @@
 use Rattle.std.proofs.Common.{◌≡◌, ◌+◌, ◌*◌, ◌++◌, ◌∙◌, ap, arith, length, take, drop, replicate}
 use Rattle.std.specs.List.{flat_map}
-use Rattle.std.proofs.lemmas.List.{length-take-le, get_or-take, get_or-replicate}
+use Rattle.std.proofs.lemmas.List.{length-take-le}
 use Rattle.std.proofs.lemmas.Slice.{take-put_mid}
-use Rattle.pixel_core.specs.Rgba.{clear}
 use Rattle.tile_core.specs.Frames.{colours}
 use Rattle.tile_core.proofs.LaidColours.{laid_colours}
 use Rattle.tile_core.proofs.colours.lay_colours.Goals as goal
