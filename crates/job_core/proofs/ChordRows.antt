@@ -1,4 +1,4 @@
--- Rows of a dab, laid within its circle alone.
+-- Rows of a dab, laid on its chord or on places round it.
 use Rattle.std.proofs.Common.{◌≡◌, ℕ, ◌+◌, ◌-◌, ◌≤◌, ◌<◌, Bool, true, false, ◌&&◌, cond, List, length, get_or, take, drop, refl, ap, ◌∙◌, sym, subst, arith, ltb, leb}
 use Rattle.std.specs.Prelude.{ℤ, pos, ◌+ℤ◌, nat_le, nat_lt, if◌then◌else◌}
 use borrow.Author.Differences.{ints}
@@ -33,10 +33,21 @@ outside brush ink x y d z known = unseen_leaves ink.op ink.colour d (strength_at
 abbrev pub DabsColumns : Brush → Ink → ℤ → ℤ → ℕ → ℕ → List Rgba → List Rgba → Type 0
 DabsColumns brush ink dx dy first n old new = (j : ℕ) → j < n → get_or new j clear ≡ brushed brush ink (dx +ℤ pos (first + j)) dy (get_or old j clear)
 
--- a row of which the columns within the circle are laid
-pub chord_row : (brush : Brush) (ink : Ink) (dx dy : ℤ) (first end k : ℕ) (old ys : List Rgba) → IsChord brush.r dx dy (length old) first end → first ≤ end → end ≤ length old → k ≡ end - first → length ys ≡ end - first
+-- along a row, a hard dab paints nothing but the places from one up to another
+abbrev pub PaintsWithin : ℕ → ℤ → ℤ → ℕ → ℕ → ℕ → Type 0
+PaintsWithin r dx dy places first end = (k : ℕ) → k < places → (nat_le first k && nat_lt k end) ≡ false → mask r false (dx +ℤ pos k) dy ≡ 0
+
+-- a hard dab paints nothing but any places round its chord
+pub round_chord : (r : ℕ) (dx dy : ℤ) (places first end from to : ℕ) → IsChord r dx dy places first end → from ≤ first → end ≤ to → PaintsWithin r dx dy places from to
+round_chord r dx dy places first end from to chord left right k small out = chord k small ∙ ap (λ b. if b then 255 else 0) beyond
+  where
+    beyond : (nat_le first k && nat_lt k end) ≡ false
+    beyond = grind (arith, nat_tests)
+
+-- a row of which the columns round the chord are laid
+pub chord_row : (brush : Brush) (ink : Ink) (dx dy : ℤ) (first end k : ℕ) (old ys : List Rgba) → PaintsWithin brush.r dx dy (length old) first end → first ≤ end → end ≤ length old → k ≡ end - first → length ys ≡ end - first
     → ((i : ℕ) → i < length old → IsCanonical (get_or old i clear)) → DabsColumns brush ink dx dy first (end - first) (take k (drop first old)) ys → DabsRow brush ink dx dy old (put_mid first k old ys)
-chord_row brush ink dx dy first end k old ys chord order fits ek many known each i small =
+chord_row brush ink dx dy first end k old ys within order fits ek many known each i small =
     slice_changed (λ j. brushed brush ink (dx +ℤ pos (first + j)) dy) old ys first (end - first) k (omega arith) ek many each i
     ∙ ap (λ n. cond (leb first i && ltb i n) (brushed brush ink (dx +ℤ pos (first + (i - first))) dy d) d) last
     ∙ go (nat_le first i && nat_lt i end) refl
@@ -52,7 +63,7 @@ chord_row brush ink dx dy first end k old ys chord order fits ek many known each
 
     go : (t : Bool) → (nat_le first i && nat_lt i end) ≡ t → cond t (brushed brush ink (dx +ℤ pos (first + (i - first))) dy d) d ≡ brushed brush ink (dx +ℤ pos i) dy d
     go true t = ap (λ n. brushed brush ink (dx +ℤ pos n) dy d) (from_first t)
-    go false t = sym (outside brush ink (dx +ℤ pos i) dy d (chord i small ∙ ap (λ b. if b then 255 else 0) t) (known i small))
+    go false t = sym (outside brush ink (dx +ℤ pos i) dy d (within i small t) (known i small))
 
 -- a chord by equal distances from the centre
 pub chord_of : (r : ℕ) (dx dx' dy dy' : ℤ) (places first end : ℕ) → dx' ≡ dx → dy' ≡ dy → IsChord r dx' dy' places first end → IsChord r dx dy places first end

@@ -1,6 +1,7 @@
 //! Dabs.
 
-ghost use Rattle.std.specs.Prelude.{◌≡◌, [], ◌∷◌, ◌+◌, ◌*◌, ◌≤◌, ◌<◌, ◌≤ℤ◌, ◌+ℤ◌, ◌-ℤ◌, ℕ, negsuc, pos, true, IfOk, vec_len, length};
+ghost use Rattle.std.specs.Prelude.{◌≡◌, [], ◌∷◌, ◌+◌, ◌-◌, ◌*◌, ◌≤◌, ◌<◌, ◌≤ℤ◌, ◌+ℤ◌, ◌-ℤ◌, ℕ, negsuc, pos, true, IfOk, vec_len, length, min};
+ghost use Rattle.std.specs.Int.{next_multiple_of};
 ghost use Rattle.geom_core.specs.Areas.{lies_in, world};
 ghost use Rattle.geom_core.specs.Overlaps.{IsWithin};
 ghost use Rattle.geom_core.specs.Grid.{IsWorldKey, tile};
@@ -15,13 +16,16 @@ ghost use Rattle.job_core.specs.Dabs.{brushed_from, DabsRow, HasStrengths, Weake
 
 use crate::ink::Ink;
 use crate::part::part_in;
-use brush_mask::{chord_in_row, mask_row};
+use brush_mask::{Chord, chord_in_row, mask_row};
 use doc_model::square_round;
 use geom_core::{NoMemory, Rect, TileKey};
 use pixel_core::{Pixel, mul};
 use pixel_rows::{lay_colour, lay_masked, tell_canonical};
 use std::alloc::Global;
 use tile_core::{Block, Part, Shot};
+
+/// How many pixels `lay_masked` lays at once.
+const BLOCK: usize = 16;
 
 /// A round brush at a point.
 #[derive(Clone, Copy)]
@@ -156,7 +160,8 @@ fn lay_dab_rows(
     }
 }
 
-/// Lays one row of a dab, on the columns within its circle alone.
+/// Lays one row of a dab: a hard one on the columns within its circle alone, a soft one on as many
+/// more as make whole blocks.
 fn lay_dab_row(row: &mut [Pixel], dx: i16, dy: i16, brush: &Brush, ink: &Ink)
     requires small { length row.old ≤ 64 }
     requires radius { brush.now.r ≤ 128 }
@@ -168,11 +173,34 @@ fn lay_dab_row(row: &mut [Pixel], dx: i16, dy: i16, brush: &Brush, ink: &Ink)
 {
     tell_canonical(row);
     let chord = chord_in_row(brush.r, dx, dy, row.len());
-    let columns = &mut row[chord.first..chord.end];
     if brush.soft {
-        lay_soft_row(columns, dx + chord.first as i16, dy, brush, ink);
+        let blocks = whole_blocks(chord, row.len());
+        let columns = &mut row[blocks.first..blocks.end];
+        lay_soft_row(columns, dx + blocks.first as i16, dy, brush, ink);
     } else {
+        let columns = &mut row[chord.first..chord.end];
         lay_colour(ink.op, ink.colour, ink.strength, columns);
+    }
+}
+
+/// The places of a chord and those next to it, in a row of some places: as many as make whole
+/// blocks, or the whole row where it has fewer.
+fn whole_blocks(chord: Chord, places: usize) -> Chord
+    requires small { places ≤ 64 }
+    requires order { chord.first ≤ chord.end }
+    requires within { chord.end ≤ places }
+    ensures left { result.first ≤ chord.first }
+    ensures right { chord.end ≤ result.end }
+    ensures inside { result.end ≤ places }
+    ensures count { result.end ≡ result.first + min (next_multiple_of (chord.end - chord.first) BLOCK) places }
+{
+    let count = (chord.end - chord.first)
+        .next_multiple_of(BLOCK)
+        .min(places);
+    let first = chord.first.min(places - count);
+    Chord {
+        first,
+        end: first + count,
     }
 }
 
