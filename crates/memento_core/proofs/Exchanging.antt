@@ -12,6 +12,7 @@ use Rattle.memento_core.specs.Planes.{Keyed, tile_under}
 use Rattle.memento_core.specs.declared.revision.Note.{Note}
 use Rattle.memento_core.specs.Notes.{IsEachOnce, IsRevision, keys_noted, noted}
 use Rattle.memento_core.specs.Revisions.{AllStand, Exchanges, keys_in}
+use Rattle.memento_core.proofs.Sets.{inserted_again}
 
 pub false-true : {P : Type 0} → false ≡ true → P
 false-true e = absurd (never e)
@@ -213,6 +214,10 @@ module _ {T : Type 0} where
 
     pub ended_keys : keys_noted notes ≡ keys_noted all
     ended_keys = ap keys_noted ended.1 ∙ keys-lifted all old
+
+  -- a key more that was noted already
+  pub again_revision : (keys new : set.FinSet key_cmp) (ns after : List (Note T)) (k : Key) → set.contains keys k ≡ true → new ≡ set.insert keys k → after ≡ ns → IsRevision keys ns → IsRevision new after
+  again_revision keys new ns after k there more same is = subst (λ s. IsRevision s after) (sym (more ∙ inserted_again keys k there)) (subst (IsRevision keys) (sym same) is)
 
   -- what was noted, by the set and the notes
   pub has_is : (keys : set.FinSet key_cmp) (ns : List (Note T)) (r : Keyed T) (k : Key) → IsRevision keys ns → noted ns ≡ r → fin.contains_key r k ≡ set.contains keys k

@@ -76,12 +76,10 @@ impl<T: Drop> Revision<T> {
         ensures ok { OnOk result (self.new ≡ noted_under self.old key old) }
         ensures err { OnErr result (self.new ≡ self.old) }
     {
-        if self.keys.has(key) {
-            return Ok(());
-        }
         self.notes.reserve(1)?;
-        self.keys.insert(key)?;
-        push(&mut self.notes, Note { key, tile: old });
+        if self.keys.insert(key)? {
+            push(&mut self.notes, Note { key, tile: old });
+        }
         Ok(())
     }
 
