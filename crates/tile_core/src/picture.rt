@@ -18,14 +18,15 @@ impl Frame {
         for row in 0..self.height().div_ceil(64) {
             let n = (self.height() - 64 * row).min(64);
             let end = at + across * n as usize;
-            self.band_into(64 * row, n, &mut picture[at..end]);
+            self.rows_into(64 * row, n, &mut picture[at..end]);
             at = end;
         }
     }
 
-    /// Writes the points of n rows from `top` on that lie in one row of tiles, tile by tile: a tile's pixels
-    /// stand one after another in memory, so they are read sooner than a row of points across all tiles.
-    fn band_into(&self, top: u16, n: u16, band: &mut [u8])
+    /// Writes red, green and blue of each point of n rows from `top` on, in row order, to a band of just
+    /// as many bytes. It goes tile by tile, since a tile's pixels stand one after another in memory: rows
+    /// of one row of tiles are read sooner so than each across all tiles.
+    pub fn rows_into(&self, top: u16, n: u16, band: &mut [u8])
         requires inside { top + n ≤ self.now.height }
         requires whole { length band.old ≡ 3 * (self.now.width * n) }
         ensures { band.new ≡ rows_colours self.now top n }

@@ -1,5 +1,5 @@
 use Rattle.tile_core.proofs.Bands.{BandSoFar}
-use Rattle.tile_core.proofs.frame.Frame.band_into.Given as goal
+use Rattle.tile_core.proofs.frame.Frame.rows_into.Given as goal
 
 -- the rows' points in the tiles so far are written
 abbrev pub invariant-loop-col : goal.invariant-loop-col
