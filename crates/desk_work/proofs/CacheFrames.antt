@@ -1,18 +1,19 @@
 -- A frame of the root's cache, tile after tile.
-use Rattle.std.proofs.Common.{◌≡◌, ℕ, ◌+◌, ◌≤◌, Bool, true, false, ◌||◌, cond, List, [], ◌∷◌, length, take, Some, None, refl, sym, ap, ◌∙◌}
-use Rattle.std.specs.Prelude.{slice_get}
+use Rattle.std.proofs.Common.{◌≡◌, ℕ, ◌+◌, ◌≤◌, Bool, true, false, ◌&&◌, ◌||◌, cond, List, [], ◌∷◌, length, take, Some, None, refl, sym, ap, subst, ◌∙◌, arith}
+use Rattle.std.specs.Prelude.{ℤ, pos, ◌+ℤ◌, ◌*ℤ◌, ◌≤ℤ◌, ◌<ℤ◌, int_lt, slice_get}
 use Rattle.std.specs.List.{list_any}
 use Rattle.std.specs.Ordering.{nat_cmp}
 use Rattle.std.specs.FinMap as map
 use Rattle.std.specs.FinMap.{FinMap}
+use borrow.Author.Differences.{ints}
 use Rattle.std.proofs.lemmas.List.{take_all}
 use Rattle.std.proofs.lemmas.List.Folds.{list_any-append}
 use Rattle.pixel_core.specs.Rgba.{clear}
-use Rattle.geom_core.specs.Areas.{Point}
-use Rattle.geom_core.specs.Grid.{Key, key_cmp, key_cmp_total, key_of, same_key, keys_of}
+use Rattle.geom_core.specs.Areas.{Point, meets}
+use Rattle.geom_core.specs.Grid.{Key, key_cmp, key_cmp_total, key_of, same_key, keys_of, tile}
 use Rattle.geom_core.proofs.Axes.{tiles_met}
 use Rattle.geom_core.proofs.Keys.{key_of_held}
-use Rattle.geom_core.proofs.Tests.{none_left, none_right, taken, kept}
+use Rattle.geom_core.proofs.Tests.{and_left, and_right, none_left, none_right, taken, kept}
 use Rattle.geom_core.proofs.Tiles.{key_same}
 use Rattle.doc_model.specs.declared.canvas.Canvas.{Canvas}
 use Rattle.doc_model.specs.Canvases.{IsOfLimits}
@@ -21,10 +22,10 @@ use Rattle.doc_model.specs.Picture.{canvas_area}
 use Rattle.doc_model.specs.Shots.{in_tile}
 use Rattle.machine_model.specs.Groups.{cache}
 use Rattle.tile_core.specs.Pixels.{Pixels, pixel_at, pixel_or}
-use Rattle.tile_core.specs.Frames.{Scene, scene, put_at, with_put}
+use Rattle.tile_core.specs.Frames.{Scene, scene, put_at, with_put, IsTileOf}
 use Rattle.update_queue.proofs.Elements.{take_here}
 use Rattle.desk_parts.specs.Cached.{ShowsCache, PutsCache}
-use Rattle.desk_work.proofs.KeyLists.{not_before}
+use Rattle.desk_work.proofs.KeyLists.{not_before, key_in}
 
 -- a tile with the cache's pixels is put
 pub tile_put : (caches : FinMap nat_cmp Layer) (key : Key) (t : Pixels) (old new : Scene) → ((p : Point) → in_tile key p ≡ true → pixel_at t p ≡ at (cache caches 0) p) → new ≡ with_put old key t → PutsCache caches key old new
@@ -97,6 +98,22 @@ drawn_more caches canvas i key old new limits at_i drawn put = record {
     shown : (p : Point) → list_any (same_key (key_of p)) (take (i + 1) keys) ≡ true → (b : Bool) → same_key (key_of p) key ≡ b → put_at new p ≡ at (cache caches 0) p
     shown p h true e = put.here unput p e
     shown p h false e = ap (λ o. pixel_or o clear p) (put.others (key_of p) e) ∙ drawn.shows p (sym (taken_more (key_of p) ∙ ap (λ b. list_any (same_key (key_of p)) (take i keys) || b) e ∙ or_false (list_any (same_key (key_of p)) (take i keys))) ∙ h)
+
+on_axis : (c : ℤ) (n : ℕ) → (int_lt (pos 0) ((pos 64 *ℤ c) +ℤ pos 64) && int_lt (pos 64 *ℤ c) (pos 0 +ℤ pos n)) ≡ true → (pos 0 ≤ℤ c) × ((pos 64 *ℤ c) <ℤ pos n)
+on_axis c n h = grind (arith, ints)
+
+-- the next tile is one of the frame's
+pub drawn_inside : (caches : FinMap nat_cmp Layer) (canvas : Canvas) (i : ℕ) (key : Key) (s : Scene) → IsOfLimits canvas → slice_get (keys_of (canvas_area canvas)) i ≡ Some key → Drawn caches canvas i s → IsTileOf s key
+drawn_inside caches canvas i key s limits at_i drawn =
+    let met : meets (canvas_area canvas) (tile key) ≡ true = sym ((tiles_met (canvas_area canvas) limits.w.0 limits.h.0).exact key) ∙ key_in (keys_of (canvas_area canvas)) i key at_i in
+    let across : (pos 0 ≤ℤ key.col) × ((pos 64 *ℤ key.col) <ℤ pos canvas.w) = on_axis key.col canvas.w (and_left _ _ met) in
+    let down : (pos 0 ≤ℤ key.row) × ((pos 64 *ℤ key.row) <ℤ pos canvas.h) = on_axis key.row canvas.h (and_right _ _ met) in
+    record {
+      left = across.0;
+      right = subst (λ n. (pos 64 *ℤ key.col) <ℤ pos n) (sym drawn.width) across.1;
+      top = down.0;
+      bottom = subst (λ n. (pos 64 *ℤ key.row) <ℤ pos n) (sym drawn.height) down.1;
+    }
 
 -- with all tiles it shows the cache
 pub drawn_all : (caches : FinMap nat_cmp Layer) (canvas : Canvas) (i : ℕ) (s : Scene) → length (keys_of (canvas_area canvas)) ≤ i → Drawn caches canvas i s → ShowsCache caches canvas s

@@ -3,6 +3,7 @@
 ghost use Rattle.std.specs.Prelude.{IfOk, OnOk};
 ghost use Rattle.doc_model.specs.Canvases.{IsOfLimits};
 ghost use Rattle.desk_parts.specs.Cached.{ShowsCache, PutsCache};
+ghost use Rattle.tile_core.specs.Frames.{IsTileOf};
 
 use doc_model::Canvas;
 use geom_core::{NoMemory, TileKey};
@@ -32,6 +33,7 @@ pub(crate) fn frame_of_cache(
 
 /// Puts the tile of the root's cache into the frame, if there is one.
 fn put_cached(caches: &Caches, key: TileKey, frame: &mut Frame) -> Result<(), NoMemory>
+    requires { IsTileOf frame.old key }
     ensures { OnOk result (PutsCache caches.now key frame.old frame.new) }
 {
     match caches.tile(ROOT, key) {

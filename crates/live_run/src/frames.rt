@@ -3,6 +3,7 @@
 ghost use Rattle.std.specs.Prelude.{◌≡◌, [], ◌∷◌, IfOk, IfSome, OnOk};
 ghost use Rattle.doc_model.specs.Canvases.{IsOfLimits};
 ghost use Rattle.desk_parts.specs.Cached.{ShowsCache, PutsCache};
+ghost use Rattle.tile_core.specs.Frames.{IsTileOf};
 ghost use Rattle.live_view.specs.Shown.{updates_of, shown};
 ghost use Rattle.live_view.specs.Views.{published, pending, IsOnCanvas};
 ghost use Rattle.live_run.specs.Showing.{ShowsTiles, ShowsRoot};
@@ -39,6 +40,7 @@ fn put_seen(
     frame: &mut Frame,
 ) -> Result<(), NoMemory>
     requires key { IsOnCanvas key }
+    requires inside { IsTileOf frame.old key }
     requires none { pending live.old ≡ [] }
     requires shows { ShowsTiles (updates_of (published live.old)) desk.now (key ∷ []) }
     ensures kept { live.new ≡ live.old }
@@ -53,6 +55,7 @@ fn put_seen(
 
 /// Puts the tile of the desk's own cache into the frame, if there is one.
 fn put_own(desk: &Desk, key: TileKey, frame: &mut Frame) -> Result<(), NoMemory>
+    requires { IsTileOf frame.old key }
     ensures { OnOk result (PutsCache desk.now.caches key frame.old frame.new) }
 {
     match desk.root_tile(key) {

@@ -1,6 +1,8 @@
 //! What the screen's thread does: it looks, and writes what it sees.
 
+ghost use Rattle.std.specs.Prelude.{IsTrue, ◌↔◌};
 ghost use Rattle.live_view.specs.Views.{IsOnCanvas};
+ghost use Rattle.tile_core.specs.Frames.{IsTileOf};
 
 use crate::paint::WetError;
 use geom_core::{NoMemory, TileKey};
@@ -35,15 +37,37 @@ fn bare(alloc: Global, script: &Script) -> Result<Frame, NoMemory> {
     Frame::new(alloc, canvas.w, canvas.h, canvas.paper)
 }
 
+/// Whether the key is that of a tile of the frame's canvas.
+fn has_tile(frame: &Frame, key: TileKey) -> bool
+    ensures { IsTrue result ↔ IsTileOf frame.now key }
+{
+    let (col, row) = (i32::from(key.col), i32::from(key.row));
+    0 <= col
+        && 64 * col < i32::from(frame.width())
+        && 0 <= row
+        && 64 * row < i32::from(frame.height())
+}
+
+/// Puts the tile that the reader sees into the frame, if there is one.
+fn put_seen(reader: &mut LiveReader, key: TileKey, frame: &mut Frame) -> Result<(), NoMemory>
+    requires key { IsOnCanvas key }
+    requires inside { IsTileOf frame.old key }
+{
+    if let Ok(shown) = reader.look(key) {
+        if let Some(tile) = shown.tile {
+            return frame.put(key, &tile);
+        }
+    }
+    Ok(())
+}
+
 /// The picture that the reader sees. Where a look is refused the paper shows.
 fn picture(alloc: Global, reader: &mut LiveReader, script: &Script) -> Result<Frame, NoMemory> {
     let mut frame = bare(alloc, script)?;
     for place in 0..TILES {
         let key = key_at(place);
-        if let Ok(shown) = reader.look(key) {
-            if let Some(tile) = shown.tile {
-                frame.put(key, &tile)?;
-            }
+        if has_tile(&frame, key) {
+            put_seen(reader, key, &mut frame)?;
         }
     }
     Ok(frame)

@@ -7,7 +7,7 @@ use Rattle.tile_core.specs.Frames.{scene}
 use Rattle.doc_model.specs.declared.canvas.Canvas.{Canvas}
 use Rattle.doc_model.specs.Canvases.{IsOfLimits}
 use Rattle.doc_model.specs.Picture.{canvas_area}
-use Rattle.desk_work.proofs.CacheFrames.{drawn_none, drawn_more, drawn_all}
+use Rattle.desk_work.proofs.CacheFrames.{drawn_none, drawn_more, drawn_inside, drawn_all}
 use Rattle.live_view.specs.Shown.{updates_of}
 use Rattle.live_view.specs.Views.{Feed, published, pending}
 use Rattle.live_run.specs.Showing.{ShowsRoot}
@@ -27,6 +27,11 @@ pub put_seen-requires-clause-key : goal.put_seen-requires-clause-key
 put_seen-requires-clause-key c =
     let area_is : c.rect-shown.result ≡ canvas_area c.args.desk.now.canvas = c.rect-shown.ensures ∙ ap canvas_area c.canvas-canvas.ensures in
     key_on_canvas c.args.desk.now.canvas c.loop-i.i c.tile_at.result c.requires.limits (ap (λ (a : Area). slice_get (keys_of a) c.loop-i.i) (sym area_is) ∙ c.tile_at.ensures.value)
+
+pub put_seen-requires-clause-inside : goal.put_seen-requires-clause-inside
+put_seen-requires-clause-inside c =
+    let area_is : c.rect-shown.result ≡ canvas_area c.args.desk.now.canvas = c.rect-shown.ensures ∙ ap canvas_area c.canvas-canvas.ensures in
+    drawn_inside c.args.desk.now.caches c.args.desk.now.canvas c.loop-i.i c.tile_at.result c.loop-i.frame c.requires.limits (ap (λ (a : Area). slice_get (keys_of a) c.loop-i.i) (sym area_is) ∙ c.tile_at.ensures.value) c.loop-i.invariant.drawn
 
 pub put_seen-requires-clause-none : goal.put_seen-requires-clause-none
 put_seen-requires-clause-none c = ap (λ (f : Feed). pending f) c.loop-i.invariant.kept ∙ c.requires.none
