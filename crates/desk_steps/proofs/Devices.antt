@@ -225,3 +225,8 @@ lent_stands o s found e = subst (StandIn found) (sym e)
 pub both_ok : {A E : Type 0} (r : Result A E) {P Q R : Type 0} → (P → Q → R) → OnOk r P → OnOk r Q → OnOk r R
 both_ok (Ok x) f h k = f h k
 both_ok (Err x) f h k = tt
+
+-- what follows whether it went well or not
+pub either_way : {A E : Type 0} (r : Result A E) {P Q R : Type 0} → (P → R) → (Q → R) → OnOk r P → OnErr r Q → R
+either_way (Ok x) f g p q = f p
+either_way (Err e) f g p q = g q

@@ -1,6 +1,7 @@
 -- What was painted of a tile, laid on the tile.
 use Rattle.std.proofs.Common.{◌≡◌, ℕ, suc, zero, ◌+◌, Bool, true, false, ◌&&◌, ◌||◌, cond, Option, Some, None, List, [], ◌∷◌, length, take, is_some, refl, sym, ap, ◌∙◌, subst, arith, inl, inr, map, replicate}
 use Rattle.std.specs.Prelude.{All, slice_get}
+use Rattle.std.specs.Option.{unwrap_or}
 use Rattle.std.specs.FinMap as fin
 use Rattle.std.proofs.lemmas.Option.{slice_get_cases}
 use Rattle.std.proofs.Math.Seq.{take-length}
@@ -128,6 +129,14 @@ ready_there s k = go (fin.contains_key s.tiles k) refl
     go : (b : Bool) → fin.contains_key s.tiles k ≡ b → fin.contains_key (cond b s (with_under s k None)).tiles k ≡ true
     go true e = e
     go false e = ap is_some (fin.get-insert key_cmp_total s.tiles k None k ∙ taken (same_key k k) (Some None) _ (key_is k k refl))
+
+-- where a tile stands, the key is there already
+pub ready_stands : (s : Sheet) (k : Key) → is_some (tile_under s.tiles k) ≡ true → readied s k ≡ s
+ready_stands s k h = taken (fin.contains_key s.tiles k) s (with_under s k None) (there (fin.get s.tiles k) h)
+  where
+    there : (o : Option (Option Pixels)) → is_some (unwrap_or o None) ≡ true → is_some o ≡ true
+    there None h = h
+    there (Some t) h = refl
 
 pub ready_default : (s : Sheet) (k : Key) → (readied s k).default_pixel ≡ s.default_pixel
 ready_default s k = go (fin.contains_key s.tiles k)

@@ -163,21 +163,6 @@ note_back found s k after new stand is more = noted_back found s new k
     (λ p _. ap (λ (s : Sheet). sheet_at s p) is ∙ ready_keeps_pixels s k p)
     after stand (λ q. ap (λ (s : Sheet). fin.contains_key s.tiles q) is ∙ has-readied s k q) more
 
--- what stands under it stays
-pub tile-readied : (s : Sheet) (k : Key) → tile_under (readied s k).tiles k ≡ tile_under s.tiles k
-tile-readied s k = go (fin.contains_key s.tiles k) refl
-  where
-    none : (o : Option (Option Pixels)) → is_some o ≡ false → None ≡ unwrap_or o None
-    none None e = refl
-    none (Some t) e = absurd (no e)
-      where
-        no : true ≡ false → ⊥
-        no e = cc
-
-    go : (b : Bool) → fin.contains_key s.tiles k ≡ b → tile_under (cond b s (with_under s k None)).tiles k ≡ tile_under s.tiles k
-    go true h = refl
-    go false h = ap (λ o. unwrap_or o None) (fin.get-insert key_cmp_total s.tiles k None k ∙ taken (same_key k k) _ _ (key_is k k refl)) ∙ none (fin.get s.tiles k) h
-
 -- a change in place, where something was noted of the key
 pub alone_back : (R : Pixels → Pixels → Type 0) (found : Keyed Pixels) (old new : Sheet) (k : Key) (b : Bool) → StandIn found (Some old) → fin.contains_key found k ≡ true → (b ≡ true → LaysUnder R old new k) → (b ≡ false → new ≡ old) → GivesBack found found old new
 alone_back R found old new k true stand among lays kept_is = let l = lays refl in put_back found old k l.after found new stand l.new_is (sym (taken (fin.contains_key found k) _ _ among))

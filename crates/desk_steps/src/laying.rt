@@ -150,21 +150,11 @@ fn note_under(device: &mut Device, found: &mut Revision<Tile>, key: TileKey) -> 
     ensures same { layer_of device.new ≡ layer_of device.old }
     ensures no_note { OnErr result (found.new ≡ found.old) }
 {
-    device.ready(key)?;
-    note(found, device, key)?;
-    Ok(())
-}
-
-/// Notes what stands under the key, if nothing was noted of it before. The tile is shared.
-fn note(found: &mut Revision<Tile>, device: &Device, key: TileKey) -> Result<(), NoMemory>
-    requires { IsWorldKey key }
-    ensures ok { OnOk result (found.new ≡ noted_under found.old key (tile_under device.now.tiles key)) }
-    ensures err { OnErr result (found.new ≡ found.old) }
-{
-    if !found.has(key) {
-        found.note(key, shared_under(device, key)?)?;
+    let old = shared_under(device, key)?;
+    if old.is_none() {
+        device.ready(key)?;
     }
-    Ok(())
+    found.note(key, old)
 }
 
 /// The tile under the key, shared, or None where none stands.
