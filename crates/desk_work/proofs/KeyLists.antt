@@ -49,7 +49,8 @@ module _ (f : Key → Bool) (rects : List Area) (i : ℕ) where
   pub rects_ended : length rects ≤ i → list_all f (all_keys_of (drop i rects)) ≡ list_all f (all_keys_of rects) → list_all f (all_keys_of rects) ≡ true
   rects_ended past so_far = sym so_far ∙ ap (λ rs. list_all f (all_keys_of rs)) (drop_all i rects past)
 
-apart : (a b : Key) → same_key a b ≡ false → same_key b a ≡ false
+-- where the second isn't the first
+pub apart : (a b : Key) → same_key a b ≡ false → same_key b a ≡ false
 apart a b e = go (same_key b a) refl
   where
     clash : same_key b a ≡ true → ⊥

@@ -6,3 +6,4 @@ pub mod SlotPoints
 pub mod PairsLaid
 pub mod ShotsRead
 pub mod Lackings
+pub mod InOrder

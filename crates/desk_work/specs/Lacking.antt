@@ -1,5 +1,5 @@
 -- Tiles made whole, beside the job that is to be committed by them.
-use Rattle.std.specs.Prelude.{◌≡◌, ◌||◌, Bool, true, false, List, [], ◌∷◌}
+use Rattle.std.specs.Prelude.{◌≡◌, ◌||◌, Bool, true, false, List, [], ◌∷◌, map}
 use Rattle.std.specs.List.{list_any}
 use Rattle.std.specs.FinSet as set
 use Rattle.std.specs.FinSet.{FinSet}
@@ -27,3 +27,7 @@ is_seen published keys key = list_any (same_key key) published || set.contains k
 pub record IsNext (job : Job) (published : List Key) (keys : FinSet key_cmp) (key : Key) : Type 0 where
   pub in_job : list_any (same_key key) (all_keys_of (writes job)) ≡ true
   pub fresh : is_seen published keys key ≡ false
+
+-- the keys of the tiles, in their order
+abbrev pub keys_of_tiles : List Entire → List Key
+keys_of_tiles tiles = map (λ (x : Entire). x.key) tiles

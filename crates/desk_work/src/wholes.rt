@@ -12,7 +12,7 @@ ghost use Rattle.doc_model.specs.Lawful.{within_limits};
 ghost use Rattle.doc_model.specs.Jobs.{checks, reads, writes};
 ghost use Rattle.job_core.specs.Paints.{layer_of, paint};
 ghost use Rattle.desk_steps.specs.Archives.{layer_under_way, with_put};
-ghost use Rattle.desk_work.specs.Lacking.{IsOfJob, AreLacking, IsNext, is_seen};
+ghost use Rattle.desk_work.specs.Lacking.{IsOfJob, AreLacking, IsNext, is_seen, keys_of_tiles};
 
 use crate::painting::writes_in;
 use desk_parts::{Painter, has_key};
@@ -48,6 +48,9 @@ pub fn are_lacking(alloc: Global, painter: &Painter, tiles: &[Whole]) -> Result<
     ensures some { result ≡ Ok true → AreLacking painter.now.job (layer_of painter.now.shot) painter.now.published tiles.now }
     ensures none { result ≡ Ok false → AreLacking painter.now.job (layer_of painter.now.shot) painter.now.published tiles.now → ⊥ }
 {
+    if are_in_order(painter, tiles) {
+        return Ok(true);
+    }
     let mut keys = BTreeSet::new(alloc);
     for whole in tiles {
         if !is_next(painter, &keys, whole) {
@@ -56,6 +59,40 @@ pub fn are_lacking(alloc: Global, painter: &Painter, tiles: &[Whole]) -> Result<
         keys.insert(whole.key())?;
     }
     Ok(has_all(painter, &keys))
+}
+
+/// Whether nothing of the job is published, it writes one rectangle, and tiles that were made of it are
+/// that rectangle's, in row order. No memory.
+fn are_in_order(painter: &Painter, tiles: &[Whole]) -> bool
+    requires checked { checks painter.now.job ≡ true }
+    requires limits { within_limits painter.now.job ≡ true }
+    requires of { All (IsOfJob painter.now.job (layer_of painter.now.shot)) tiles.now }
+    ensures { result ≡ true → AreLacking painter.now.job (layer_of painter.now.shot) painter.now.published tiles.now }
+{
+    if !painter.published.as_slice().is_empty() {
+        return false;
+    }
+    let writes = painter.job.writes();
+    let rects = writes.as_slice();
+    if rects.len() != 1 {
+        return false;
+    }
+    are_all_of(&rects[0], tiles)
+}
+
+/// Whether the tiles are just those that the rectangle meets, in row order.
+fn are_all_of(rect: &Rect, tiles: &[Whole]) -> bool
+    ensures { IsTrue result ↔ (keys_of_tiles tiles.now ≡ keys_of rect.now) }
+{
+    if tiles.len() != rect.tile_count() as usize {
+        return false;
+    }
+    for i in 0..rect.tile_count() {
+        if tiles[i as usize].key() != rect.tile_at(i) {
+            return false;
+        }
+    }
+    true
 }
 
 /// Whether the job writes in the tile's place, which is neither published nor among the keys.
