@@ -34,7 +34,7 @@ lines_from s b (suc i) n =
     ∙ ap (λ k. lines s b (suc i) ++ (row_colours s k ++ lines s (b + 1 + suc i) n)) z ∙ ap (λ k. lines s b (suc i) ++ (row_colours s (b + suc i) ++ lines s k n)) t
 
 -- one row in the middle
-pub lines_at : (s : Scene) (y n : ℕ) → y < n → lines s 0 n ≡ lines s 0 y ++ (row_colours s y ++ lines s (suc y) (n - suc y))
+lines_at : (s : Scene) (y n : ℕ) → y < n → lines s 0 n ≡ lines s 0 y ++ (row_colours s y ++ lines s (suc y) (n - suc y))
 lines_at s y n h =
     let e : n ≡ y + suc (n - suc y) = omega arith in
     let z : 0 + y ≡ y = omega arith in

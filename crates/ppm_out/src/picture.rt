@@ -1,8 +1,8 @@
 //! Portable pixmaps of kind P6, as Netpbm's page on PPM has them.
 
-ghost use Rattle.std.specs.Prelude.{◌*◌, ◌≤◌, OnOk, OnErr, length, All};
+ghost use Rattle.std.specs.Prelude.{◌≡◌, ◌+◌, ◌*◌, ◌≤◌, OnOk, OnErr, length, All};
 ghost use Rattle.std.specs.List.{flat_map};
-ghost use Rattle.tile_core.specs.Frames.{Scene, Shows};
+ghost use Rattle.tile_core.specs.Frames.{Scene, Shows, rows_colours};
 ghost use Rattle.std.specs.Io.KnownBytes.{Appends};
 ghost use Rattle.io_edge.specs.Told.{AppendsPrefix};
 ghost use Rattle.io_edge.specs.Faults.{HasCause};
@@ -14,25 +14,48 @@ use itoa::Buffer;
 use tile_core::{Film, Frame};
 
 /// Writes a frame as a pixmap: a header, and then red, green and blue of each point, the rows from
-/// the top and each row from the left. The row buffer has at least three bytes a column. It takes no
-/// memory.
+/// the top and each row from the left. The room is for at least three bytes a column. As many rows
+/// as it has room for are laid and written at a time; room for 64 of them is best, since a tile has
+/// as many. It takes no memory.
 ///
 /// # Errors
 /// `Failed` only where the sink's count of faults rose. The sink then took the first of the bytes.
-pub fn write_frame<K: Sink>(frame: &Frame, row: &mut [u8], out: &mut K) -> Result<(), Failed>
-    requires room { 3 * frame.now.width ≤ length row.old }
+pub fn write_frame<K: Sink>(frame: &Frame, room: &mut [u8], out: &mut K) -> Result<(), Failed>
+    requires room { 3 * frame.now.width ≤ length room.old }
     ensures ok { OnOk result (Appends (K.taken out.old) (K.taken out.new) (frame_bytes frame.now.width frame.now.height (colours_of frame.now))) }
     ensures err { OnErr result (AppendsPrefix (K.taken out.old) (K.taken out.new) (frame_bytes frame.now.width frame.now.height (colours_of frame.now))) }
     ensures cause { HasCause (K.faults out.old) (K.faults out.new) result }
 {
-    let w = frame.width();
-    let h = frame.height();
-    write_header(w, h, out)?;
-    for y in 0..h {
-        frame.row_into(y, row);
-        write_all(out, &row[..3 * w as usize])?;
+    let columns = frame.width();
+    let rows = frame.height();
+    write_header(columns, rows, out)?;
+    let across = 3 * columns as usize;
+    let most = (room.len() / across).min(rows as usize) as u16;
+    let mut top = 0;
+    while top < rows {
+        let n = (rows - top).min(most);
+        write_band(frame, top, n, &mut room[..across * n as usize], out)?;
+        top += n;
     }
     Ok(())
+}
+
+/// Lays n rows of a frame from `top` on in a band of just as many bytes, and writes them.
+fn write_band<K: Sink>(
+    frame: &Frame,
+    top: u16,
+    n: u16,
+    band: &mut [u8],
+    out: &mut K,
+) -> Result<(), Failed>
+    requires inside { top + n ≤ frame.now.height }
+    requires whole { length band.old ≡ 3 * (frame.now.width * n) }
+    ensures ok { OnOk result (Appends (K.taken out.old) (K.taken out.new) (rows_colours frame.now top n)) }
+    ensures err { OnErr result (AppendsPrefix (K.taken out.old) (K.taken out.new) (rows_colours frame.now top n)) }
+    ensures cause { HasCause (K.faults out.old) (K.faults out.new) result }
+{
+    frame.rows_into(top, n, band);
+    write_all(out, band)
 }
 
 /// Writes the frames of a film as pixmaps, one after another. `picture` has room for the colours of

@@ -1,39 +1,42 @@
-use Rattle.std.proofs.Common.{◌≡◌, suc, ◌-◌, ◌*◌, ◌<◌, [], ◌++◌, take, ap, sym, ◌∙◌, append_assoc, refl, arith, rules}
+use Rattle.std.proofs.Common.{◌+◌, ◌-◌, [], ◌++◌, ap, ◌∙◌, append_assoc, append-nil, refl, arith}
 use Rattle.std.specs.List.{concat}
 use Rattle.std.proofs.KnownBytes.{Appends-nil}
-use Rattle.tile_core.specs.Frames.{row_colours}
+use Rattle.tile_core.specs.Frames.{rows_colours}
 use Rattle.io_edge.proofs.Written.{prefix_behind, appends_to, on_err_any}
 use Rattle.ppm_out.specs.Pictures.{header, frame_bytes}
 use Rattle.ppm_out.specs.Scenes.{colours_of}
-use Rattle.ppm_out.proofs.Lines.{lines, lines_at, lines_more, row_at_front}
+use Rattle.ppm_out.proofs.Bands.{band_more, bands_all, band_at}
 use Rattle.ppm_out.proofs.picture.write_frame.Goals as goal
 
 pub returns-in_err-write_header-clause-err : goal.returns-in_err-write_header-clause-err
 returns-in_err-write_header-clause-err g c =
     let s = c.args.frame.now in
     on_err_any c.from_residual.result
-    (prefix_behind _ _ _ [] (header s.width s.height) (concat (colours_of s)) (frame_bytes s.width s.height (colours_of s)) (Appends-nil _) (rw (← c.width-w.ensures.value, ← c.height-h.ensures.value) c.in_err-write_header.ensures.err) refl)
+    (prefix_behind _ _ _ [] (header s.width s.height) (concat (colours_of s)) (frame_bytes s.width s.height (colours_of s)) (Appends-nil _) (rw (← c.width-columns.ensures.value, ← c.height-rows.ensures.value) c.in_err-write_header.ensures.err) refl)
 
-pub returns-in_err-write_all-clause-err : goal.returns-in_err-write_all-clause-err
-returns-in_err-write_all-clause-err g c =
+pub returns-in_err-write_band-clause-err : goal.returns-in_err-write_band-clause-err
+returns-in_err-write_band-clause-err g c =
     let s = c.args.frame.now in
-    let y = c.loop-y.y in
-    let front = header s.width s.height in
-    let below : y < s.height = omega arith in
-    let whole : frame_bytes s.width s.height (colours_of s) ≡ (front ++ lines s 0 y) ++ (row_colours s y ++ lines s (suc y) (s.height - suc y)) =
-    ap (λ l. front ++ l) (lines_at s y s.height below) ∙ sym (append_assoc front _ _) in
-    let shown : take (3 * c.width-w.result) c.row_into.new.row ≡ row_colours s y = rw (c.width-w.ensures.value) (row_at_front s y c.loop-y.row c.row_into.new.row c.row_into.ensures) in
-    on_err_any c.from_residual-in_err-write_all.result
-    (prefix_behind _ _ _ _ (row_colours s y) (lines s (suc y) (s.height - suc y)) (frame_bytes s.width s.height (colours_of s)) c.loop-y.invariant.so_far (rw (← shown) c.in_err-write_all.ensures.err) whole)
+    let y = c.loop-top.top in
+    let n = c.min-n.result in
+    on_err_any c.from_residual-in_err-write_band.result
+    (prefix_behind _ _ _ _ (rows_colours s y n) (rows_colours s (y + n) (s.height - (y + n))) (frame_bytes s.width s.height (colours_of s)) c.loop-top.invariant.so_far c.in_err-write_band.ensures.err
+    (band_at s y n (omega (arith, c.min-n.ensures, c.height-rows.ensures.value, c.loop-top-test.true))))
 
-pub loop-y-preserved : goal.loop-y-preserved
-loop-y-preserved g c =
+pub loop-top-preserved : goal.loop-top-preserved
+loop-top-preserved g c =
     let s = c.args.frame.now in
-    let y = c.loop-y.y in
+    let y = c.loop-top.top in
+    let n = c.min-n.result in
     let front = header s.width s.height in
-    let shown : take (3 * c.width-w.result) c.row_into.new.row ≡ row_colours s y = rw (c.width-w.ensures.value) (row_at_front s y c.loop-y.row c.row_into.new.row c.row_into.ensures) in
     record {
-      later = omega (arith, c.loop-y.invariant.later, c.write_all.ensures.cause.later);
-      room = search rules;
-      so_far = appends_to _ _ _ _ _ _ c.loop-y.invariant.so_far c.in_ok-write_all.ensures.ok (rw shown (append_assoc front _ _ ∙ ap (λ l. front ++ l) (lines_more s y)));
+      in_range = omega (arith, c.min-n.ensures, c.height-rows.ensures.value, c.loop-top-test.true);
+      later = omega (arith, c.loop-top.invariant.later, c.write_band.ensures.cause.later);
+      so_far = appends_to _ _ _ _ _ _ c.loop-top.invariant.so_far c.in_ok-write_band.ensures.ok (append_assoc front (rows_colours s 0 y) (rows_colours s y n) ∙ ap (λ l. front ++ l) (band_more s y n));
     }
+
+pub returns-clause-ok : goal.returns-clause-ok
+returns-clause-ok g c =
+    let s = c.args.frame.now in
+    appends_to _ _ _ _ [] _ c.loop-top.invariant.so_far (Appends-nil _) (append_assoc (header s.width s.height) (rows_colours s 0 c.loop-top.top) []
+    ∙ ap (λ l. header s.width s.height ++ l) (append-nil (rows_colours s 0 c.loop-top.top) ∙ bands_all s c.loop-top.top (omega (arith, c.loop-top.invariant.in_range, c.height-rows.ensures.value, c.loop-top-test.false))))
