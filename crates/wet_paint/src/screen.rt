@@ -1,6 +1,6 @@
 //! What the screen's thread does: it looks, and writes what it sees.
 
-ghost use Rattle.std.specs.Prelude.{IsTrue, ◌↔◌};
+ghost use Rattle.std.specs.Prelude.{◌≡◌, ◌≤ℤ◌, ◌<ℤ◌, ◌*ℤ◌, pos, true};
 ghost use Rattle.live_view.specs.Views.{IsOnCanvas};
 ghost use Rattle.tile_core.specs.Frames.{IsTileOf};
 
@@ -39,13 +39,16 @@ fn bare(alloc: Global, script: &Script) -> Result<Frame, NoMemory> {
 
 /// Whether the key is that of a tile of the frame's canvas.
 fn has_tile(frame: &Frame, key: TileKey) -> bool
-    ensures { IsTrue result ↔ IsTileOf frame.now key }
+    ensures { result ≡ true → IsTileOf frame.now key }
 {
-    let (col, row) = (i32::from(key.col), i32::from(key.row));
-    0 <= col
-        && 64 * col < i32::from(frame.width())
-        && 0 <= row
-        && 64 * row < i32::from(frame.height())
+    lies_in(key.col, frame.width()) && lies_in(key.row, frame.height())
+}
+
+/// Whether a column of tiles has some of so many columns of points, or a row of so many rows.
+fn lies_in(tile: i16, points: u16) -> bool
+    ensures { result ≡ true → (pos 0 ≤ℤ tile) × ((pos 64 *ℤ tile) <ℤ pos points) }
+{
+    0 <= tile && 64 * i32::from(tile) < i32::from(points)
 }
 
 /// Puts the tile that the reader sees into the frame, if there is one.
