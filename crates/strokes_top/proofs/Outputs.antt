@@ -1,6 +1,8 @@
 -- What a painted script shows is what is written of it.
-use Rattle.std.proofs.Common.{◌≡◌, ◌≤◌, ◌∙◌, ◌*◌, ◌⊎◌, inl, inr, ℕ, List, [], ◌∷◌, ◌++◌, length, map, ◌+◌, Option, true, false, Result, OnOk, refl, sym, ap, ap₂, subst, arith}
+use Rattle.std.proofs.Common.{◌≡◌, ◌≢◌, ◌≤◌, ◌∙◌, ◌*◌, min, max, ◌⊎◌, inl, inr, ℕ, List, [], ◌∷◌, ◌++◌, length, get_or, map, ◌+◌, Option, true, false, Result, OnOk, refl, sym, ap, ap₂, subst, arith}
 use Rattle.std.specs.List.{All, flat_map}
+use Rattle.std.proofs.Math.Nat.{le-mul_of_pos_right}
+use Rattle.std.proofs.lemmas.Bool.Decides.{nat_tests}
 use Rattle.std.proofs.lemmas.List.{append-nil}
 use Rattle.std.proofs.lemmas.List.Elements.{All-nil, All-cons, All-head, All-tail}
 use Rattle.std.specs.Io.KnownBytes.{Appends}
@@ -22,7 +24,7 @@ use Rattle.strokes_top.specs.declared.choice.Emit.{Emit}
 use Rattle.strokes_top.specs.declared.choice.Emit.TheVariants as emit
 use Rattle.strokes_top.specs.declared.choice.Choice.{Choice}
 use Rattle.strokes_top.specs.Choice.{is_of_artists, is_trace}
-use Rattle.strokes_top.specs.Output.{HasRoom, ShowsFor}
+use Rattle.strokes_top.specs.Output.{HasRoom, ShowsFor, rows_at_once}
 use Rattle.strokes_top.specs.Run.{IsWhole, lead, output}
 use Rattle.trace_out.specs.Traces.{IsTraceOf}
 
@@ -83,21 +85,52 @@ sides_of emit.Log script scenes outcomes which h = absurd (no_pictures_in_log wh
 sides_of emit.Sum script scenes outcomes which h = absurd (no_pictures_in_sum which)
 sides_of emit.Trace script scenes outcomes which h = absurd (no_pictures_in_trace which)
 
--- and there is room for one
-pub room_of : (e : Emit) (canvas : Canvas) (room : List ℕ) → IsPictures e → HasRoom e canvas room → 3 * (canvas.w * canvas.h) ≤ length room
-room_of emit.Picture canvas room which h = h
-room_of emit.Live canvas room which h = h
-room_of emit.Log canvas room which h = absurd (no_pictures_in_log which)
-room_of emit.Sum canvas room which h = absurd (no_pictures_in_sum which)
-room_of emit.Trace canvas room which h = absurd (no_pictures_in_trace which)
+-- and there is room for so many of its rows
+pub room_of : (e : Emit) (canvas : Canvas) (scenes : List Scene) (room : List ℕ) → IsPictures e → HasRoom e canvas scenes room → 3 * (canvas.w * rows_at_once (length scenes) canvas.h) ≤ length room
+room_of emit.Picture canvas scenes room which h = h
+room_of emit.Live canvas scenes room which h = h
+room_of emit.Log canvas scenes room which h = absurd (no_pictures_in_log which)
+room_of emit.Sum canvas scenes room which h = absurd (no_pictures_in_sum which)
+room_of emit.Trace canvas scenes room which h = absurd (no_pictures_in_trace which)
 
 -- room for a picture of the canvas's sides is room for each frame
-pub room_each : (canvas : Canvas) (n : ℕ) (scenes : List Scene) → 3 * (canvas.w * canvas.h) ≤ n → All (HasSides canvas) scenes → All (λ (f : Scene). 3 * (f.width * f.height) ≤ n) scenes
-room_each canvas n [] h sides = All-nil (λ (f : Scene). 3 * (f.width * f.height) ≤ n)
-room_each canvas n (s ∷ scenes) h sides =
+room_whole : (canvas : Canvas) (n : ℕ) (scenes : List Scene) → 3 * (canvas.w * canvas.h) ≤ n → All (HasSides canvas) scenes → All (λ (f : Scene). 3 * (f.width * f.height) ≤ n) scenes
+room_whole canvas n [] h sides = All-nil (λ (f : Scene). 3 * (f.width * f.height) ≤ n)
+room_whole canvas n (s ∷ scenes) h sides =
     let these : HasSides canvas s = All-head (HasSides canvas) s scenes sides in
     let one : 3 * (s.width * s.height) ≤ n = rw (these.width, these.height) h in
-    All-cons (λ (f : Scene). 3 * (f.width * f.height) ≤ n) s scenes one (room_each canvas n scenes h (All-tail (HasSides canvas) s scenes sides))
+    All-cons (λ (f : Scene). 3 * (f.width * f.height) ≤ n) s scenes one (room_whole canvas n scenes h (All-tail (HasSides canvas) s scenes sides))
+
+-- of several pictures all rows are laid at once
+several : (n h : ℕ) → 2 ≤ n → rows_at_once n h ≡ h
+several n h l = grind (arith, nat_tests)
+
+-- where there is not one picture alone, there is room for each
+pub room_each : (canvas : Canvas) (n : ℕ) (scenes : List Scene) → length scenes ≢ 1 → 3 * (canvas.w * rows_at_once (length scenes) canvas.h) ≤ n → All (HasSides canvas) scenes → All (λ (f : Scene). 3 * (f.width * f.height) ≤ n) scenes
+room_each canvas n [] many h sides = All-nil (λ (f : Scene). 3 * (f.width * f.height) ≤ n)
+room_each canvas n (s ∷ []) many h sides = absurd (many refl)
+room_each canvas n (s ∷ t ∷ scenes) many h sides =
+    let all : rows_at_once (length (s ∷ t ∷ scenes)) canvas.h ≡ canvas.h = several (length (s ∷ t ∷ scenes)) canvas.h (omega arith) in
+    room_whole canvas n (s ∷ t ∷ scenes) (subst (λ i. 3 * (canvas.w * i) ≤ n) all h) sides
+
+-- one picture alone
+pub one_alone : (scenes : List Scene) (s : Scene) → length scenes ≡ 1 → s ≡ get_or scenes 0 s → scenes ≡ s ∷ []
+one_alone [] s n e = absurd (omega arith)
+one_alone (t ∷ []) s n e = ap (λ x. x ∷ []) (sym e)
+one_alone (t ∷ u ∷ scenes) s n e = absurd (omega arith)
+
+-- there is room for one of its rows
+pub room_alone : (canvas : Canvas) (n : ℕ) (scenes : List Scene) (s : Scene) → scenes ≡ s ∷ [] → 3 * (canvas.w * rows_at_once (length scenes) canvas.h) ≤ n → All (HasSides canvas) scenes → 3 * s.width ≤ n
+room_alone canvas n scenes s only h sides =
+    let some : 1 ≤ max 1 (min canvas.h 64) = omega arith in
+    let row : canvas.w ≤ canvas.w * max 1 (min canvas.h 64) = le-mul_of_pos_right canvas.w some in
+    let these : HasSides canvas s = All-head (HasSides canvas) s [] (subst (λ l. All (HasSides canvas) l) only sides) in
+    let rows : 3 * (canvas.w * max 1 (min canvas.h 64)) ≤ n = subst (λ l. 3 * (canvas.w * rows_at_once (length l) canvas.h) ≤ n) only h in
+    omega (arith, row, rows, these.width)
+
+-- and its pixmap is the output
+pub picture_is : (e : Emit) (script : Contents) (scenes : List Scene) (outcomes : List Outcome) (s : Scene) → scenes ≡ s ∷ [] → IsPictures e → ShowsFor e script scenes outcomes → scene_bytes s ≡ output e script
+picture_is e script scenes outcomes s only which h = sym (append-nil (scene_bytes s)) ∙ ap (flat_map scene_bytes) (sym only) ∙ pictures_are e script scenes outcomes which h
 
 pub log_is : (script : Contents) (scenes : List Scene) (outcomes : List Outcome) → Shows script scenes outcomes → log_text (entries script.commands) outcomes ≡ output emit.Log script
 log_is script scenes outcomes h = ap (log_text (entries script.commands)) h.outcomes_are

@@ -56,7 +56,7 @@ fn paint<R: Threads + Wait + Sync, K: Sink, G: Gate>(
     let Ok(painting) = painted(rt, alloc, asked, script, gate) else {
         return Status::NoMemory;
     };
-    let Ok(mut room) = room_for(alloc, emit, painting.script.canvas()) else {
+    let Ok(mut room) = room_for(alloc, emit, painting.script.canvas(), &painting.shown.film) else {
         return Status::NoMemory;
     };
     let refused = some_refused(&painting.shown.outcomes);

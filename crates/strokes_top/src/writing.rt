@@ -1,10 +1,10 @@
 //! Writing what is asked for of a painted script.
 
-ghost use Rattle.std.specs.Prelude.{◌++◌, IfOk, OnOk, OnErr};
+ghost use Rattle.std.specs.Prelude.{◌≡◌, ◌++◌, IfOk, OnOk, OnErr, length};
 ghost use Rattle.std.specs.Io.KnownBytes.{Appends};
 ghost use Rattle.io_edge.specs.Told.{AppendsPrefix};
 ghost use Rattle.io_edge.specs.Faults.{HasCause};
-ghost use Rattle.strokes_top.specs.Output.{HasRoom, ShowsFor};
+ghost use Rattle.strokes_top.specs.Output.{HasRoom, ShowsFor, rows_at_once as said_rows};
 ghost use Rattle.strokes_top.specs.Run.{output};
 
 use crate::choice::Emit;
@@ -13,15 +13,34 @@ use crew_run::Shown;
 use doc_model::Canvas;
 use io_edge::{Failed, Sink, write_all};
 use log_out::{write_log, write_sum};
-use ppm_out::write_frames;
+use ppm_out::{write_frame, write_frames};
 use script_text::Script;
 use std::alloc::{AllocError, Global};
+use tile_core::Film;
 
-/// Room for what has to be kept while the output is written: for pictures, the colours of one frame.
-pub(crate) fn room_for(alloc: Global, emit: Emit, canvas: Canvas) -> Result<Vec<u8>, AllocError>
-    ensures { IfOk result (λ v. HasRoom emit canvas v.items) }
+/// How many of the rows of a film's pictures are laid before they are written: all of them where a later
+/// picture follows from the one before, and otherwise those of one row of tiles.
+fn rows_at_once(film: &Film, rows: u16) -> u16
+    ensures { result ≡ said_rows (length film.now) rows }
 {
-    let colours = 3 * (canvas.w as usize * canvas.h as usize);
+    if film.frames().len() > 1 {
+        rows
+    } else {
+        rows.clamp(1, 64)
+    }
+}
+
+/// Room for what has to be kept while the output is written: for several pictures the colours of one of
+/// them, and for a single one those of a band of its rows.
+pub(crate) fn room_for(
+    alloc: Global,
+    emit: Emit,
+    canvas: Canvas,
+    film: &Film,
+) -> Result<Vec<u8>, AllocError>
+    ensures { IfOk result (λ v. HasRoom emit canvas film.now v.items) }
+{
+    let colours = 3 * (canvas.w as usize * rows_at_once(film, canvas.h) as usize);
     match emit {
         Emit::Picture | Emit::Live => vec![in alloc; 0; colours],
         Emit::Log | Emit::Sum | Emit::Trace => Ok(Vec::new(alloc)),
@@ -40,13 +59,16 @@ fn write_output<K: Sink>(
     out: &mut K,
 ) -> Result<(), Failed>
     requires shows { ShowsFor emit script.now shown.now.film shown.now.outcomes.items }
-    requires room { HasRoom emit script.now.canvas room.old }
+    requires room { HasRoom emit script.now.canvas shown.now.film room.old }
     ensures ok { OnOk result (Appends (K.taken out.old) (K.taken out.new) (output emit script.now)) }
     ensures err { OnErr result (AppendsPrefix (K.taken out.old) (K.taken out.new) (output emit script.now)) }
     ensures cause { HasCause (K.faults out.old) (K.faults out.new) result }
 {
     match emit {
-        Emit::Picture | Emit::Live => write_frames(&shown.film, room, out),
+        Emit::Picture | Emit::Live => match shown.film.frames() {
+            [frame] => write_frame(frame, room, out),
+            _ => write_frames(&shown.film, room, out),
+        },
         Emit::Log => write_log(script, &shown.outcomes, out),
         Emit::Sum => write_sum(shown.film.frames(), &shown.outcomes, out),
         Emit::Trace => Ok(()),
@@ -64,7 +86,7 @@ pub(crate) fn write_painting<K: Sink>(
     out: &mut K,
 ) -> Result<(), Failed>
     requires shows { ShowsFor emit painting.now.script painting.now.shown.film painting.now.shown.outcomes.items }
-    requires room { HasRoom emit painting.now.script.canvas room.old }
+    requires room { HasRoom emit painting.now.script.canvas painting.now.shown.film room.old }
     ensures ok { OnOk result (Appends (K.taken out.old) (K.taken out.new) (painting.now.lead.items ++ output emit painting.now.script)) }
     ensures err { OnErr result (AppendsPrefix (K.taken out.old) (K.taken out.new) (painting.now.lead.items ++ output emit painting.now.script)) }
     ensures cause { HasCause (K.faults out.old) (K.faults out.new) result }
