@@ -3,4 +3,4 @@
 
 mod picture;
 
-pub use picture::{write_frame, write_frames};
+pub use picture::{Alone, LaysRows, write_frame, write_frames};

@@ -13,14 +13,39 @@ use io_edge::{Failed, Sink, write_all, write_pieces};
 use itoa::Buffer;
 use tile_core::{Film, Frame};
 
+/// How the rows of frames are turned into colours: by the caller alone, or by several threads.
+pub trait LaysRows {
+    /// Writes red, green and blue of each point of n rows from `top` on, in row order, to a band of just
+    /// as many bytes.
+    fn lay(&self, frame: &Frame, top: u16, n: u16, band: &mut [u8])
+        requires inside { top + n ≤ frame.now.height }
+        requires whole { length band.old ≡ 3 * (frame.now.width * n) }
+        ensures { band.new ≡ rows_colours frame.now top n };
+}
+
+/// The caller alone.
+#[derive(Clone, Copy)]
+pub struct Alone;
+
+impl LaysRows for Alone {
+    fn lay(&self, frame: &Frame, top: u16, n: u16, band: &mut [u8]) {
+        frame.rows_into(top, n, band);
+    }
+}
+
 /// Writes a frame as a pixmap: a header, and then red, green and blue of each point, the rows from
 /// the top and each row from the left. The room is for at least three bytes a column. As many rows
-/// as it has room for are laid and written at a time; room for 64 of them is best, since a tile has
-/// as many. It takes no memory.
+/// as it has room for are laid and written at a time; room for 64 of them is best for one who lays
+/// alone, since a tile has as many. It takes no memory of its own.
 ///
 /// # Errors
 /// `Failed` only where the sink's count of faults rose. The sink then took the first of the bytes.
-pub fn write_frame<K: Sink>(frame: &Frame, room: &mut [u8], out: &mut K) -> Result<(), Failed>
+pub fn write_frame<L: LaysRows, K: Sink>(
+    frame: &Frame,
+    room: &mut [u8],
+    lays: &L,
+    out: &mut K,
+) -> Result<(), Failed>
     requires room { 3 * frame.now.width ≤ length room.old }
     ensures ok { OnOk result (Appends (K.taken out.old) (K.taken out.new) (frame_bytes frame.now.width frame.now.height (colours_of frame.now))) }
     ensures err { OnErr result (AppendsPrefix (K.taken out.old) (K.taken out.new) (frame_bytes frame.now.width frame.now.height (colours_of frame.now))) }
@@ -34,18 +59,19 @@ pub fn write_frame<K: Sink>(frame: &Frame, room: &mut [u8], out: &mut K) -> Resu
     let mut top = 0;
     while top < rows {
         let n = (rows - top).min(most);
-        write_band(frame, top, n, &mut room[..across * n as usize], out)?;
+        write_band(frame, top, n, &mut room[..across * n as usize], lays, out)?;
         top += n;
     }
     Ok(())
 }
 
 /// Lays n rows of a frame from `top` on in a band of just as many bytes, and writes them.
-fn write_band<K: Sink>(
+fn write_band<L: LaysRows, K: Sink>(
     frame: &Frame,
     top: u16,
     n: u16,
     band: &mut [u8],
+    lays: &L,
     out: &mut K,
 ) -> Result<(), Failed>
     requires inside { top + n ≤ frame.now.height }
@@ -54,17 +80,22 @@ fn write_band<K: Sink>(
     ensures err { OnErr result (AppendsPrefix (K.taken out.old) (K.taken out.new) (rows_colours frame.now top n)) }
     ensures cause { HasCause (K.faults out.old) (K.faults out.new) result }
 {
-    frame.rows_into(top, n, band);
+    lays.lay(frame, top, n, band);
     write_all(out, band)
 }
 
 /// Writes the frames of a film as pixmaps, one after another. `picture` has room for the colours of
 /// each frame, which it keeps for the next one: only the tiles that may differ are laid anew. It
-/// takes no memory.
+/// takes no memory of its own.
 ///
 /// # Errors
 /// `Failed` only where the sink's count of faults rose. The sink then took the first of the bytes.
-pub fn write_frames<K: Sink>(film: &Film, picture: &mut [u8], out: &mut K) -> Result<(), Failed>
+pub fn write_frames<L: LaysRows, K: Sink>(
+    film: &Film,
+    picture: &mut [u8],
+    lays: &L,
+    out: &mut K,
+) -> Result<(), Failed>
     requires room { All (λ (f : Scene). 3 * (f.width * f.height) ≤ length picture.old) film.now }
     ensures ok { OnOk result (Appends (K.taken out.old) (K.taken out.new) (flat_map scene_bytes film.now)) }
     ensures err { OnErr result (AppendsPrefix (K.taken out.old) (K.taken out.new) (flat_map scene_bytes film.now)) }
@@ -72,10 +103,24 @@ pub fn write_frames<K: Sink>(film: &Film, picture: &mut [u8], out: &mut K) -> Re
 {
     let frames = film.frames();
     for i in 0..frames.len() {
-        film.lay(i, picture);
+        if i == 0 {
+            lay_whole(&frames[0], lays, picture);
+        } else {
+            film.lay(i, picture);
+        }
         write_picture(&frames[i], picture, out)?;
     }
     Ok(())
+}
+
+/// Lays all rows of a frame at the front of the picture.
+fn lay_whole<L: LaysRows>(frame: &Frame, lays: &L, picture: &mut [u8])
+    requires room { 3 * (frame.now.width * frame.now.height) ≤ length picture.old }
+    ensures shown { Shows frame.now picture.new }
+    ensures rest { length picture.new ≡ length picture.old }
+{
+    let places = 3 * (frame.width() as usize * frame.height() as usize);
+    lays.lay(frame, 0, frame.height(), &mut picture[..places]);
 }
 
 /// Writes the pixmap of a frame whose colours stand in the picture.

@@ -13,7 +13,7 @@ use crew_run::Shown;
 use doc_model::Canvas;
 use io_edge::{Failed, Sink, write_all};
 use log_out::{write_log, write_sum};
-use ppm_out::{write_frame, write_frames};
+use ppm_out::{Alone, write_frame, write_frames};
 use script_text::Script;
 use std::alloc::{AllocError, Global};
 use tile_core::Film;
@@ -66,8 +66,8 @@ fn write_output<K: Sink>(
 {
     match emit {
         Emit::Picture | Emit::Live => match shown.film.frames() {
-            [frame] => write_frame(frame, room, out),
-            _ => write_frames(&shown.film, room, out),
+            [frame] => write_frame(frame, room, &Alone, out),
+            _ => write_frames(&shown.film, room, &Alone, out),
         },
         Emit::Log => write_log(script, &shown.outcomes, out),
         Emit::Sum => write_sum(shown.film.frames(), &shown.outcomes, out),

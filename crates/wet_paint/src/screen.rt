@@ -8,7 +8,7 @@ use crate::paint::WetError;
 use geom_core::{NoMemory, TileKey};
 use io_edge::StdSink;
 use live_view::LiveReader;
-use ppm_out::write_frame;
+use ppm_out::{Alone, write_frame};
 use script_text::Script;
 use std::alloc::Global;
 use std::sync::Wait;
@@ -117,6 +117,6 @@ pub(crate) fn write_picture<R: Print>(
     picture: &Frame,
 ) -> Result<(), WetError> {
     let mut row = vec![in alloc; 0; 3 * picture.width() as usize]?;
-    write_frame(picture, &mut row, &mut StdSink::new(io::writer(rt)))?;
+    write_frame(picture, &mut row, &Alone, &mut StdSink::new(io::writer(rt)))?;
     Ok(())
 }
