@@ -25,7 +25,10 @@ fn one_point_of_paper(rt: HostRuntime) -> Result<(), Fail> {
     assert_eq!(rt; write_frame(&frame, &mut row, &Alone, &mut whole), Ok(()));
     assert_eq!(rt; whole.bytes(), b"P6\n1 1\n255\n\x33\x66\x99".as_slice());
     let mut part = MemSink::new(vec![in alloc; 0; 64]?, 8, vec![in alloc; 2]?);
-    assert_eq!(rt; write_frame(&frame, &mut row, &Alone, &mut part), Err(Failed));
+    assert_eq!(rt;
+        write_frame(&frame, &mut row, &Alone, &mut part),
+        Err(Failed)
+    );
     assert_eq!(rt; part.bytes(), b"P6\n".as_slice());
     Ok(())
 }
