@@ -1,5 +1,5 @@
 -- A picture's rows, by bands of as many as there is room for.
-use Rattle.std.proofs.Common.{◌≡◌, ℕ, ◌+◌, ◌-◌, ◌≤◌, ◌++◌, sym, ap, ◌∙◌, append_assoc, arith}
+use Rattle.std.proofs.Common.{◌≡◌, ℕ, ◌+◌, ◌-◌, ◌*◌, ◌≤◌, ◌++◌, sym, ap, ◌∙◌, append_assoc, arith}
 use Rattle.std.specs.Prelude.{pos}
 use Rattle.std.specs.List.{concat}
 use Rattle.geom_core.specs.Areas.{area, points_of}
@@ -28,3 +28,10 @@ band_at s y n h =
     let e : y + n + (s.height - (y + n)) ≡ s.height = omega arith in
     ap (λ l. front ++ l) (sym (bands_all s (y + n + (s.height - (y + n))) e) ∙ sym (band_more s (y + n) (s.height - (y + n))) ∙ ap (λ l. l ++ below) (sym (band_more s y n)) ∙ append_assoc (rows_colours s 0 y) (rows_colours s y n) below)
     ∙ sym (append_assoc front (rows_colours s 0 y) (rows_colours s y n ++ below))
+
+-- how long the lower rows of a band are
+pub below_len : (w m n k b : ℕ) → b + 3 * w * m ≡ 3 * (w * k) → m + n ≡ k → b ≡ 3 * (w * n)
+below_len w m n k b e all =
+    let whole : 3 * (w * (m + n)) ≡ 3 * w * m + 3 * (w * n) = grind arith in
+    let same : 3 * (w * k) ≡ 3 * (w * (m + n)) = ap (λ i. 3 * (w * i)) (sym all) in
+    omega (arith, e, whole, same)

@@ -2,5 +2,6 @@
 #![tactic(auto)]
 
 mod picture;
+mod rows;
 
-pub use picture::{Alone, LaysRows, write_frame, write_frames};
+pub use picture::{write_frame, write_frames};

@@ -9,41 +9,24 @@ ghost use Rattle.io_edge.specs.Faults.{HasCause};
 ghost use Rattle.ppm_out.specs.Pictures.{header, frame_bytes};
 ghost use Rattle.ppm_out.specs.Scenes.{colours_of, scene_bytes};
 
+use crate::rows::lay_rows;
 use io_edge::{Failed, Sink, write_all, write_pieces};
 use itoa::Buffer;
+use std::thread::Threads;
 use tile_core::{Film, Frame};
-
-/// How the rows of frames are turned into colours: by the caller alone, or by several threads.
-pub trait LaysRows {
-    /// Writes red, green and blue of each point of n rows from `top` on, in row order, to a band of just
-    /// as many bytes.
-    fn lay(&self, frame: &Frame, top: u16, n: u16, band: &mut [u8])
-        requires inside { top + n ≤ frame.now.height }
-        requires whole { length band.old ≡ 3 * (frame.now.width * n) }
-        ensures { band.new ≡ rows_colours frame.now top n };
-}
-
-/// The caller alone.
-#[derive(Clone, Copy)]
-pub struct Alone;
-
-impl LaysRows for Alone {
-    fn lay(&self, frame: &Frame, top: u16, n: u16, band: &mut [u8]) {
-        frame.rows_into(top, n, band);
-    }
-}
 
 /// Writes a frame as a pixmap: a header, and then red, green and blue of each point, the rows from
 /// the top and each row from the left. The room is for at least three bytes a column. As many rows
-/// as it has room for are laid and written at a time; room for 64 of them is best for one who lays
-/// alone, since a tile has as many. It takes no memory of its own.
+/// as it has room for are laid at a time, by at most so many threads, and written; room for 64 rows a
+/// thread is best, since a tile has as many. It takes no memory but that of the threads.
 ///
 /// # Errors
 /// `Failed` only where the sink's count of faults rose. The sink then took the first of the bytes.
-pub fn write_frame<L: LaysRows, K: Sink>(
+pub fn write_frame<R: Threads + Sync, K: Sink>(
+    rt: &R,
+    threads: u8,
     frame: &Frame,
     room: &mut [u8],
-    lays: &L,
     out: &mut K,
 ) -> Result<(), Failed>
     requires room { 3 * frame.now.width ≤ length room.old }
@@ -59,19 +42,21 @@ pub fn write_frame<L: LaysRows, K: Sink>(
     let mut top = 0;
     while top < rows {
         let n = (rows - top).min(most);
-        write_band(frame, top, n, &mut room[..across * n as usize], lays, out)?;
+        let band = &mut room[..across * n as usize];
+        write_band(rt, threads, frame, top, n, band, out)?;
         top += n;
     }
     Ok(())
 }
 
 /// Lays n rows of a frame from `top` on in a band of just as many bytes, and writes them.
-fn write_band<L: LaysRows, K: Sink>(
+fn write_band<R: Threads + Sync, K: Sink>(
+    rt: &R,
+    threads: u8,
     frame: &Frame,
     top: u16,
     n: u16,
     band: &mut [u8],
-    lays: &L,
     out: &mut K,
 ) -> Result<(), Failed>
     requires inside { top + n ≤ frame.now.height }
@@ -80,20 +65,21 @@ fn write_band<L: LaysRows, K: Sink>(
     ensures err { OnErr result (AppendsPrefix (K.taken out.old) (K.taken out.new) (rows_colours frame.now top n)) }
     ensures cause { HasCause (K.faults out.old) (K.faults out.new) result }
 {
-    lays.lay(frame, top, n, band);
+    lay_rows(rt, threads, frame, top, n, band);
     write_all(out, band)
 }
 
 /// Writes the frames of a film as pixmaps, one after another. `picture` has room for the colours of
-/// each frame, which it keeps for the next one: only the tiles that may differ are laid anew. It
-/// takes no memory of its own.
+/// each frame, which it keeps for the next one: only the tiles that may differ are laid anew. The first
+/// is laid by at most so many threads. It takes no memory but that of the threads.
 ///
 /// # Errors
 /// `Failed` only where the sink's count of faults rose. The sink then took the first of the bytes.
-pub fn write_frames<L: LaysRows, K: Sink>(
+pub fn write_frames<R: Threads + Sync, K: Sink>(
+    rt: &R,
+    threads: u8,
     film: &Film,
     picture: &mut [u8],
-    lays: &L,
     out: &mut K,
 ) -> Result<(), Failed>
     requires room { All (λ (f : Scene). 3 * (f.width * f.height) ≤ length picture.old) film.now }
@@ -104,7 +90,7 @@ pub fn write_frames<L: LaysRows, K: Sink>(
     let frames = film.frames();
     for i in 0..frames.len() {
         if i == 0 {
-            lay_whole(&frames[0], lays, picture);
+            lay_whole(rt, threads, &frames[0], picture);
         } else {
             film.lay(i, picture);
         }
@@ -114,13 +100,20 @@ pub fn write_frames<L: LaysRows, K: Sink>(
 }
 
 /// Lays all rows of a frame at the front of the picture.
-fn lay_whole<L: LaysRows>(frame: &Frame, lays: &L, picture: &mut [u8])
+fn lay_whole<R: Threads + Sync>(rt: &R, threads: u8, frame: &Frame, picture: &mut [u8])
     requires room { 3 * (frame.now.width * frame.now.height) ≤ length picture.old }
     ensures shown { Shows frame.now picture.new }
     ensures rest { length picture.new ≡ length picture.old }
 {
     let places = 3 * (frame.width() as usize * frame.height() as usize);
-    lays.lay(frame, 0, frame.height(), &mut picture[..places]);
+    lay_rows(
+        rt,
+        threads,
+        frame,
+        0,
+        frame.height(),
+        &mut picture[..places],
+    );
 }
 
 /// Writes the pixmap of a frame whose colours stand in the picture.

@@ -56,11 +56,13 @@ fn paint<R: Threads + Wait + Sync, K: Sink, G: Gate>(
     let Ok(painting) = painted(rt, alloc, asked, script, gate) else {
         return Status::NoMemory;
     };
-    let Ok(mut room) = room_for(alloc, emit, painting.script.canvas(), &painting.shown.film) else {
+    let threads = asked.choice.workers.saturating_add(1);
+    let canvas = painting.script.canvas();
+    let Ok(mut room) = room_for(alloc, emit, canvas, &painting.shown.film, threads) else {
         return Status::NoMemory;
     };
     let refused = some_refused(&painting.shown.outcomes);
-    match write_painting(emit, &painting, &mut room, out) {
+    match write_painting(rt, threads, emit, &painting, &mut room, out) {
         Ok(()) if refused => Status::DoneWithRefusals,
         Ok(()) => Status::Done,
         Err(Failed) => Status::WriteFault,

@@ -13,45 +13,50 @@ use crew_run::Shown;
 use doc_model::Canvas;
 use io_edge::{Failed, Sink, write_all};
 use log_out::{write_log, write_sum};
-use ppm_out::{Alone, write_frame, write_frames};
+use ppm_out::{write_frame, write_frames};
 use script_text::Script;
 use std::alloc::{AllocError, Global};
+use std::thread::Threads;
 use tile_core::Film;
 
 /// How many of the rows of a film's pictures are laid before they are written: all of them where a later
-/// picture follows from the one before, and otherwise those of one row of tiles.
-fn rows_at_once(film: &Film, rows: u16) -> u16
-    ensures { result ≡ said_rows (length film.now) rows }
+/// picture follows from the one before, and otherwise those of one row of tiles for each thread.
+fn rows_at_once(film: &Film, rows: u16, threads: u8) -> u16
+    ensures { said_rows (length film.now) rows ≤ result }
 {
     if film.frames().len() > 1 {
         rows
     } else {
-        rows.clamp(1, 64)
+        rows.clamp(1, 64 * u16::from(threads.max(1)))
     }
 }
 
 /// Room for what has to be kept while the output is written: for several pictures the colours of one of
-/// them, and for a single one those of a band of its rows.
+/// them, and for a single one those of a band of its rows for each thread.
 pub(crate) fn room_for(
     alloc: Global,
     emit: Emit,
     canvas: Canvas,
     film: &Film,
+    threads: u8,
 ) -> Result<Vec<u8>, AllocError>
     ensures { IfOk result (λ v. HasRoom emit canvas film.now v.items) }
 {
-    let colours = 3 * (canvas.w as usize * rows_at_once(film, canvas.h) as usize);
+    let colours = 3 * (canvas.w as usize * rows_at_once(film, canvas.h, threads) as usize);
     match emit {
         Emit::Picture | Emit::Live => vec![in alloc; 0; colours],
         Emit::Log | Emit::Sum | Emit::Trace => Ok(Vec::new(alloc)),
     }
 }
 
-/// Writes what is asked for of a script that was painted, with that room. It takes no memory.
+/// Writes what is asked for of a script that was painted, with that room. The rows of a picture are laid by
+/// at most so many threads. It takes no memory but theirs.
 ///
 /// # Errors
 /// `Failed` only where the sink's count of faults rose. The sink then took the first of the bytes.
-fn write_output<K: Sink>(
+fn write_output<R: Threads + Sync, K: Sink>(
+    rt: &R,
+    threads: u8,
     emit: Emit,
     script: &Script,
     shown: &Shown,
@@ -66,8 +71,8 @@ fn write_output<K: Sink>(
 {
     match emit {
         Emit::Picture | Emit::Live => match shown.film.frames() {
-            [frame] => write_frame(frame, room, &Alone, out),
-            _ => write_frames(&shown.film, room, &Alone, out),
+            [frame] => write_frame(rt, threads, frame, room, out),
+            _ => write_frames(rt, threads, &shown.film, room, out),
         },
         Emit::Log => write_log(script, &shown.outcomes, out),
         Emit::Sum => write_sum(shown.film.frames(), &shown.outcomes, out),
@@ -75,11 +80,13 @@ fn write_output<K: Sink>(
     }
 }
 
-/// Writes what stands before the output, and then the output. It takes no memory.
+/// Writes what stands before the output, and then the output. It takes no memory but that of the threads.
 ///
 /// # Errors
 /// `Failed` only where the sink's count of faults rose. The sink then took the first of the bytes.
-pub(crate) fn write_painting<K: Sink>(
+pub(crate) fn write_painting<R: Threads + Sync, K: Sink>(
+    rt: &R,
+    threads: u8,
     emit: Emit,
     painting: &Painting,
     room: &mut [u8],
@@ -92,5 +99,13 @@ pub(crate) fn write_painting<K: Sink>(
     ensures cause { HasCause (K.faults out.old) (K.faults out.new) result }
 {
     write_all(out, &painting.lead)?;
-    write_output(emit, &painting.script, &painting.shown, room, out)
+    write_output(
+        rt,
+        threads,
+        emit,
+        &painting.script,
+        &painting.shown,
+        room,
+        out,
+    )
 }

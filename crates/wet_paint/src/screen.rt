@@ -8,11 +8,12 @@ use crate::paint::WetError;
 use geom_core::{NoMemory, TileKey};
 use io_edge::StdSink;
 use live_view::LiveReader;
-use ppm_out::{Alone, write_frame};
+use ppm_out::write_frame;
 use script_text::Script;
 use std::alloc::Global;
 use std::sync::Wait;
 use std::sync::atomic::{AtomicU64, Ordering};
+use std::thread::Threads;
 use std::{io, thread};
 use tile_core::Frame;
 
@@ -111,12 +112,12 @@ pub(crate) fn watch<R: Wait + Print>(
 }
 
 /// Writes a picture as a pixmap.
-pub(crate) fn write_picture<R: Print>(
+pub(crate) fn write_picture<R: Print + Threads + Sync>(
     rt: &R,
     alloc: Global,
     picture: &Frame,
 ) -> Result<(), WetError> {
     let mut row = vec![in alloc; 0; 3 * picture.width() as usize]?;
-    write_frame(picture, &mut row, &Alone, &mut StdSink::new(io::writer(rt)))?;
+    write_frame(rt, 1, picture, &mut row, &mut StdSink::new(io::writer(rt)))?;
     Ok(())
 }
