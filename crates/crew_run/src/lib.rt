@@ -6,6 +6,7 @@ mod board;
 mod calls;
 mod crew;
 mod feeding;
+mod load;
 mod pieces;
 mod shown;
 mod watching;

@@ -5,8 +5,8 @@ ghost use Rattle.doc_model.specs.Jobs.{checks, reads};
 ghost use Rattle.doc_model.specs.Lawful.{within_limits};
 ghost use Rattle.desk_core.specs.declared.tickets.Taken.TheVariants as taken;
 
+use crate::load::load_of;
 use desk_core::{PaintTicket, Taken};
-use doc_model::Job;
 use geom_core::{NoMemory, Rect};
 use stamp_core::{Naming, Stamp};
 use stamped_desk::{StampedPainting, StampedTiles, StampedWalk};
@@ -18,7 +18,7 @@ use walker_core::{Composed, compose_keys};
 #[derive(Drop)]
 pub(crate) struct TakenJob<J: Naming> {
     pub(crate) painting: StampedPainting<J>,
-    /// How many points it writes, those of two rectangles counted twice.
+    /// About how much work it is, as a count of points.
     pub(crate) load: u64,
 }
 
@@ -34,24 +34,12 @@ impl<J: Naming> TakenJob<J> {
         requires reads { ticket.shot.rects ≡ reads ticket.work }
         requires stamped { IfSome stamp (λ s. s.value ≡ Some (taken.Paint ticket)) }
     {
-        let load = load_of(&ticket.work);
+        let load = load_of(&ticket.work, &ticket.shot);
         Ok(TakenJob {
             painting: StampedPainting::new(alloc, ticket, stamp)?,
             load,
         })
     }
-}
-
-/// How many points a job writes, those of two rectangles counted twice.
-fn load_of(job: &Job) -> u64
-    requires { checks job.now ≡ true }
-{
-    let mut load = 0u64;
-    for rect in job.writes().as_slice() {
-        let points = u64::from(rect.w()).saturating_mul(u64::from(rect.h()));
-        load = load.saturating_add(points);
-    }
-    load
 }
 
 /// Some tiles of a job: those from one place of its list to before another.
