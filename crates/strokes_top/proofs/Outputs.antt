@@ -1,7 +1,7 @@
 -- What a painted script shows is what is written of it.
 use Rattle.std.proofs.Common.{◌≡◌, ◌≢◌, ◌≤◌, ◌∙◌, ◌*◌, min, max, ◌⊎◌, inl, inr, ℕ, List, [], ◌∷◌, ◌++◌, length, get_or, map, ◌+◌, Option, true, false, Result, OnOk, refl, sym, ap, ap₂, subst, arith}
 use Rattle.std.specs.List.{All, flat_map}
-use Rattle.std.proofs.Math.Nat.{le-mul_of_pos_right}
+use Rattle.std.proofs.Math.Nat.{le-mul_of_pos_right, mul-le-mul_left}
 use Rattle.std.proofs.lemmas.Bool.Decides.{nat_tests}
 use Rattle.std.proofs.lemmas.List.{append-nil}
 use Rattle.std.proofs.lemmas.List.Elements.{All-nil, All-cons, All-head, All-tail}
@@ -92,6 +92,18 @@ room_of emit.Live canvas scenes room which h = h
 room_of emit.Log canvas scenes room which h = absurd (no_pictures_in_log which)
 room_of emit.Sum canvas scenes room which h = absurd (no_pictures_in_sum which)
 room_of emit.Trace canvas scenes room which h = absurd (no_pictures_in_trace which)
+
+-- room for more rows is room for these
+more_rows : (canvas : Canvas) (n rows len : ℕ) → rows_at_once n canvas.h ≤ rows → len ≡ 3 * (canvas.w * rows) → 3 * (canvas.w * rows_at_once n canvas.h) ≤ len
+more_rows canvas n rows len more e = subst (λ i. 3 * (canvas.w * rows_at_once n canvas.h) ≤ i) (sym e) (mul-le-mul_left 3 (mul-le-mul_left canvas.w more))
+
+-- so there is as much as is wanted
+pub room_has : (e : Emit) (canvas : Canvas) (scenes : List Scene) (room : List ℕ) (rows : ℕ) → rows_at_once (length scenes) canvas.h ≤ rows → length room ≡ 3 * (canvas.w * rows) → HasRoom e canvas scenes room
+room_has emit.Picture canvas scenes room rows more len = more_rows canvas (length scenes) rows (length room) more len
+room_has emit.Live canvas scenes room rows more len = more_rows canvas (length scenes) rows (length room) more len
+room_has emit.Log canvas scenes room rows more len = tt
+room_has emit.Sum canvas scenes room rows more len = tt
+room_has emit.Trace canvas scenes room rows more len = tt
 
 -- room for a picture of the canvas's sides is room for each frame
 room_whole : (canvas : Canvas) (n : ℕ) (scenes : List Scene) → 3 * (canvas.w * canvas.h) ≤ n → All (HasSides canvas) scenes → All (λ (f : Scene). 3 * (f.width * f.height) ≤ n) scenes
