@@ -86,7 +86,7 @@ fn version(reader: &mut LiveReader) -> u64 {
 }
 
 /// Writes a picture each time that so many further tiles were published, until the painting is over.
-pub(crate) fn watch<R: Wait + Print>(
+pub(crate) fn watch<R: Threads + Wait + Print + Sync>(
     rt: &R,
     alloc: Global,
     reader: LiveReader,
