@@ -1,4 +1,4 @@
-use Rattle.std.proofs.Common.{◌≡◌, ◌≢◌, ◌∙◌, length, [], ◌∷◌, ap, ap₂, sym, subst, map, arith}
+use Rattle.std.proofs.Common.{◌≡◌, ◌≢◌, ◌∙◌, length, [], ◌∷◌, ap, ap₂, sym, subst, map, arith, rules}
 use Rattle.io_edge.proofs.Written.{prefix_is}
 use Rattle.log_out.specs.Summary.{sheet_of}
 use Rattle.log_out.specs.Log.{sum_text}
@@ -15,9 +15,7 @@ write_log-requires g c =
 pub write_frame-requires : goal.write_frame-requires
 write_frame-requires g c =
     let only : c.args.shown.now.film ≡ c.frame-item.result ∷ [] = sym c.frames.ensures ∙ one_alone c.frames.result.now c.frame-item.result (omega (arith, c.in-len1.len_at_least, c.in-len1.len_below)) c.frame-item.is in
-    record {
-      room = room_alone c.args.script.now.canvas _ _ c.frame-item.result only (room_of c.args.emit _ _ _ c.in-Picture.is c.requires.room) (sides_of c.args.emit _ _ _ c.in-Picture.is c.requires.shows);
-    }
+    (search rules, room_alone c.args.script.now.canvas _ _ c.frame-item.result only (room_of c.args.emit _ _ _ c.in-Picture.is c.requires.room) (sides_of c.args.emit _ _ _ c.in-Picture.is c.requires.shows))
 
 pub returns-in-len1-clause-ok : goal.returns-in-len1-clause-ok
 returns-in-len1-clause-ok g c =
@@ -33,9 +31,7 @@ pub write_frames-requires : goal.write_frames-requires
 write_frames-requires g c =
     let same : length c.frames.result.now ≡ length c.args.shown.now.film = ap length c.frames.ensures in
     let many : length c.args.shown.now.film ≢ 1 = grind (arith, same) in
-    record {
-      room = room_each _ _ _ many (room_of c.args.emit _ _ _ c.in-Picture.is c.requires.room) (sides_of c.args.emit _ _ _ c.in-Picture.is c.requires.shows);
-    }
+    (search rules, room_each _ _ _ many (room_of c.args.emit _ _ _ c.in-Picture.is c.requires.room) (sides_of c.args.emit _ _ _ c.in-Picture.is c.requires.shows))
 
 pub returns-in_default-clause-ok : goal.returns-in_default-clause-ok
 returns-in_default-clause-ok g c = whole_is _ _ _ _ _ c.write_frames.ensures.ok (pictures_are c.args.emit _ _ _ c.in-Picture.is c.requires.shows)
