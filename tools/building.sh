@@ -1,0 +1,84 @@
+# shellcheck shell=sh disable=SC2154
+# What ./strokes and ./prove have in common; both read this file, and set `here`, the top of the checkout, before.
+
+# Tells what is going on, on the error stream.
+say() {
+    printf '%s\n' "${0##*/}: $*" >&2
+}
+
+# The lines of crates.txt for the crates that the program is made of, each after those that it stands on.
+lines_of_program() {
+    awk -F: '
+        function take(name, words, many, k) {
+            if (name in seen || !(name in below)) return
+            seen[name]
+            many = split(below[name], words, " ")
+            for (k = 1; k <= many; k++) take(words[k])
+            print line[name]
+        }
+        !/^#/ && NF > 1 { split($1, names, " "); below[names[1]] = $2; line[names[1]] = $0 }
+        END { take("strokes") }' "$here/crates.txt"
+}
+
+# The names of these crates.
+crates_of_program() {
+    lines_of_program | sed 's/[ :].*//'
+}
+
+# These parts (src, specs ..) of these crates, as far as they are there, as paths below the top.
+parts_of_program() {
+    for crate in $(crates_of_program); do
+        for part; do
+            [ ! -e "$here/crates/$crate/$part" ] || echo "crates/$crate/$part"
+        done
+    done
+}
+
+# A sum of what these parts of the crates hold, and of what is said of the crates beside them.
+sum_of() {
+    {
+        lines_of_program
+        cat "$here/HANDLES" 2>/dev/null
+        (cd "$here" && parts_of_program "$@" | xargs sh -c 'find "$@" -type f' sh | LC_ALL=C sort | xargs sha256sum)
+    } | sha256sum | cut -d ' ' -f 1
+}
+
+# The processor to compile for: one that takes eight numbers at a time (most since 2013 to 2015) where
+# this one does, else the best of the older ones that it is. Such a program tells as it starts if another runs it.
+processor() {
+    if has avx2 bmi1 bmi2 f16c fma abm movbe; then
+        echo x86-64-v3
+    elif has cx16 lahf_lm popcnt sse4_1 sse4_2 ssse3; then
+        echo x86-64-v2
+    else
+        echo x86-64
+    fi
+}
+
+# Whether the processor has all of these.
+has() {
+    for feature; do
+        grep -qw "$feature" /proc/cpuinfo 2>/dev/null || return 1
+    done
+}
+
+# The folder of the kit whose rt is on PATH.
+kit() {
+    page=$(rt doc 2>/dev/null) && [ -f "$page" ] && dirname "$page"
+}
+
+# Links an object file and the kit's C library into a program: KIT OBJECT PROGRAM.
+link() {
+    "$1/bin/rattle-link" --target x86_64-unknown-linux-gnu --toolchain "$1/toolchain" -o "$3" "$2" \
+        "$1/c/libos_c.a" "$1/c/liblibc_c.a"
+}
+
+# Waits until no other call has this folder, and has it until this one ends, however that is. What is
+# started meanwhile is to close 9, so that it doesn't go on holding it.
+alone_in() {
+    mkdir -p "$1" && exec 9<"$1" || return
+    flock -n 9 2>/dev/null || {
+        say "another call is building; waiting for it"
+        flock 9 2>/dev/null || :
+    }
+}
