@@ -9,7 +9,7 @@
 here=$(cd "$(dirname "$0")/.." && pwd) || exit 70
 PROGRAM=${PROGRAM:-$here/crates/strokes/out/strokes}
 export PROGRAM
-[ -x "$PROGRAM" ] || { echo "hostile: $PROGRAM isn't there: build it by a call of ./strokes" >&2; exit 70; }
+[ -x "$PROGRAM" ] || { echo "hostile: $PROGRAM isn't there: rt ci builds it, or name that of ./prove: PROGRAM=out/strokes" >&2; exit 70; }
 runs=$here/tools/hostile-runs
 tmp=$(mktemp -d) || exit 70
 trap 'rm -rf "$tmp"' EXIT
