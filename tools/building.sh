@@ -44,8 +44,9 @@ sum_of() {
 }
 
 # The processor to compile for: one that takes eight numbers at a time (most since 2013 to 2015) where
-# this one does, else the best of the older ones that it is. Such a program tells as it starts if another runs it.
+# this one does, else the best of the older ones that it is.
 processor() {
+    features=" $(grep -m1 '^flags' /proc/cpuinfo 2>/dev/null) "
     if has avx2 bmi1 bmi2 f16c fma abm movbe; then
         echo x86-64-v3
     elif has cx16 lahf_lm popcnt sse4_1 sse4_2 ssse3; then
@@ -55,10 +56,13 @@ processor() {
     fi
 }
 
-# Whether the processor has all of these.
+# Whether all of these are among the features.
 has() {
     for feature; do
-        grep -qw "$feature" /proc/cpuinfo 2>/dev/null || return 1
+        case $features in
+        *" $feature "*) ;;
+        *) return 1 ;;
+        esac
     done
 }
 
