@@ -18,7 +18,8 @@ use Rattle.doc_model.specs.Jobs.{apply_all, checks}
 use Rattle.doc_model.specs.Forest.{content, with_content}
 use Rattle.doc_model.specs.Changes.{there}
 use Rattle.doc_model.specs.Picture.{Doc}
-use Rattle.doc_model.specs.Lawful.{is_closed_entry, lawful, within_limits}
+use Rattle.doc_model.specs.Lawful.{within_limits}
+use Rattle.doc_model.specs.Feeding.{is_closed_entry, lawful}
 use Rattle.doc_model.specs.Meaning.{Story, start, told, laid_stroke, advanced, meaning, ends_with}
 use Rattle.doc_model.specs.Strokes as doc
 use Rattle.doc_model.specs.Strokes.{Stroke, Jobs, entries}

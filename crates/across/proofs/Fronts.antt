@@ -6,7 +6,8 @@ use Rattle.std.proofs.lemmas.Option.{slice_get_within, get_or_from_slice_get}
 use Rattle.geom_core.proofs.Tests.{and_left, and_right, both_true}
 use Rattle.doc_model.specs.declared.command.Command.{Command}
 use Rattle.doc_model.specs.Strokes.{Entry, fed}
-use Rattle.doc_model.specs.Lawful.{lawful, lawful_after, may_follow}
+use Rattle.doc_model.specs.Lawful.{may_follow}
+use Rattle.doc_model.specs.Feeding.{lawful, lawful_after}
 
 -- one item more from the front
 pub item_more : {A : Type 0} (xs : List A) (i : ℕ) (x : A) → slice_get xs i ≡ Some x → take (i + 1) xs ≡ take i xs ++ x ∷ []

@@ -4,7 +4,7 @@ use Rattle.std.specs.Prelude.{slice_get, ℤ, pos, negsuc, ◌+ℤ◌, ◌-ℤ�
 use Rattle.std.specs.List.{list_all}
 use borrow.Author.Differences.{ints}
 use Rattle.geom_core.specs.Areas.{Area, holds, lies_in, moved, right, world, Point}
-use Rattle.geom_core.specs.Overlaps.{any_holds, IsInWorld}
+use Rattle.geom_core.specs.Rects.{any_holds, IsInWorld}
 use Rattle.geom_core.proofs.Tests.{and_left, and_right, taken, kept}
 use Rattle.doc_model.specs.Lawful.{within_limits, of_limits}
 use Rattle.std.proofs.lemmas.Bool.Decides.{nat_tests}

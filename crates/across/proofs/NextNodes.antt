@@ -8,7 +8,7 @@ use Rattle.geom_core.proofs.Tests.{taken, kept}
 use Rattle.doc_model.specs.declared.tree.Look.{Look}
 use Rattle.doc_model.specs.Layers.{at, plain}
 use Rattle.doc_model.specs.Forest.{has, height, upper, content}
-use Rattle.doc_model.specs.Readers.{look_in, child_in}
+use Rattle.doc_model.specs.Children.{look_in, child_in}
 use Rattle.doc_model.specs.Changes.{takes}
 use Rattle.doc_model.specs.Ids.{IsTree}
 use Rattle.doc_model.specs.Laws.{IsDocument}

@@ -6,7 +6,7 @@ use Rattle.geom_core.specs.Areas.{Point}
 use Rattle.geom_core.proofs.Tests.{taken, kept}
 use Rattle.doc_model.specs.declared.tree.Look.{Look}
 use Rattle.doc_model.specs.Forest.{none, width, upper}
-use Rattle.doc_model.specs.Readers.{child_in}
+use Rattle.doc_model.specs.Children.{child_in}
 use Rattle.doc_model.specs.Changes.{takes, child_count}
 use Rattle.doc_model.specs.Layers.{at}
 use Rattle.doc_model.specs.Picture.{Doc, laid, picture}

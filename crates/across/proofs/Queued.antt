@@ -8,7 +8,7 @@ use Rattle.doc_model.specs.declared.command.Command.{Command}
 use Rattle.doc_model.specs.declared.command.Outcome.{Outcome}
 use Rattle.doc_model.specs.Layers.{Layer}
 use Rattle.doc_model.specs.Forest.{content}
-use Rattle.doc_model.specs.Lawful.{is_closed_entry, lawful}
+use Rattle.doc_model.specs.Feeding.{is_closed_entry, lawful}
 use Rattle.doc_model.specs.Meaning.{Story, start, told, told_all, told_stroke, closed_stroke, laid_stroke, meaning}
 use Rattle.doc_model.specs.Strokes as doc
 use Rattle.doc_model.specs.Kept as doc_kept

@@ -7,7 +7,8 @@ use Rattle.doc_model.specs.declared.command.Command.{Command}
 use Rattle.doc_model.specs.declared.command.Outcome.{Outcome}
 use Rattle.doc_model.specs.Strokes as doc
 use Rattle.doc_model.specs.Strokes.{entries}
-use Rattle.doc_model.specs.Lawful.{is_closed_entry, within_limits}
+use Rattle.doc_model.specs.Lawful.{within_limits}
+use Rattle.doc_model.specs.Feeding.{is_closed_entry}
 use Rattle.doc_model.specs.Meaning.{Story, told, meaning}
 use Rattle.entry_queue.specs.declared.entry.Entry.{Entry}
 use Rattle.entry_queue.specs.declared.entry.Entry.TheVariants.{Waiting, Whole, Other}

@@ -2,7 +2,7 @@
 
 ghost use Rattle.std.specs.Prelude.{◌≡◌, ◌≤◌, ◌==◌, ◌-ℤ◌, ℕ, ◌∷◌, true, cond, map, IfOk};
 ghost use Rattle.std.specs.List.{list_all};
-ghost use Rattle.geom_core.specs.Overlaps.{any_holds};
+ghost use Rattle.geom_core.specs.Rects.{any_holds};
 ghost use Rattle.brush_mask.specs.Mask.{mask as strength_of};
 ghost use Rattle.geom_core.specs.Areas.{point, holds, lies_in, moved, points_of, world};
 ghost use Rattle.doc_model.specs.Jobs.{writes, apply, apply_all, value, square, squares, stamped, all_stamped};

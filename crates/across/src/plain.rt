@@ -1,7 +1,7 @@
 //! Scripts told plainly: each frame from the definition of a picture, point by point.
 
 ghost use Rattle.std.specs.Prelude.{◌≡◌, [], true, IfOk};
-ghost use Rattle.doc_model.specs.Lawful.{lawful};
+ghost use Rattle.doc_model.specs.Feeding.{lawful};
 ghost use Rattle.entry_queue.specs.Pushed.{StandsFor};
 ghost use Rattle.across.specs.Tellings.{Tells};
 

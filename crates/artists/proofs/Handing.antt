@@ -7,7 +7,7 @@ use Rattle.doc_model.specs.declared.command.Command.{Command}
 use Rattle.turn_lock.specs.Passes.{Known, fresh, all_fresh, own}
 use Rattle.studio.specs.declared.signed.Signed.{Signed}
 use Rattle.artists.specs.declared.sending.Sender.{Sender}
-use Rattle.artists.specs.Shares.{share}
+use Rattle.artists.specs.SignedShares.{share}
 use Rattle.artists.specs.Senders.{IsSender, AreSenders}
 
 pub pass_count : (id : TableId) (n : ℕ) → length (all_fresh {E = Signed} id n) ≡ n

@@ -11,7 +11,8 @@ use Rattle.doc_model.specs.declared.command.Command.{Command}
 use Rattle.turn_lock.specs.History.{made_by}
 use Rattle.studio.specs.declared.signed.Signed.{Signed}
 use Rattle.studio.specs.Histories.{signed, signer, commands_of}
-use Rattle.artists.specs.Shares.{artist_of, commands_by, share, IsShared}
+use Rattle.artists.specs.Shares.{artist_of, commands_by, IsShared}
+use Rattle.artists.specs.SignedShares.{share}
 
 share_append : (n k : ℕ) (xs ys : List Command) → share n k (xs ++ ys) ≡ share n k xs ++ share n k ys
 share_append n k xs ys = ap (map (signed k)) (filter-append (λ c. artist_of n c == k) xs ys) ∙ map-append (signed k) (commands_by n k xs) (commands_by n k ys)

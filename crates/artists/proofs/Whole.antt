@@ -11,7 +11,8 @@ use Rattle.turn_lock.specs.Passes.{Known, joined}
 use Rattle.studio.specs.declared.signed.Signed.{Signed}
 use Rattle.studio.specs.Histories.{signer, commands_of}
 use Rattle.artists.specs.declared.sending.Sender.{Sender}
-use Rattle.artists.specs.Shares.{share, IsShared}
+use Rattle.artists.specs.Shares.{IsShared}
+use Rattle.artists.specs.SignedShares.{share}
 use Rattle.artists.specs.Senders.{IsSender, AreSenders, IsOne, IsAll, made_of, is_done}
 use Rattle.artists.proofs.Sharing.{made_of_all, shared}
 

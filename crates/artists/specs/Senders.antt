@@ -5,7 +5,7 @@ use Rattle.atomic_table.specs.Seated.{TableId}
 use Rattle.doc_model.specs.declared.command.Command.{Command}
 use Rattle.studio.specs.declared.signed.Signed.{Signed}
 use Rattle.artists.specs.declared.sending.Sender.{Sender}
-use Rattle.artists.specs.Shares.{share}
+use Rattle.artists.specs.SignedShares.{share}
 
 -- artist k of n, with its pass of the studio; where it is done, all its commands were accepted
 pub record IsSender (id : TableId) (n : ℕ) (commands : List Command) (k : ℕ) (s : Sender) : Type 0 where

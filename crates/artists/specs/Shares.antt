@@ -1,10 +1,8 @@
 -- Which artist sends which command.
-use Rattle.std.specs.Prelude.{◌≡◌, ℕ, ◌%◌, ◌==◌, List, map}
+use Rattle.std.specs.Prelude.{◌≡◌, ℕ, ◌%◌, ◌==◌, List}
 use Rattle.std.specs.List.{filter}
 use Rattle.doc_model.specs.declared.command.Command.{Command}
 use Rattle.doc_model.specs.declared.command.Command.TheVariants as command
-use Rattle.studio.specs.declared.signed.Signed.{Signed}
-use Rattle.studio.specs.Histories.{signed}
 
 -- the number of the stroke that the command is of, or else 0
 abbrev pub stroke_no : Command → ℕ
@@ -21,10 +19,6 @@ artist_of n c = stroke_no c % n
 -- the commands of artist k, in their order
 abbrev pub commands_by : ℕ → ℕ → List Command → List Command
 commands_by n k commands = filter (λ c. artist_of n c == k) commands
-
--- the same, signed
-abbrev pub share : ℕ → ℕ → List Command → List Signed
-share n k commands = map (signed k) (commands_by n k commands)
 
 -- The second list has of each artist the same commands as the first, each once and in the same order, and no others.
 abbrev pub IsShared : ℕ → List Command → List Command → Type 0

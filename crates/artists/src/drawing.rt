@@ -1,6 +1,6 @@
 //! A script is drawn by artists.
 ghost use Rattle.std.specs.Prelude.{◌≡◌, ◌<◌, ◌≤◌, ◌-◌, ◌^◌, length, IfOk, IfSome, OnOk};
-ghost use Rattle.machine_model.specs.State.{IsSettled};
+ghost use Rattle.machine_model.specs.Settled.{IsSettled};
 ghost use Rattle.artists.specs.Shares.{IsShared};
 
 use crate::gathering::gather;
@@ -72,7 +72,7 @@ fn settled(alloc: Global, desk: Desk) -> Result<Option<Drawn>, NoMemory>
     ensures fed { IfOk result (λ r. IfSome r (λ d. (d.desk.fed ≡ desk.fed) × (d.script.commands ≡ desk.fed))) }
 {
     let mut desk = desk;
-    let commands = Vec::from_slice(alloc, desk.fed())?;
+    let commands = Vec::from_slice(alloc, desk.commands())?;
     match Script::from_commands(alloc, desk.canvas(), commands) {
         Ok(script) => {
             settle::<Brand>(&mut desk, &script, Blank::new(1))?;

@@ -2,7 +2,7 @@
 ghost use Rattle.std.specs.Prelude.{◌≡◌, ◌<◌, ◌++◌, [], ◌∷◌, true, vec_len, IfOk};
 ghost use Rattle.turn_lock.specs.Passes.{all_fresh, own};
 ghost use Rattle.studio.specs.Histories.{signed};
-ghost use Rattle.artists.specs.Shares.{share};
+ghost use Rattle.artists.specs.SignedShares.{share};
 ghost use Rattle.artists.specs.Senders.{AreSenders};
 
 use crate::shares::artist_for;
@@ -12,8 +12,7 @@ use io_edge::Gate;
 use std::sync::Wait;
 use std::thread;
 use std::thread::Threads;
-use studio::{Pass, Studio};
-use turn_lock::Sent;
+use studio::{Pass, Sent, Studio};
 
 /// How many calls a pass may make.
 const MOST: u32 = 1_048_576;

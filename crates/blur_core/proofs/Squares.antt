@@ -6,7 +6,7 @@ use Rattle.std.proofs.lemmas.List.Sums.{sum_by-append, sum_by-cons}
 use Rattle.std.proofs.lemmas.List.{map-append}
 use Rattle.pixel_core.specs.Rgba.{Rgba, clear}
 use Rattle.geom_core.specs.Areas.{Area, holds, row, rows, points_of, Point, point}
-use Rattle.geom_core.specs.Overlaps.{place_in}
+use Rattle.geom_core.specs.Rects.{place_in}
 use Rattle.geom_core.proofs.Tests.{and_left, and_right, both_true}
 use Rattle.doc_model.specs.Jobs.{weighed, mean, square, grown}
 use Rattle.tile_core.specs.Pixels.{HasPixels}

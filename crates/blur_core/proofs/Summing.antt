@@ -1,6 +1,7 @@
 -- Sums of terms that follow one another.
 use Rattle.std.proofs.Common.{◌≡◌, ℕ, zero, suc, ◌+◌, ◌*◌, ◌≤◌, ◌<◌, refl, sym, ap, ◌∙◌, arith}
-use Rattle.pixel_core.specs.Rgba.{Rgba, IsCanonical}
+use Rattle.pixel_core.specs.Rgba.{Rgba}
+use Rattle.pixel_core.specs.Canonical.{IsCanonical}
 use Rattle.blur_core.specs.declared.sums.Sums.{Sums}
 use Rattle.blur_core.specs.Sums.{sums, nothing, weigh, plus, less, IsPartOf, IsUpTo, sum_from}
 

@@ -2,8 +2,9 @@
 
 ghost use Rattle.std.specs.Prelude.{◌≡◌, ◌≤◌, IfOk, true};
 ghost use Rattle.geom_core.specs.Areas.{holds, lies_in, world, Point};
-ghost use Rattle.geom_core.specs.Overlaps.{IsWithin};
-ghost use Rattle.geom_core.specs.Grid.{IsWorldKey, tile};
+ghost use Rattle.geom_core.specs.Rects.{IsWithin};
+ghost use Rattle.geom_core.specs.Grid.{tile};
+ghost use Rattle.geom_core.specs.Keys.{IsWorldKey};
 ghost use Rattle.doc_model.specs.Jobs.{grown};
 ghost use Rattle.tile_core.specs.Blocks.{piece_at};
 ghost use Rattle.blur_core.specs.Blur.{blurred};

@@ -15,8 +15,9 @@ use Rattle.doc_model.specs.declared.job.Job.TheVariants as job
 use Rattle.doc_model.specs.declared.job.Kind.{Kind}
 use Rattle.doc_model.specs.declared.job.Kind.TheVariants.{Con}
 use Rattle.doc_model.specs.Trails.{Trail}
-use Rattle.doc_model.specs.Strokes.{least, Jobs, clash, some_both, one_run, conflicting, first_conflicting, second_of, pair_at, pair_of, conflict}
-use Rattle.doc_model.proofs.Conflicts.{IsLeastFrom, least_from_is}
+use Rattle.doc_model.specs.Strokes.{Jobs, clash, some_both, one_run, conflicting, conflict}
+use Rattle.doc_model.specs.Searches.{least, first_conflicting, second_of, pair_at, pair_of}
+use Rattle.doc_model.proofs.Conflicts.{conflict_by, IsLeastFrom, least_from_is}
 use Rattle.brush_path.specs.Cells.{cells, jobs, jobs_in}
 use Rattle.brush_path.specs.Laws.{concurrent, NoneConflict}
 use Rattle.brush_path.proofs.Tiled.{tiles_are_met}
@@ -72,8 +73,7 @@ no_clash_at t ks i j d h = (λ z. some_both (there i z) (there j z) clash) ∙ g
 
 -- no conflict where no two jobs conflict
 none_of : (js : Jobs) → ((i j : ℕ) → i < j → conflicting js i j ≡ false) → conflict js ≡ None
-unfolding conflict
-none_of js clear = go (second_of js) (least_from_is 0 (length js) (λ j. is_some (first_conflicting js j)))
+none_of js clear = conflict_by js ∙ go (second_of js) (least_from_is 0 (length js) (λ j. is_some (first_conflicting js j)))
   where
     pick : (m : ℕ) (o : Option ℕ) → IsLeastFrom 0 m (λ i. conflicting js i m) o → is_some o ≡ true → pair_of o m ≡ None
     pick m None told s = refl

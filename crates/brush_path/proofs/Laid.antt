@@ -6,7 +6,7 @@ use Rattle.pixel_core.specs.Rgba.{Rgba}
 use Rattle.pixel_core.specs.Compose.{mul, compose}
 use Rattle.brush_mask.specs.Mask.{mask}
 use Rattle.geom_core.specs.Areas.{Point, Area, holds}
-use Rattle.geom_core.specs.Overlaps.{any_holds}
+use Rattle.geom_core.specs.Rects.{any_holds}
 use Rattle.geom_core.specs.Grid.{Key, key_of, same_key, tile}
 use Rattle.geom_core.proofs.Tests.{true_or_false}
 use Rattle.geom_core.proofs.Tiles.{key_same, key_is, key_of_holder, own_tile}
@@ -18,7 +18,8 @@ use Rattle.doc_model.specs.Layers.{Layer, at}
 use Rattle.doc_model.proofs.LayerLaws.{layer_ext}
 use Rattle.doc_model.specs.Jobs.{apply, apply_all, square, squares, stamped, all_stamped}
 use Rattle.doc_model.proofs.JobLaws.{at-apply, default-apply}
-use Rattle.brush_path.specs.Cells.{cells, jobs, jobs_in, dab_at, dabs}
+use Rattle.brush_path.specs.Cells.{cells, jobs, jobs_in}
+use Rattle.brush_path.specs.Dabs.{dab_at, dabs}
 use Rattle.brush_path.specs.Laws.{JobsAreDabs}
 use Rattle.brush_path.proofs.Tiled.{tiles_are_met, held_in_cells}
 

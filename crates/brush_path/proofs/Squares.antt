@@ -15,8 +15,10 @@ use Rattle.std.specs.List.Sorted.{IsStrictlySortedBy}
 use Rattle.brush_path.specs.declared.cells.Ends.{Ends}
 use Rattle.doc_model.specs.Trails.{Trail, centres}
 use Rattle.doc_model.specs.Jobs.{square, squares}
-use Rattle.brush_path.specs.Cells.{in_order, keys_between, cells}
+use Rattle.brush_path.specs.Cells.{cells}
+use Rattle.brush_path.specs.Gathered.{in_order, keys_between}
 use Rattle.brush_path.proofs.Ordered.{in_order-append, in_order_again, none_sorted, sorted_in_order}
+use Rattle.brush_path.proofs.Tiled.{cells_gathered}
 
 pub get_square : (t : Trail) (i : ℕ) (x y : ℤ) → Some (point x y) ≡ slice_get (centres t) i → slice_get (squares t) i ≡ Some (square x y t.stamp.r)
 get_square t i x y e = slice_get-map (λ (c : Point). square c.x c.y t.stamp.r) (centres t) i ∙ ap (option_map (λ (c : Point). square c.x c.y t.stamp.r)) (sym e)
@@ -54,9 +56,8 @@ pub record AreAdded (t : Trail) (i : ℕ) (ks : List Key) (before : Option Ends)
   pub again : (e : Ends) → before ≡ Some e → in_order ks (keys_between e.first e.last) ≡ ks
 
 pub none_added : (t : Trail) (ks : List Key) → ks ≡ [] → AreAdded t 0 ks None
-unfolding cells
 none_added t ks e = record {
-  all = ap (λ l. in_order l (all_keys_of (squares t))) e;
+  all = ap (λ l. in_order l (all_keys_of (squares t))) e ∙ cells_gathered t;
   sorted = subst (IsStrictlySortedBy key_cmp) (sym e) none_sorted;
   again = λ ends is. absurd (cc (is));
 }

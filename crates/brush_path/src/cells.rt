@@ -10,7 +10,10 @@ ghost use Rattle.doc_model.specs.Jobs.{apply_all, squares, checks};
 ghost use Rattle.doc_model.specs.Lawful.{within_limits};
 ghost use Rattle.doc_model.specs.Strokes.{conflict};
 ghost use Rattle.geom_core.specs.Place.{IsOffset};
-ghost use Rattle.brush_path.specs.Cells.{in_order, keys_between, cells, jobs, jobs_in as tracks_in, dabs};
+ghost use Rattle.brush_path.specs.Cells.{cells, jobs, jobs_in as tracks_in};
+ghost use Rattle.brush_path.specs.Gathered.{in_order};
+ghost use Rattle.brush_path.specs.Gathered.{keys_between};
+ghost use Rattle.brush_path.specs.Dabs.{dabs};
 ghost use Rattle.brush_path.specs.Laws.{concurrent};
 
 use doc_model::{Job, Track, square_round, track_dab, track_len};

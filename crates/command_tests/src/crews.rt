@@ -47,9 +47,24 @@ impl Gate for Meet {
     }
 }
 
-/// A stroke of two concurrent fills, each of several tiles.
+/// A stroke of two concurrent fills in one tile.
 const TWO_FILLS: &[u8] =
+    b"canvas 64 1\nlayer 1 0 0\nstroke 1 1\nfill 1 con 0 0 32 1 ff0000ff over 255\nfill 1 con 32 0 32 1 0000ffff over 255\nend 1\nexport\n";
+
+/// The same, but each of several tiles.
+const TWO_LARGE_FILLS: &[u8] =
     b"canvas 64 1\nlayer 1 0 0\nstroke 1 1\nfill 1 con 0 0 200 200 ff0000ff over 255\nfill 1 con 200 0 200 200 0000ffff over 255\nend 1\nexport\n";
+
+/// A stroke of so many concurrent fills of one point.
+fn points(alloc: Global, count: u32) -> Result<Vec<u8>, Fail> {
+    let mut script = b"canvas 64 1\nlayer 1 0 0\nstroke 1 1\n".to_vec(alloc)?;
+    for x in 0..count {
+        let line = format!(in alloc; "fill 1 con {x} 0 1 1 ff0000ff over 255\n")?;
+        script.extend_from_slice(line.as_bytes())?;
+    }
+    script.extend_from_slice(b"end 1\nexport\n")?;
+    Ok(script)
+}
 
 /// A layer of the first artist, and a stroke of the second.
 const TWO_ARTISTS: &[u8] = b"canvas 1 1\nlayer 1 0 0\nstroke 1 1\nend 1\n";
@@ -76,18 +91,33 @@ fn meets<R: Threads + Wait + Sync>(
 /// alone.
 #[test]
 fn the_workers_that_are_asked_for(rt: HostRuntime) -> Result<(), Fail> {
-    for _ in 0..40 {
-        for words in [
-            "",
-            "--workers 1",
-            "--workers 2 --emit live",
-            "--workers 8",
-            "--workers 16 --emit log",
-        ] {
-            assert!(rt; meets(&rt, rt.alloc(), words, TWO_FILLS)?, "{words}");
+    for _ in 0..16 {
+        for script in [TWO_FILLS, TWO_LARGE_FILLS] {
+            for words in [
+                "",
+                "--workers 1",
+                "--workers 2",
+                "--workers 2 --emit live",
+                "--workers 8",
+                "--workers 16 --emit log",
+            ] {
+                assert!(rt; meets(&rt, rt.alloc(), words, script)?, "{words}");
+            }
         }
     }
-    assert!(rt; !meets(&rt, rt.alloc(), "--workers 0", TWO_FILLS)?);
+    for script in [TWO_FILLS, TWO_LARGE_FILLS] {
+        assert!(rt; !meets(&rt, rt.alloc(), "--workers 0", script)?);
+    }
+    Ok(())
+}
+
+/// Where there are more than 64 jobs and these are small, the caller paints alone.
+#[test]
+fn few_jobs_and_many(rt: HostRuntime) -> Result<(), Fail> {
+    let few = points(rt.alloc(), 64)?;
+    let many = points(rt.alloc(), 65)?;
+    assert!(rt; meets(&rt, rt.alloc(), "--workers 2", &few)?);
+    assert!(rt; !meets(&rt, rt.alloc(), "--workers 2", &many)?);
     Ok(())
 }
 

@@ -4,7 +4,7 @@ use Rattle.std.specs.Prelude.{ℤ, pos, negsuc, ◌+ℤ◌, ◌-ℤ◌, ◌*ℤ�
 use Rattle.std.specs.Result.{OnErr, IfOk, IsOk}
 use borrow.Author.Differences.{ints}
 use Rattle.geom_core.specs.Areas.{Area, area, holds, Point}
-use Rattle.geom_core.specs.Overlaps.{IsWithin, IsShared, IsInWorld}
+use Rattle.geom_core.specs.Rects.{IsWithin, IsShared, IsInWorld}
 use Rattle.geom_core.specs.Grid.{Key, key_of, same_key, tile}
 use Rattle.geom_core.proofs.Tests.{and_left, and_right, both_true}
 use Rattle.geom_core.proofs.Tiles.{holder, key_of_holder, key_same, key_is}

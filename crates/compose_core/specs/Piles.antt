@@ -1,6 +1,7 @@
 -- Children of a group on one tile, laid one on another.
 use Rattle.std.specs.Prelude.{◌≡◌, ◌%◌, Bool, ◌==◌, ◌&&◌, not, true, false, List, length}
-use Rattle.pixel_core.specs.Rgba.{Rgba, IsCanonical}
+use Rattle.pixel_core.specs.Rgba.{Rgba}
+use Rattle.pixel_core.specs.Canonical.{IsCanonical}
 use Rattle.pixel_core.specs.declared.blending.Op.{Op}
 use Rattle.pixel_core.specs.declared.blending.Op.TheVariants.{Over, Erase}
 use Rattle.geom_core.specs.Areas.{Area, holds, Point}

@@ -2,9 +2,10 @@
 use Rattle.std.specs.Prelude.{◌%◌, ◌-ℤ◌, pos, ◌≡◌, true}
 use Rattle.pixel_core.specs.Rgba.{Rgba}
 use Rattle.geom_core.specs.Areas.{Area, area, holds, Point, point}
-use Rattle.geom_core.specs.Overlaps.{IsWithin}
+use Rattle.geom_core.specs.Rects.{IsWithin}
 use Rattle.geom_core.specs.Place.{across, down}
-use Rattle.geom_core.specs.Grid.{IsWorldKey, tile}
+use Rattle.geom_core.specs.Grid.{tile}
+use Rattle.geom_core.specs.Keys.{IsWorldKey}
 use Rattle.doc_model.specs.Shots.{in_tile}
 use Rattle.compose_core.specs.declared.children.Given.{Given}
 use Rattle.compose_core.specs.Children.{given_at}

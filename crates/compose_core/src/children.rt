@@ -2,7 +2,7 @@
 
 ghost use Rattle.std.specs.Prelude.{◌≡◌, ◌↔◌, ◌+◌, ◌*◌, ◌<◌, ◌≤◌, length, vec_len, IfOk, IsTrue, true};
 ghost use Rattle.pixel_core.specs.Rgba.{clear};
-ghost use Rattle.geom_core.specs.Overlaps.{IsWithin};
+ghost use Rattle.geom_core.specs.Rects.{IsWithin};
 ghost use Rattle.tile_core.specs.Pixels.{whole_tile, HasPixels};
 ghost use Rattle.compose_core.specs.Children.{IsComposed};
 ghost use Rattle.compose_core.specs.declared.children.Given.TheVariants as given_is;

@@ -1,7 +1,7 @@
 //! Parts of a tile.
 
 ghost use Rattle.std.specs.Prelude.{◌≡◌, ◌+◌, ◌≤◌, pos};
-ghost use Rattle.geom_core.specs.Overlaps.{IsWithin};
+ghost use Rattle.geom_core.specs.Rects.{IsWithin};
 ghost use Rattle.tile_core.specs.Pixels.{whole_tile};
 
 use geom_core::Rect;

@@ -1,8 +1,8 @@
 //! Parts of tiles.
 
 ghost use Rattle.std.specs.Prelude.{◌≡◌, IsTrue, ◌↔◌};
-ghost use Rattle.geom_core.specs.Overlaps.{IsWithin};
-ghost use Rattle.geom_core.specs.Grid.{IsWorldKey};
+ghost use Rattle.geom_core.specs.Rects.{IsWithin};
+ghost use Rattle.geom_core.specs.Keys.{IsWorldKey};
 ghost use Rattle.tile_core.specs.Pixels.{whole_tile};
 ghost use Rattle.compose_core.specs.Spots.{IsSpot, part_in_tile, Catches};
 

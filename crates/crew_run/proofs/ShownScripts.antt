@@ -8,7 +8,8 @@ use Rattle.doc_model.specs.Meaning.{Story, meaning}
 use Rattle.doc_model.specs.Strokes.{entries}
 use Rattle.ppm_out.specs.Scenes.{colours_of}
 use Rattle.ppm_out.specs.Sides.{HasSides}
-use Rattle.machine_model.specs.State.{State, story}
+use Rattle.machine_model.specs.State.{State}
+use Rattle.machine_model.specs.Settled.{story}
 use Rattle.machine_model.specs.MeaningLaws.{HasMeaning}
 use Rattle.script_text.specs.Script.{Contents, meaning_of}
 use Rattle.crew_run.specs.Shows.{Shows}

@@ -1,7 +1,7 @@
 //! The threads and the lock.
 
 ghost use Rattle.std.specs.Prelude.{◌≡◌, ◌≤◌, ◌<◌, ◌-◌, ◌^◌, length, IfOk};
-ghost use Rattle.machine_model.specs.State.{IsSettled};
+ghost use Rattle.machine_model.specs.Settled.{IsSettled};
 ghost use Rattle.crew_run.specs.Front.{IsFront};
 
 use crate::board::{Board, Brought, Following, Next, Part};

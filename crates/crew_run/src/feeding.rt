@@ -1,7 +1,7 @@
 //! Feeding a script to a desk.
 
 ghost use Rattle.std.specs.Prelude.{◌≡◌, ◌≤◌, ◌<◌, ◌-◌, ◌^◌, length, take, OnOk};
-ghost use Rattle.machine_model.specs.State.{IsSettled};
+ghost use Rattle.machine_model.specs.Settled.{IsSettled};
 ghost use Rattle.crew_run.specs.Front.{IsFront};
 
 use desk_core::Desk;
@@ -23,7 +23,7 @@ fn feed_next<J: Naming>(desk: &mut StampedDesk<J>, script: &Script) -> bool
     ensures canvas { desk.new.canvas ≡ desk.old.canvas }
 {
     let _lawful = script.commands();
-    let count = desk.desk().fed().len();
+    let count = desk.desk().fed_count();
     if count >= script.len() || count >= MOST {
         return false;
     }
@@ -37,7 +37,7 @@ pub(crate) fn feed_ahead<J: Naming>(desk: &mut StampedDesk<J>, script: &Script) 
     ensures front { IsFront desk.new.fed script.now.commands }
     ensures canvas { desk.new.canvas ≡ desk.old.canvas }
 {
-    for _ in desk.desk().fed().len()..script.len() {
+    for _ in desk.desk().fed_count()..script.len() {
         if !desk.desk().wants_commands() {
             return true;
         }
@@ -63,7 +63,7 @@ pub(crate) fn finish<L: Ledger>(
     ensures fed { OnOk result (desk.new.fed ≡ script.now.commands) }
 {
     let _lawful = script.commands();
-    for i in desk.fed().len()..script.len() {
+    for i in desk.fed_count()..script.len() {
         desk.feed(script.command(i))?;
     }
     desk.settle(steps)

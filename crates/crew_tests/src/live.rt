@@ -1,5 +1,6 @@
 //! What readers see of a script while a crew paints it, and once it is done.
 
+ghost use Rattle.std.specs.Prelude.{◌≡◌};
 ghost use Rattle.live_view.specs.Views.{IsOnCanvas};
 
 use crate::painted::script_of;
@@ -10,10 +11,11 @@ use desk_core::Desk;
 use geom_core::TileKey;
 use io_edge::NoGate;
 use live_run::{run_live, run_live_shown};
-use live_view::{LiveReader, LiveWriter, open_live};
+use live_view::{LiveOpened, LiveReader, LiveWriter, Naming, open_live};
 use pixel_core::Pixel;
 use script_text::Script;
 use std::alloc::Global;
+use std::marker::Brand;
 use std::process::Abort;
 use std::sync::atomic::{AtomicU64, Ordering};
 use std::sync::{Arc, Wait};
@@ -60,7 +62,7 @@ fn key_at(place: u32) -> TileKey
 }
 
 /// Looks at tile after tile until the painting is over.
-fn look_on(reader: LiveReader, over: &AtomicU64) -> Seen {
+fn look_on<K: Naming>(reader: LiveReader<K>, over: &AtomicU64) -> Seen {
     let mut reader = reader;
     let mut seen = Seen {
         rises: true,
@@ -79,13 +81,13 @@ fn look_on(reader: LiveReader, over: &AtomicU64) -> Seen {
 }
 
 /// The desk and the writer of a script that was painted by so many workers, if it could be.
-fn painted<R: Threads + Wait + Sync>(
+fn painted<K: Naming + Send + Sync, R: Threads + Wait + Sync>(
     rt: &R,
     alloc: Global,
     script: &Script,
     workers: u8,
-    live: LiveWriter,
-) -> Option<(Desk, LiveWriter)> {
+    live: LiveWriter<K>,
+) -> Option<(Desk, LiveWriter<K>)> {
     if workers > 16 || script.len() > 1_000_000 {
         live.close(rt);
         return None;
@@ -106,7 +108,7 @@ fn is_same(seen: Option<&Tile>, own: Option<&Tile>) -> bool {
 }
 
 /// How many tiles a new reader sees that aren't the desk's, or not at the newest version.
-fn others(live: &mut LiveWriter, desk: &Desk) -> Option<u32> {
+fn others<K: Naming>(live: &LiveWriter<K>, desk: &Desk) -> Option<u32> {
     let mut reader = live.reader().ok()?;
     let mut others = 0u32;
     for place in 0..1024u32 {
@@ -120,9 +122,8 @@ fn others(live: &mut LiveWriter, desk: &Desk) -> Option<u32> {
 }
 
 /// What became of it, once the painting is over. The writer is closed.
-fn what_became<R: Wait>(rt: &R, seen: Seen, desk: &Desk, live: LiveWriter) -> Told {
-    let mut live = live;
-    let others = others(&mut live, desk);
+fn what_became<K: Naming, R: Wait>(rt: &R, seen: Seen, desk: &Desk, live: LiveWriter<K>) -> Told {
+    let others = others(&live, desk);
     let count = live.count();
     live.close(rt);
     Told {
@@ -133,15 +134,18 @@ fn what_became<R: Wait>(rt: &R, seen: Seen, desk: &Desk, live: LiveWriter) -> To
 }
 
 /// Paints beside a thread that looks on.
-fn looked_at<R: Threads + Wait + Sync>(
+fn looked_at<K: Naming + Send + Sync + 'static, R: Threads + Wait + Sync>(
     rt: &R,
     alloc: Global,
     script: &Script,
     workers: u8,
-) -> Option<Told> {
+    opened: LiveOpened,
+) -> Option<Told>
+    requires { opened ≡ K.book }
+{
     let over = Arc::new(alloc, AtomicU64::new(0)).ok()?;
     let theirs = Arc::try_clone(&over).ok()?;
-    let mut live = open_live(alloc, 2).ok()?;
+    let live: LiveWriter<K> = opened.named(alloc, 2).ok()?;
     let Ok(reader) = live.reader() else {
         live.close(rt);
         return None;
@@ -175,7 +179,8 @@ fn who_looks_on_sees_it_come(rt: HostRuntime) -> Result<(), Fail> {
             return Err("no script".into());
         };
         for workers in [0, 2] {
-            let Some(told) = looked_at(&rt, rt.alloc(), &script, workers) else {
+            let Some(told) = looked_at::<Brand, _>(&rt, rt.alloc(), &script, workers, open_live())
+            else {
                 return Err("not painted".into());
             };
             let is_right = told.seen.rises

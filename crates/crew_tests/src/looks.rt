@@ -3,9 +3,10 @@
 ghost use Rattle.std.specs.Prelude.{◌≡◌, []};
 
 use geom_core::{NoMemory, TileKey};
-use live_view::{LiveReader, LiveWriter, NoPlace, Shown, open_live};
+use live_view::{LiveOpened, LiveReader, LiveWriter, Naming, NoPlace, Shown, open_live};
 use pixel_core::Pixel;
 use std::alloc::Global;
+use std::marker::Brand;
 use std::process::Abort;
 use std::sync::Wait;
 use std::test::*;
@@ -19,27 +20,40 @@ fn red() -> Pixel {
 }
 
 /// What a look shows: the version, and the colour of the tile's first pixel.
-fn seen(reader: &mut LiveReader) -> Option<(u64, Option<Pixel>)> {
+fn seen<K: Naming>(reader: &mut LiveReader<K>) -> Option<(u64, Option<Pixel>)> {
     let shown = reader.look(CORNER).ok()?;
     Some((shown.version, shown.tile.map(|tile| tile.pixel(0, 0))))
 }
 
 #[test]
 fn a_look_shows_what_was_published(rt: HostRuntime) -> Result<(), Fail> {
-    let mut writer = open_live(rt.alloc(), 2)?;
     let tile = Tile::plain(rt.alloc(), red());
-    let looks = looks_of_one_put(&rt, &mut writer, tile);
-    writer.close(&rt);
+    let looks = looks_of_one_put::<Brand, _>(&rt, rt.alloc(), open_live(), tile);
     let red = Some((1, Some(red())));
     assert_eq!(rt; looks?, [Some((0, None)), Some((0, None)), red, red]);
     Ok(())
 }
 
-/// The looks before a tile is put, before it is published, and after, and that of a second reader. No look
-/// is refused. A reader that is kept sees what is published later.
-fn looks_of_one_put<R: Wait>(
+/// The looks before a tile is put, before it is published, and after what was published is told to the reader, and
+/// that of a second reader, which is told nothing. No look is refused.
+fn looks_of_one_put<K: Naming, R: Wait>(
     rt: &R,
-    writer: &mut LiveWriter,
+    alloc: Global,
+    opened: LiveOpened,
+    tile: Result<Tile, NoMemory>,
+) -> Result<[Option<(u64, Option<Pixel>)>; 4], Fail>
+    requires { opened ≡ K.book }
+{
+    let mut writer: LiveWriter<K> = opened.named(alloc, 2)?;
+    let looks = looks_at(rt, &mut writer, tile);
+    writer.close(rt);
+    looks
+}
+
+/// The same of a writer that was just opened.
+fn looks_at<K: Naming, R: Wait>(
+    rt: &R,
+    writer: &mut LiveWriter<K>,
     tile: Result<Tile, NoMemory>,
 ) -> Result<[Option<(u64, Option<Pixel>)>; 4], Fail>
     requires { writer.old ≡ ([], []) }
@@ -50,38 +64,64 @@ fn looks_of_one_put<R: Wait>(
     let first = seen(&mut reader);
     let put = writer.put(CORNER, &tile).is_ok();
     let second = seen(&mut reader);
-    writer.publish(rt);
+    let published = writer.publish(rt).is_ok();
+    reader.learn(&writer.tell());
     let third = seen(&mut reader);
     let fourth = seen(&mut other);
-    if !put || reader.refused() > 0 || other.refused() > 0 {
-        return Err("no tile was put, or a look was refused")?;
+    if !put || !published || reader.refused() > 0 || other.refused() > 0 {
+        return Err("no tile was published, or a look was refused")?;
     }
     Ok([first, second, third, fourth])
 }
 
 #[test]
 fn a_dropped_reader_leaves_its_place(rt: HostRuntime) -> Result<(), Fail> {
-    let mut writer = open_live(rt.alloc(), 1)?;
+    let given = places_of_one::<Brand, _>(&rt, rt.alloc(), open_live());
+    assert_eq!(rt; given?, (true, Some(NoPlace), true));
+    Ok(())
+}
+
+/// Whether a reader was given, what came of a second one beside it, and whether one was given again after it.
+fn places_of_one<K: Naming, R: Wait>(
+    rt: &R,
+    alloc: Global,
+    opened: LiveOpened,
+) -> Result<(bool, Option<NoPlace>, bool), NoMemory>
+    requires { opened ≡ K.book }
+{
+    let writer: LiveWriter<K> = opened.named(alloc, 1)?;
     let first = writer.reader();
     let second = writer.reader().err();
     let was_given = first.is_ok();
     drop(first);
     let third = writer.reader().is_ok();
-    writer.close(&rt);
-    assert_eq!(rt; (was_given, second, third), (true, Some(NoPlace), true));
-    Ok(())
+    writer.close(rt);
+    Ok((was_given, second, third))
 }
 
 #[test]
 fn a_closed_writer_gives_no_look(rt: HostRuntime) -> Result<(), Fail> {
-    let mut writer = open_live(rt.alloc(), 1)?;
-    let reader = writer.reader();
-    writer.close(&rt);
-    if let Ok(mut reader) = reader {
-        assert!(rt; reader.look(CORNER).is_err());
-        assert_eq!(rt; reader.refused(), 1);
-    }
+    let looks = looks_after_close::<Brand, _>(&rt, rt.alloc(), open_live());
+    assert_eq!(rt; looks?, Some((false, 1)));
     Ok(())
+}
+
+/// Whether a look was given once the writer was closed, and how many were refused.
+fn looks_after_close<K: Naming, R: Wait>(
+    rt: &R,
+    alloc: Global,
+    opened: LiveOpened,
+) -> Result<Option<(bool, u64)>, NoMemory>
+    requires { opened ≡ K.book }
+{
+    let writer: LiveWriter<K> = opened.named(alloc, 1)?;
+    let reader = writer.reader();
+    writer.close(rt);
+    let Ok(mut reader) = reader else {
+        return Ok(None);
+    };
+    let is_given = reader.look(CORNER).is_ok();
+    Ok(Some((is_given, reader.refused())))
 }
 
 /// The colour of the update of that number, which counts from 1.
@@ -90,13 +130,14 @@ fn colour_of(number: u64) -> Pixel {
 }
 
 /// The writer's side: so many rows of one update, each in its colour.
-fn publish_many<R: Wait>(rt: &R, alloc: Global, writer: &mut LiveWriter, rows: u64) {
+fn publish_many<K: Naming, R: Wait>(rt: &R, alloc: Global, writer: &mut LiveWriter<K>, rows: u64) {
     for number in 1..=rows {
         let Ok(tile) = Tile::plain(alloc, colour_of(number)) else {
             return;
         };
-        if writer.count() < 100000 && writer.put(CORNER, &tile).is_ok() {
-            writer.publish(rt);
+        let is_put = writer.count() < 100000 && writer.put(CORNER, &tile).is_ok();
+        if !is_put || writer.publish(rt).is_err() {
+            return;
         }
     }
 }
@@ -110,8 +151,8 @@ fn is_of_its_version(shown: &Shown) -> bool {
 }
 
 /// The reader's side: looks until it has seen so many updates, for so many turns at most. Whether the
-/// versions never fell, and each look showed what the updates up to its version show.
-fn look_many(reader: LiveReader, until: u64) -> bool {
+/// versions never fell, each look showed what the updates up to its version show, and none was refused.
+fn look_many<K: Naming>(reader: LiveReader<K>, until: u64) -> bool {
     let mut reader = reader;
     let mut last = 0;
     let mut is_right = true;
@@ -124,32 +165,45 @@ fn look_many(reader: LiveReader, until: u64) -> bool {
             last = shown.version;
         }
     }
-    is_right
+    is_right && reader.refused() == 0
 }
 
 #[test]
 fn versions_never_fall(rt: HostRuntime) -> Result<(), Fail> {
-    let mut writer = open_live(rt.alloc(), 2)?;
-    let looked = looks_beside(&rt, rt.alloc(), &mut writer);
-    let count = writer.count();
-    writer.close(&rt);
-    assert_eq!(rt; (looked, count), (Some((true, 1000)), 1000));
+    let looked = looked_beside::<Brand, _>(&rt, rt.alloc(), open_live());
+    assert_eq!(rt; looked?, (Some((true, 1000)), 1000));
     Ok(())
 }
 
-/// A thread looks while another publishes. At the end a new reader looks.
-fn looks_beside<R: Threads + Wait + Sync>(
+/// What was seen beside a writer, and how many updates it had.
+fn looked_beside<K: Naming + Send + Sync, R: Threads + Wait + Sync>(
     rt: &R,
     alloc: Global,
-    writer: &mut LiveWriter,
+    opened: LiveOpened,
+) -> Result<(Option<(bool, u64)>, u64), NoMemory>
+    requires { opened ≡ K.book }
+{
+    let mut writer: LiveWriter<K> = opened.named(alloc, 2)?;
+    let looked = looks_beside(rt, alloc, &mut writer);
+    let count = writer.count();
+    writer.close(rt);
+    Ok((looked, count))
+}
+
+/// A thread looks while another publishes. At the end a reader that learnt all looks.
+fn looks_beside<K: Naming + Send + Sync, R: Threads + Wait + Sync>(
+    rt: &R,
+    alloc: Global,
+    writer: &mut LiveWriter<K>,
 ) -> Option<(bool, u64)> {
     let reader = writer.reader().ok()?;
+    let mut late = writer.reader().ok()?;
     let (_, is_right) = join(
         rt,
         || publish_many(rt, alloc, writer, 1000),
         || look_many(reader, 1000),
     );
-    let mut fresh = writer.reader().ok()?;
-    let last = fresh.look(CORNER).ok()?;
-    Some((is_right, last.version))
+    late.learn(&writer.tell());
+    let last = late.look(CORNER).ok()?;
+    Some((is_right && late.refused() == 0, last.version))
 }

@@ -16,8 +16,7 @@ use std::process::Abort;
 use std::sync::Wait;
 use std::test::*;
 use std::thread::Threads;
-use studio::{Pass, Studio};
-use turn_lock::Sent;
+use studio::{Pass, Sent, Studio};
 
 /// How many drawn scripts are painted.
 const SEEDS: u64 = 20;
@@ -57,7 +56,7 @@ fn answered<R: Wait + Abort>(rt: &R, studio: Studio, one: Pass, two: Pass) -> Re
     assert_eq!(rt; (one.artist(), one.calls(), one.joined()), (0, 3, 1));
     let closed = studio.close(one);
     assert_eq!(rt;
-        closed.desk.fed(),
+        closed.desk.commands(),
         [Command::Undo, Command::Export].as_slice()
     );
     assert_eq!(rt; closed.signers.as_slice(), [0, 1].as_slice());

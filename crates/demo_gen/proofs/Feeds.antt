@@ -17,7 +17,8 @@ use Rattle.doc_model.specs.declared.job.Kind.TheVariants.{Con}
 use Rattle.doc_model.specs.declared.command.Command.{Command}
 use Rattle.doc_model.specs.declared.command.Command.TheVariants as command
 use Rattle.doc_model.specs.Strokes.{Jobs, Fate, Open, Ended, Cancelled, Entry, Strokes, with_job, with_fate, fed, all_fed, is_stroke, is_open_stroke, has_room, is_export}
-use Rattle.doc_model.specs.Lawful.{is_closed_entry, may_follow, lawful_after, within_limits}
+use Rattle.doc_model.specs.Lawful.{may_follow, within_limits}
+use Rattle.doc_model.specs.Feeding.{is_closed_entry, lawful_after}
 use Rattle.doc_model.specs.Jobs.{checks}
 use Rattle.doc_model.proofs.Feeding.{Touches, with_job_touches, with_fate_touches}
 use Rattle.script_lines.specs.Colours.{is_pixel}

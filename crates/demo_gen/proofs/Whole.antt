@@ -8,7 +8,8 @@ use Rattle.doc_model.specs.declared.command.Command.{Command}
 use Rattle.doc_model.specs.declared.job.Kind.TheVariants.{Seq}
 use Rattle.doc_model.specs.declared.command.Command.TheVariants as command
 use Rattle.doc_model.specs.Strokes.{Jobs, Open, Ended, Cancelled, Entry, Changes, Undoes, Redoes, Exports, fed, all_fed, is_stroke, is_export, is_open}
-use Rattle.doc_model.specs.Lawful.{is_closed_entry, may_follow}
+use Rattle.doc_model.specs.Lawful.{may_follow}
+use Rattle.doc_model.specs.Feeding.{is_closed_entry}
 use Rattle.script_forms.specs.Ranges.{in_range, is_id}
 use Rattle.script_text.specs.Closed.{is_script}
 use Rattle.demo_gen.specs.Demo.{later, draw, dabs, after_dabs, move_job, closing, layer, stroke, after_stroke, only_if, look, block, after_blocks, blocks, tree, demo}

@@ -1,5 +1,5 @@
 -- Whole jobs and walks come to the desk.
-use Rattle.std.proofs.Common.{◌≡◌, ℕ, suc, zero, ◌+◌, ◌≤◌, true, false, not, Some, List, [], ◌∷◌, ◌++◌, length, take, drop, refl, sym, ap, ◌∙◌, subst, arith, Result, Ok, Err, OnOk}
+use Rattle.std.proofs.Common.{◌≡◌, ℕ, suc, zero, ◌+◌, ◌<◌, ◌≤◌, true, false, not, Some, List, [], ◌∷◌, ◌++◌, length, take, drop, refl, sym, ap, ◌∙◌, subst, arith, Result, Ok, Err, OnOk, IsErr}
 use Rattle.std.specs.Prelude.{slice_get}
 use Rattle.std.specs.List.{All, list_any, list_all}
 use Rattle.std.proofs.lemmas.List.{drop_all}
@@ -33,7 +33,8 @@ use Rattle.desk_work.specs.Lacking.{IsOfJob, AreLacking}
 use Rattle.desk_machine.specs.Commits.{MayCommit, TakesWhole, RunsFront, lacking_in, lacking_at, pair_events, row_events, commit_walk_events}
 use Rattle.desk_machine.specs.Sparing.{ArePrior, IsPrior, IsPriorAt}
 use Rattle.desk_work.proofs.Lackings.{all_at}
-use Rattle.desk_core.specs.Commits.{commit_events}
+use Rattle.desk_core.specs.declared.answers.Published.{Published}
+use Rattle.desk_core.specs.Commits.{Brings, commit_events}
 use Rattle.desk_parts.proofs.SettlingRuns.{run_then}
 
 -- ---- the events
@@ -75,6 +76,24 @@ next_run place tiles i x a b c at run step = subst (λ es. Run a es c) (sym (ap 
 pub whole_run : (place : ℕ) (tiles : List Entire) (i : ℕ) (a b c : State) → i ≡ length tiles → Run a (take i (commit_events place tiles)) b → Step b (End place) c → Run a (commit_events place tiles) c
 whole_run place tiles i a b c n run step = subst (λ es. Run a es c) (sym (all_events place tiles ∙ ap (λ m. take m (commit_events place tiles) ++ End place ∷ []) (sym n)))
     (run_then (take i (commit_events place tiles)) (End place ∷ []) a b c run (c, step, refl))
+
+events_count : (place : ℕ) (tiles : List Entire) → length (commit_events place tiles) ≡ suc (length tiles)
+events_count place [] = refl
+events_count place (y ∷ tiles) = ap suc (events_count place tiles)
+
+-- a front of the tiles is one of the events
+pub tiles_front : (place : ℕ) (tiles : List Entire) (i : ℕ) (a b : State) → i ≤ length tiles → Run a (take i (commit_events place tiles)) b → RunsFront a (commit_events place tiles) b
+tiles_front place tiles i a b low run = record { count = i; short = (let n = events_count place tiles in omega (arith, low, n)); run = run }
+
+-- ---- the answers
+
+pub brings_err : {E : Type 0} (May : Type 0) (events : List Event) (a b : State) (r : Result Published E) → IsErr r → RunsFront a events b → Brings May events a r b
+brings_err May events a b (Ok x) is front = cc
+brings_err May events a b (Err e) is front = front
+
+-- before the first tile
+pub no_tile : (place : ℕ) (tiles : List Entire) (a : State) → RunsFront a (commit_events place tiles) a
+no_tile place tiles a = tiles_front place tiles 0 a a (omega arith) refl
 
 -- ---- what is still lacking
 

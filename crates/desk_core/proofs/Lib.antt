@@ -1,2 +1,3 @@
 mod Committing
 mod SmallJobs
+mod Painting

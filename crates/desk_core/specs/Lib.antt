@@ -1,2 +1,3 @@
 pub mod Commits
 pub mod Asks
+pub mod Painted

@@ -1,15 +1,14 @@
 //! Jobs that were painted outside, and walks that were composed there, come to the desk whole.
 
-ghost use Rattle.std.specs.Prelude.{◌≡◌, ℕ, Some, Ok, OnOk, OnErr, []};
+ghost use Rattle.std.specs.Prelude.{◌≡◌, ℕ, Some, OnOk, OnErr, []};
 ghost use Rattle.machine_model.specs.State.{State};
 ghost use Rattle.machine_model.specs.Event.{Publish, End};
-ghost use Rattle.machine_model.specs.Sound.{IsOrderly};
+ghost use Rattle.machine_model.specs.Sound.{IsSound};
 ghost use Rattle.machine_model.specs.Step.{Step, Run};
 ghost use Rattle.desk_parts.specs.Settles.{Settles};
-ghost use Rattle.desk_machine.specs.Commits.{AreOfWork, MayCommit, MayCommitWalk, RunsFront, TakesWhole, commit_walk_events};
+ghost use Rattle.desk_machine.specs.Commits.{AreOfWork, MayCommit, RunsFront, TakesWhole};
 ghost use Rattle.desk_machine.specs.Sparing.{ArePrior, IsPriorAt};
-ghost use Rattle.desk_core.specs.Commits.{commit_events};
-ghost use Rattle.desk_core.specs.declared.answers.Published.TheVariants as answers;
+ghost use Rattle.desk_core.specs.Commits.{Commits, CommitsWalk, commit_events};
 
 use crate::answers::Published;
 use crate::desk::Desk;
@@ -26,12 +25,9 @@ impl Desk {
     /// the job lacks, each once, or one was made of another job or from other pixels.
     ///
     /// # Errors
-    /// `NoMemory`; of the tiles some, from the first on, are published, or none.
+    /// `NoMemory`; of the tiles some, from the first on, are published, or none, and the job hasn't ended.
     pub fn commit(&mut self, slot: SlotId, tiles: &[Whole]) -> Result<Published, NoMemory>
-        ensures stored { result ≡ Ok answers.Stored → Run self.old (commit_events slot.place tiles.now) self.new }
-        ensures nothing { result ≡ Ok answers.Nothing → self.new ≡ self.old }
-        ensures refused { result ≡ Ok answers.Nothing → MayCommit self.old slot.place slot.serial tiles.now → ⊥ }
-        ensures front { OnErr result (RunsFront self.old (commit_events slot.place tiles.now) self.new) }
+        ensures answer { Commits self.old slot.place slot.serial tiles.now result self.new }
         ensures runs { Settles self.old self.new }
         ensures canvas { self.new.canvas ≡ self.old.canvas }
         ensures fed { self.new.fed ≡ self.old.fed }
@@ -48,7 +44,7 @@ impl Desk {
     /// so.
     ///
     /// # Errors
-    /// `NoMemory`; of the tiles some, from the first on, are published, or none.
+    /// `NoMemory`; of the tiles some, from the first on, are published, or none, and the job hasn't ended.
     pub fn commit_made(
         &mut self,
         slot: SlotId,
@@ -57,10 +53,7 @@ impl Desk {
     ) -> Result<Published, NoMemory>
         requires of { AreOfWork self.old slot.place slot.serial tiles.now }
         requires prior { ArePrior self.old slot.place slot.serial since tiles.now }
-        ensures stored { result ≡ Ok answers.Stored → Run self.old (commit_events slot.place tiles.now) self.new }
-        ensures nothing { result ≡ Ok answers.Nothing → self.new ≡ self.old }
-        ensures refused { result ≡ Ok answers.Nothing → MayCommit self.old slot.place slot.serial tiles.now → ⊥ }
-        ensures front { OnErr result (RunsFront self.old (commit_events slot.place tiles.now) self.new) }
+        ensures answer { Commits self.old slot.place slot.serial tiles.now result self.new }
         ensures runs { Settles self.old self.new }
         ensures canvas { self.new.canvas ≡ self.old.canvas }
         ensures fed { self.new.fed ≡ self.old.fed }
@@ -69,10 +62,10 @@ impl Desk {
     }
 
     /// Tells what holds of every desk. It does nothing.
-    pub fn tell_orderly(&self)
-        ensures { IsOrderly self.now }
+    pub fn tell_sound(&self)
+        ensures { IsSound self.now }
     {
-        self.machine.tell_orderly();
+        self.machine.tell_sound();
     }
 
     /// Publishes the tiles of a job, and ends it. Of what they were made it may be known from which index on.
@@ -84,10 +77,7 @@ impl Desk {
     ) -> Result<Published, NoMemory>
         requires of { AreOfWork self.old slot.place slot.serial tiles.now }
         requires prior { (n : ℕ) → since ≡ Some n → ArePrior self.old slot.place slot.serial n tiles.now }
-        ensures stored { result ≡ Ok answers.Stored → Run self.old (commit_events slot.place tiles.now) self.new }
-        ensures nothing { result ≡ Ok answers.Nothing → self.new ≡ self.old }
-        ensures refused { result ≡ Ok answers.Nothing → MayCommit self.old slot.place slot.serial tiles.now → ⊥ }
-        ensures front { OnErr result (RunsFront self.old (commit_events slot.place tiles.now) self.new) }
+        ensures answer { Commits self.old slot.place slot.serial tiles.now result self.new }
         ensures runs { Settles self.old self.new }
         ensures canvas { self.new.canvas ≡ self.old.canvas }
         ensures fed { self.new.fed ≡ self.old.fed }
@@ -107,16 +97,13 @@ impl Desk {
     /// groups were composed on all tiles of its patch, of the same as the walk reads.
     ///
     /// # Errors
-    /// `NoMemory`; of the pairs some, from the first on, are published, or none.
+    /// `NoMemory`; of the pairs some, from the first on, are published, or none, and the walk hasn't ended.
     pub fn commit_walk(
         &mut self,
         slot: SlotId,
         composed: &Composed<'_>,
     ) -> Result<Published, NoMemory>
-        ensures stored { result ≡ Ok answers.Stored → Run self.old (commit_walk_events self.old slot.place) self.new }
-        ensures nothing { result ≡ Ok answers.Nothing → self.new ≡ self.old }
-        ensures refused { result ≡ Ok answers.Nothing → MayCommitWalk self.old slot.place slot.serial composed.now → ⊥ }
-        ensures front { OnErr result (RunsFront self.old (commit_walk_events self.old slot.place) self.new) }
+        ensures answer { CommitsWalk self.old slot.place slot.serial composed.now result self.new }
         ensures runs { Settles self.old self.new }
         ensures canvas { self.new.canvas ≡ self.old.canvas }
         ensures fed { self.new.fed ≡ self.old.fed }

@@ -10,6 +10,7 @@ ghost use Rattle.machine_model.specs.Step.{Step};
 ghost use Rattle.desk_core.specs.declared.answers.Published.TheVariants as answers;
 ghost use Rattle.desk_core.specs.declared.answers.Ended.TheVariants as ended;
 ghost use Rattle.desk_parts.specs.Enabled.{Takes, IsEnd, MayEnd};
+ghost use Rattle.desk_core.specs.Painted.{HasJobsValue};
 
 use crate::answers::{Ended, Published};
 use command_log::Commands;
@@ -95,7 +96,9 @@ impl Desk {
     /// # Errors
     /// `NoMemory`; all is as it was.
     pub fn publish(&mut self, slot: SlotId, painted: &Painted<'_>) -> Result<Published, NoMemory>
+        ensures taken { result ≡ Ok answers.Stored → Takes self.old slot.place slot.serial painted.now }
         ensures stored { result ≡ Ok answers.Stored → Step self.old (Publish slot.place painted.now.key) self.new }
+        ensures value { result ≡ Ok answers.Stored → HasJobsValue self.old slot.place painted.now }
         ensures nothing { result ≡ Ok answers.Nothing → self.new ≡ self.old }
         ensures refused { result ≡ Ok answers.Nothing → Takes self.old slot.place slot.serial painted.now → ⊥ }
         ensures err { OnErr result (self.new ≡ self.old) }
@@ -103,6 +106,8 @@ impl Desk {
         if !self.machine.takes(slot, painted) {
             return Ok(Published::Nothing);
         }
+        // What was painted has its job's value, as its key tells.
+        let _key = painted.key();
         self.machine.lay(slot, painted)?;
         Ok(Published::Stored)
     }
@@ -110,6 +115,7 @@ impl Desk {
     /// Ends the work in a slot whose tiles are all published. `Nothing` exactly where the slot hasn't that
     /// work, or some tile of it isn't published. No memory.
     pub fn end(&mut self, slot: SlotId) -> Ended
+        ensures taken { result ≡ ended.Done → MayEnd self.old slot.place slot.serial }
         ensures done { result ≡ ended.Done → IsEnd self.old slot.place self.new }
         ensures nothing { result ≡ ended.Nothing → self.new ≡ self.old }
         ensures refused { result ≡ ended.Nothing → MayEnd self.old slot.place slot.serial → ⊥ }

@@ -1,6 +1,6 @@
 //! What a desk shows.
 
-ghost use Rattle.std.specs.Prelude.{All, ◌≡◌, ◌<◌, pos, true, false, map, IfSome, IfNone};
+ghost use Rattle.std.specs.Prelude.{All, ◌≡◌, ◌<◌, pos, true, false, Some, length, map, IfSome, IfNone, slice_get};
 ghost use Rattle.pixel_core.specs.Rgba.{clear};
 ghost use Rattle.geom_core.specs.Areas.{Point, point};
 ghost use Rattle.tile_core.specs.Pixels.{pixel_at};
@@ -9,7 +9,8 @@ ghost use Rattle.doc_model.specs.Shots.{in_tile};
 ghost use Rattle.doc_model.specs.Picture.{picture};
 ghost use Rattle.ppm_out.specs.Scenes.{colours_of};
 ghost use Rattle.ppm_out.specs.Sides.{HasSides};
-ghost use Rattle.machine_model.specs.Groups.{cache, covered};
+ghost use Rattle.machine_model.specs.Groups.{cache};
+ghost use Rattle.machine_model.specs.Covers.{covered};
 ghost use Rattle.desk_core.specs.declared.answers.Fresh.TheVariants as fresh;
 
 use crate::answers::Fresh;
@@ -47,11 +48,28 @@ impl Desk {
         self.machine.root_tile(key)
     }
 
-    /// The frames, one for each export so far.
+    /// The frames, one for each export so far. Each has the canvas's sides.
     pub fn frames(&self) -> &[Frame]
-        ensures { map colours_of result.now ≡ self.now.frames }
+        ensures colours { map colours_of result.now ≡ self.now.frames }
+        ensures sides { All (HasSides self.now.canvas) result.now }
     {
         self.machine.frames()
+    }
+
+    /// How many frames there are.
+    pub fn frame_count(&self) -> usize
+        ensures { result ≡ length self.now.frames }
+    {
+        self.frames().len()
+    }
+
+    /// The frame at place `i`, from 0 on.
+    pub fn frame(&self, i: usize) -> &Frame
+        requires { i < length self.now.frames }
+        ensures colours { slice_get self.now.frames i ≡ Some (colours_of result.now) }
+        ensures sides { HasSides self.now.canvas result.now }
+    {
+        &self.frames()[i]
     }
 
     /// The film of the frames and the outcomes so far, in order. Of each frame the tiles are marked that
@@ -72,11 +90,41 @@ impl Desk {
         self.machine.outcomes()
     }
 
-    /// The commands that were fed.
-    pub fn fed(&self) -> &[Command]
+    /// How many outcomes there are so far.
+    pub fn outcome_count(&self) -> usize
+        ensures { result ≡ length self.now.outcomes }
+    {
+        self.outcomes().len()
+    }
+
+    /// The outcome at place `i`, from 0 on.
+    pub fn outcome(&self, i: usize) -> Outcome
+        requires { i < length self.now.outcomes }
+        ensures { slice_get self.now.outcomes i ≡ Some result }
+    {
+        self.outcomes()[i]
+    }
+
+    /// The commands that were fed, in order.
+    pub fn commands(&self) -> &[Command]
         ensures { result.now ≡ self.now.fed }
     {
-        self.machine.fed()
+        self.machine.commands()
+    }
+
+    /// How many commands were fed.
+    pub fn fed_count(&self) -> usize
+        ensures { result ≡ length self.now.fed }
+    {
+        self.commands().len()
+    }
+
+    /// The command that was fed at place `i`, from 0 on.
+    pub fn fed(&self, i: usize) -> &Command
+        requires { i < length self.now.fed }
+        ensures { slice_get self.now.fed i ≡ Some result.now }
+    {
+        &self.commands()[i]
     }
 
     /// The canvas that it was made for.

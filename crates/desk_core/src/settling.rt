@@ -2,9 +2,10 @@
 
 ghost use Rattle.std.specs.Prelude.{◌≡◌, true, false, slice_get, Ok, IsSomeAnd, OnOk, OnErr};
 ghost use Rattle.std.specs.List.{list_all};
-ghost use Rattle.doc_model.specs.Lawful.{is_closed_entry};
+ghost use Rattle.doc_model.specs.Feeding.{is_closed_entry};
 ghost use Rattle.doc_model.specs.Strokes.{entries};
-ghost use Rattle.machine_model.specs.State.{IsSettled, is_free};
+ghost use Rattle.machine_model.specs.State.{is_free};
+ghost use Rattle.machine_model.specs.Settled.{IsSettled};
 ghost use Rattle.machine_model.specs.Sound.{IsOrderly};
 ghost use Rattle.machine_model.specs.MeaningLaws.{HasMeaning};
 ghost use Rattle.desk_parts.specs.Settles.{Settles, GoesOn};

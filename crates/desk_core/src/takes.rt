@@ -1,7 +1,10 @@
 //! The next event.
 
-ghost use Rattle.std.specs.Prelude.{◌≡◌, Ok, OnErr};
-ghost use Rattle.machine_model.specs.State.{IsSettled};
+ghost use Rattle.std.specs.Prelude.{◌≡◌, true, Ok, OnErr};
+ghost use Rattle.std.specs.List.{list_all};
+ghost use Rattle.machine_model.specs.MeaningLaws.{waits_for_commands};
+ghost use Rattle.machine_model.specs.State.{is_free};
+ghost use Rattle.machine_model.specs.Settled.{IsSettled};
 ghost use Rattle.machine_model.specs.Event.{Start, WalkStart};
 ghost use Rattle.machine_model.specs.Step.{Step};
 ghost use Rattle.desk_machine.specs.declared.tickets.PaintTicket.{PaintTicket};
@@ -19,19 +22,25 @@ use memento_core::Steps;
 use std::sync::ledger::Ledger;
 
 impl Desk {
-    /// Makes an event that may happen, those of the entry at the head first: so composing comes late, but
-    /// where a barrier or an export waits for it.
+    /// Makes an event that may happen, those of the entry at the head first: a walk starts only where the head
+    /// waits, so composing comes late, but where a barrier or an export waits for it. `Idle` with no slot busy
+    /// comes only where the head is a stroke that is still open.
     ///
     /// # Errors
     /// `NoMemory`, which comes only where an event that takes memory may happen and none of those that
     /// take none; all is as it was.
     pub fn take<L: Ledger>(&mut self, steps: &mut Steps<L>) -> Result<Taken, NoMemory>
+        // What each answer tells. A walk is started last.
         ensures paint { (t : PaintTicket) → result ≡ Ok (taken.Paint t) → Step self.old (Start t.slot.place) self.new × IsPaintTicket t self.new }
         ensures walk { (t : WalkTicket) → result ≡ Ok (taken.Walk t) → Step self.old (WalkStart t.slot.place t.inputs.patch) self.new × IsWalkTicket t self.new }
+        ensures last { (t : WalkTicket) → result ≡ Ok (taken.Walk t) → HeadWaits self.old }
         ensures did { result ≡ Ok taken.Did → DoesAtOnce self.old self.new steps.old steps.new }
         ensures idle { result ≡ Ok taken.Idle → IsIdle self.old × (self.new ≡ self.old) }
+        ensures stuck { result ≡ Ok taken.Idle → list_all is_free self.old.slots ≡ true → waits_for_commands self.old ≡ true }
         ensures settled { result ≡ Ok taken.Settled → IsSettled self.old × (self.new ≡ self.old) }
         ensures err { OnErr result (MayWant self.old × (self.new ≡ self.old)) }
+
+        // When no step is counted.
         ensures uncounted { (result ≡ Ok taken.Did → ⊥) → steps.new ≡ steps.old }
     {
         match self.machine.choice() {
@@ -64,12 +73,14 @@ fn take_walk(machine: &mut TrackedMachine) -> Result<Taken, NoMemory>
     ensures walk { (t : WalkTicket) → result ≡ Ok (taken.Walk t) → Step machine.old (WalkStart t.slot.place t.inputs.patch) machine.new × IsWalkTicket t machine.new }
     ensures did { result ≡ Ok taken.Did → ⊥ }
     ensures idle { result ≡ Ok taken.Idle → IsIdle machine.old × (machine.new ≡ machine.old) }
+    ensures stuck { result ≡ Ok taken.Idle → list_all is_free machine.old.slots ≡ true → waits_for_commands machine.old ≡ true }
     ensures settled { result ≡ Ok taken.Settled → IsSettled machine.old × (machine.new ≡ machine.old) }
     ensures err { OnErr result (MayWant machine.old × (machine.new ≡ machine.old)) }
 {
     match machine.walk_place() {
         Some(place) => Ok(Taken::Walk(machine.start_walk(place)?)),
         None => {
+            machine.tell_sound();
             if machine.is_settled() {
                 Ok(Taken::Settled)
             } else {

@@ -2,10 +2,11 @@
 
 ghost use Rattle.std.specs.Prelude.{◌≡◌, Ok, OnErr};
 ghost use Rattle.machine_model.specs.Event.{WalkPublish};
-ghost use Rattle.machine_model.specs.Step.{Step, Run};
+ghost use Rattle.machine_model.specs.Step.{Step};
 ghost use Rattle.desk_parts.specs.Enabled.{TakesWalk};
 ghost use Rattle.desk_parts.specs.Settles.{Settles};
-ghost use Rattle.desk_machine.specs.Commits.{MayPublishRow, ReadsAsWork, RunsFront, row_events};
+ghost use Rattle.desk_machine.specs.Commits.{ReadsAsWork};
+ghost use Rattle.desk_core.specs.Commits.{PublishesRow};
 ghost use Rattle.desk_core.specs.declared.answers.Published.TheVariants as answers;
 
 use crate::answers::Published;
@@ -28,6 +29,7 @@ impl Desk {
         group: u16,
         key: TileKey,
     ) -> Result<Published, NoMemory>
+        ensures taken { result ≡ Ok answers.Stored → TakesWalk self.old slot.place slot.serial composed.now group key }
         ensures stored { result ≡ Ok answers.Stored → Step self.old (WalkPublish slot.place group key) self.new }
         ensures nothing { result ≡ Ok answers.Nothing → self.new ≡ self.old }
         ensures refused { result ≡ Ok answers.Nothing → TakesWalk self.old slot.place slot.serial composed.now group key → ⊥ }
@@ -46,17 +48,14 @@ impl Desk {
     /// of the same as the walk reads.
     ///
     /// # Errors
-    /// `NoMemory`; of the groups some, from the first on, are published, or none.
+    /// `NoMemory`; it is published of some of the groups, from the first on, or of none, but not of all.
     pub fn publish_row(
         &mut self,
         slot: SlotId,
         composed: &Composed<'_>,
         key: TileKey,
     ) -> Result<Published, NoMemory>
-        ensures stored { result ≡ Ok answers.Stored → Run self.old (row_events self.old slot.place key) self.new }
-        ensures nothing { result ≡ Ok answers.Nothing → self.new ≡ self.old }
-        ensures refused { result ≡ Ok answers.Nothing → MayPublishRow self.old slot.place slot.serial composed.now key → ⊥ }
-        ensures front { OnErr result (RunsFront self.old (row_events self.old slot.place key) self.new) }
+        ensures answer { PublishesRow self.old slot.place slot.serial composed.now key result self.new }
         ensures runs { Settles self.old self.new }
         ensures canvas { self.new.canvas ≡ self.old.canvas }
         ensures fed { self.new.fed ≡ self.old.fed }
@@ -71,7 +70,7 @@ impl Desk {
     /// `Nothing` exactly where `publish_row` says so.
     ///
     /// # Errors
-    /// `NoMemory`; of the groups some, from the first on, are published, or none.
+    /// `NoMemory`; it is published of some of the groups, from the first on, or of none, but not of all.
     pub fn publish_known_row(
         &mut self,
         slot: SlotId,
@@ -79,10 +78,7 @@ impl Desk {
         key: TileKey,
     ) -> Result<Published, NoMemory>
         requires { ReadsAsWork self.old slot.place slot.serial composed.now key }
-        ensures stored { result ≡ Ok answers.Stored → Run self.old (row_events self.old slot.place key) self.new }
-        ensures nothing { result ≡ Ok answers.Nothing → self.new ≡ self.old }
-        ensures refused { result ≡ Ok answers.Nothing → MayPublishRow self.old slot.place slot.serial composed.now key → ⊥ }
-        ensures front { OnErr result (RunsFront self.old (row_events self.old slot.place key) self.new) }
+        ensures answer { PublishesRow self.old slot.place slot.serial composed.now key result self.new }
         ensures runs { Settles self.old self.new }
         ensures canvas { self.new.canvas ≡ self.old.canvas }
         ensures fed { self.new.fed ≡ self.old.fed }

@@ -24,7 +24,8 @@ use Rattle.machine_model.specs.State.{Child, Walker, Slot, Free, Paints, Walks, 
 use Rattle.machine_model.specs.Event.{Event, Feed, Init, Start, Publish, End, Finish, Cancel, Act, WalkStart, WalkPublish, WalkEnd}
 use Rattle.machine_model.specs.Step.{Step, WalkPublishStep, WalkEndStep}
 use Rattle.machine_model.specs.Slots.{is_painter, no_painter}
-use Rattle.machine_model.specs.Groups.{with_pixels, nodes_in, children_of, folded, on, path_of}
+use Rattle.machine_model.specs.Groups.{with_pixels, nodes_in, children_of, on, path_of}
+use Rattle.machine_model.specs.Covers.{folded}
 use Rattle.machine_model.specs.Guards.{same_pair, is_paint}
 use Rattle.machine_model.specs.Caches.{SamePixels}
 use Rattle.machine_model.specs.Effects.{after_finish}

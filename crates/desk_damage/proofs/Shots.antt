@@ -18,7 +18,7 @@ use Rattle.tile_core.specs.Shots.{Sight, sight_at}
 use Rattle.doc_model.specs.Layers.{Layer, at, plain}
 use Rattle.std.specs.FinMap as finite
 use Rattle.std.specs.Option.{unwrap_or}
-use Rattle.geom_core.specs.Overlaps.{any_holds}
+use Rattle.geom_core.specs.Rects.{any_holds}
 use Rattle.paint_device.specs.Sheets.{Sheet, sheet_at}
 use Rattle.paint_device.specs.Seen.{layer_of}
 use Rattle.paint_device.proofs.Shown.{at-layer_of}

@@ -7,7 +7,7 @@ use Rattle.std.specs.List.{list_any, list_all, AllByRecursion}
 use Rattle.std.proofs.lemmas.Bool.Decides.{nat_tests}
 use Rattle.pixel_core.specs.Rgba.{clear}
 use Rattle.geom_core.specs.Areas.{holds, Point}
-use Rattle.geom_core.specs.Overlaps.{any_holds}
+use Rattle.geom_core.specs.Rects.{any_holds}
 use Rattle.geom_core.specs.Grid.{Key}
 use Rattle.geom_core.proofs.Tests.{not_true, and_left, and_right}
 use Rattle.doc_model.specs.declared.canvas.Patch.{Patch}
@@ -23,7 +23,8 @@ use Rattle.machine_model.specs.State.{Walker, Slot, Free, Paints, Walks, State}
 use Rattle.machine_model.specs.Event.{Event, Feed, Init, Start, Publish, End, Finish, Cancel, Act, WalkStart, WalkPublish, WalkEnd}
 use Rattle.machine_model.specs.Step.{Step, StartStep, PublishStep, WalkStartStep, WalkPublishStep, Run}
 use Rattle.machine_model.specs.Slots.{is_painter, is_walker, no_painter, no_walker}
-use Rattle.machine_model.specs.Groups.{with_pixels, nodes_in, folded, on, path_of, covered}
+use Rattle.machine_model.specs.Groups.{with_pixels, nodes_in, on, path_of}
+use Rattle.machine_model.specs.Covers.{folded, covered}
 use Rattle.machine_model.specs.Guards.{is_paint}
 use Rattle.machine_model.specs.Effects.{after_finish}
 use Rattle.machine_model.specs.EffectLaws.{PublishesTile, ComposesTile}

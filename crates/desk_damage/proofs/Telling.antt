@@ -1,5 +1,5 @@
 -- What is told of a walk as it starts, and runs that damage nothing.
-use Rattle.std.proofs.Common.{Bool, ◌≡◌, ℕ, suc, zero, true, List, [], ◌∷◌, ◌++◌, take, Some, refl, sym, ◌∙◌, subst}
+use Rattle.std.proofs.Common.{Bool, ◌≡◌, ℕ, suc, zero, true, List, [], ◌∷◌, ◌++◌, take, Some, Result, Ok, Err, OnOk, OnErr, refl, sym, ◌∙◌, subst}
 use Rattle.std.specs.Prelude.{slice_get}
 use Rattle.std.specs.List.{list_all}
 use Rattle.geom_core.specs.Areas.{holds, Point}
@@ -9,6 +9,7 @@ use Rattle.tile_core.specs.Damage.{Parts, is_damaged}
 use Rattle.machine_model.specs.State.{Walker, Walks, State}
 use Rattle.machine_model.specs.Event.{Event, Feed, Init, Start, Publish, End, Finish, Cancel, Act, WalkStart, WalkPublish, WalkEnd}
 use Rattle.doc_model.specs.declared.canvas.Patch.{Patch}
+use Rattle.machine_model.specs.Step.{Run}
 use Rattle.machine_model.specs.Walks.{walk_values}
 use Rattle.walker_core.specs.declared.known.Known.{Known}
 use Rattle.walker_core.specs.Readings.{Readings, path_in}
@@ -43,8 +44,13 @@ quiet_commit place [] (suc zero) = refl
 quiet_commit place [] (suc (suc n)) = refl
 quiet_commit place (p ∷ ps) (suc n) = quiet_commit place ps n
 
-pub front_tracks : (place : ℕ) (ps : List (ℕ × Key)) (old new : State) (d : Parts) (b : Bool) → RunsFront old (pair_events place ps) new → Tracks old d b → Tracks new d b
-front_tracks place ps old new d b front is = run_tracks (take front.count (pair_events place ps)) old new d b (quiet_front place ps front.count) front.run is
+quiet_pairs : (place : ℕ) (ps : List (ℕ × Key)) → list_all is_quiet (pair_events place ps) ≡ true
+quiet_pairs place [] = refl
+quiet_pairs place (p ∷ ps) = quiet_pairs place ps
+
+pub row_tracks : {A E : Type 0} (place : ℕ) (ps : List (ℕ × Key)) (old new : State) (d : Parts) (b : Bool) (r : Result A E) → OnOk r (Run old (pair_events place ps) new) → OnErr r (RunsFront old (pair_events place ps) new) → Tracks old d b → Tracks new d b
+row_tracks place ps old new d b (Ok x) all front is = run_tracks (pair_events place ps) old new d b (quiet_pairs place ps) all is
+row_tracks place ps old new d b (Err x) all front is = run_tracks (take front.count (pair_events place ps)) old new d b (quiet_front place ps front.count) front.run is
 
 pub commit_tracks : (place : ℕ) (ps : List (ℕ × Key)) (old new : State) (d : Parts) (b : Bool) → RunsFront old (pair_events place ps ++ WalkEnd place ∷ []) new → Tracks old d b → Tracks new d b
 commit_tracks place ps old new d b front is = run_tracks (take front.count (pair_events place ps ++ WalkEnd place ∷ [])) old new d b (quiet_commit place ps front.count) front.run is

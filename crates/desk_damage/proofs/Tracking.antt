@@ -5,7 +5,7 @@ use Rattle.std.specs.List.{list_all}
 use Rattle.std.proofs.lemmas.Bool.Decides.{nat_tests}
 use borrow.Author.Differences.{ints}
 use Rattle.geom_core.specs.Areas.{Area, holds, Point, point}
-use Rattle.geom_core.specs.Overlaps.{any_holds}
+use Rattle.geom_core.specs.Rects.{any_holds}
 use Rattle.geom_core.specs.Grid.{key_of}
 use Rattle.geom_core.proofs.Tests.{taken, both_true, and_left, and_right}
 use Rattle.tile_core.specs.Marks.{on_canvas}

@@ -9,7 +9,8 @@ use Rattle.doc_model.specs.Picture.{with_look}
 use Rattle.doc_model.specs.Forest.{children}
 use Rattle.doc_model.proofs.Shots.{at-shot_of}
 use Rattle.machine_model.specs.State.{Child, State}
-use Rattle.machine_model.specs.Groups.{children_of, folded, on}
+use Rattle.machine_model.specs.Groups.{children_of, on}
+use Rattle.machine_model.specs.Covers.{folded}
 use Rattle.machine_model.specs.Walks.{value_in, walk_folded, walk_values, looked_up, cut_child, shots_of}
 use Rattle.machine_model.proofs.WalkFolds.{OnPathCached}
 use Rattle.machine_model.proofs.WalkEndCaches.{firsts}

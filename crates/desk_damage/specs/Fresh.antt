@@ -5,7 +5,7 @@ use Rattle.std.specs.FinMap.{FinMap}
 use Rattle.std.specs.List.{AllByRecursion}
 use Rattle.pixel_core.specs.Rgba.{Rgba, clear}
 use Rattle.geom_core.specs.Areas.{holds, Point}
-use Rattle.geom_core.specs.Overlaps.{any_holds}
+use Rattle.geom_core.specs.Rects.{any_holds}
 use Rattle.tile_core.specs.Damage.{Parts, is_damaged}
 use Rattle.tile_core.specs.Marks.{on_canvas}
 use Rattle.geom_core.specs.Grid.{key_of}
@@ -14,7 +14,8 @@ use Rattle.doc_model.specs.Jobs.{writes}
 use Rattle.doc_model.specs.Layers.{Layer, at}
 use Rattle.doc_model.specs.Picture.{Doc, canvas_area}
 use Rattle.machine_model.specs.State.{Slot, Free, Paints, Walks, State}
-use Rattle.machine_model.specs.Groups.{cache, with_pixels, nodes_in, folded}
+use Rattle.machine_model.specs.Groups.{cache, with_pixels, nodes_in}
+use Rattle.machine_model.specs.Covers.{folded}
 use Rattle.machine_model.specs.Slots.{no_painter, no_walker}
 use Rattle.machine_model.specs.Walks.{walk_values}
 

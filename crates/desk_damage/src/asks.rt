@@ -1,16 +1,18 @@
 //! What may be done next.
 
 ghost use Rattle.desk_machine.specs.Commits.{AreOfWork, MayCommit, MayCommitWalk, MayPublishRow, ReadsAsWork};
+ghost use Rattle.desk_machine.specs.Ends.{JobMayEnd, WalkMayEnd};
 ghost use Rattle.desk_machine.specs.OwnWork.{IsLack};
 ghost use Rattle.desk_parts.specs.Choices.{CanWalk, IsChoice, Tells, WalksWait};
 ghost use Rattle.desk_parts.specs.Enabled.{Enabled, Takes, TakesWalk};
 ghost use Rattle.doc_model.specs.Lawful.{may_follow};
 ghost use Rattle.doc_model.specs.Strokes.{entries};
-ghost use Rattle.machine_model.specs.Event.{End, WalkEnd};
-ghost use Rattle.machine_model.specs.Sound.{IsOrderly};
-ghost use Rattle.machine_model.specs.State.{IsSettled, Painter, Paints, Walker, Walks, is_free};
+ghost use Rattle.machine_model.specs.Event.{End};
+ghost use Rattle.machine_model.specs.Sound.{IsOrderly, IsSound};
+ghost use Rattle.machine_model.specs.State.{is_free};
+ghost use Rattle.machine_model.specs.Settled.{IsSettled};
 ghost use Rattle.std.specs.List.{list_all};
-ghost use Rattle.std.specs.Prelude.{IfNone, IfSome, IsSomeAnd, None, Ok, Some, [], false, slice_get, true, ◌-◌, ◌<◌, ◌≡◌};
+ghost use Rattle.std.specs.Prelude.{IfNone, IfSome, IsSomeAnd, IsTrue, Ok, [], false, slice_get, true, ◌↔◌, ◌≡◌};
 
 use crate::tracked::TrackedMachine;
 use desk_machine::{Lack, SlotId};
@@ -54,16 +56,14 @@ impl TrackedMachine {
 
     /// Whether the job with that serial is at work in the slot, and all its tiles are published.
     pub fn is_complete(&self, slot: SlotId) -> bool
-        ensures some { result ≡ true → Enabled self.now (End slot.place) }
-        ensures none { result ≡ false → (w : Painter) → slice_get self.now.slots slot.place ≡ Some (Paints w) → w.serial ≡ slot.serial → Enabled self.now (End slot.place) → ⊥ }
+        ensures { IsTrue result ↔ JobMayEnd self.now slot.place slot.serial }
     {
         self.machine.is_complete(slot)
     }
 
     /// Whether the walk with that serial is at work in the slot, and all its tiles are published.
     pub fn is_walked(&self, slot: SlotId) -> bool
-        ensures some { result ≡ true → Enabled self.now (WalkEnd slot.place) }
-        ensures none { result ≡ false → (w : Walker) → slice_get self.now.slots slot.place ≡ Some (Walks w) → w.serial ≡ slot.serial → Enabled self.now (WalkEnd slot.place) → ⊥ }
+        ensures { IsTrue result ↔ WalkMayEnd self.now slot.place slot.serial }
     {
         self.machine.is_walked(slot)
     }
@@ -96,10 +96,10 @@ impl TrackedMachine {
     }
 
     /// Tells what holds of every machine. It does nothing.
-    pub fn tell_orderly(&self)
-        ensures { IsOrderly self.now }
+    pub fn tell_sound(&self)
+        ensures { IsSound self.now }
     {
-        self.machine.tell_orderly();
+        self.machine.tell_sound();
     }
 
     /// Whether the walk with that serial is at work in the slot, and all its groups were composed on all tiles

@@ -199,7 +199,7 @@ impl TrackedMachine {
     /// Publishes the tile of each group of which the walk in a slot hasn't published it.
     ///
     /// # Errors
-    /// `NoMemory`; it is published of some of the groups, from the first on.
+    /// `NoMemory`; it is published of some of the groups, from the first on, or of none, but not of all.
     pub fn lay_walked_row(
         &mut self,
         slot: SlotId,
@@ -208,7 +208,7 @@ impl TrackedMachine {
     ) -> Result<(), NoMemory>
         requires { MayPublishRow self.old slot.place slot.serial composed.now key }
         ensures all { OnOk result (Run self.old (row_events self.old slot.place key) self.new) }
-        ensures front { RunsFront self.old (row_events self.old slot.place key) self.new }
+        ensures front { OnErr result (RunsFront self.old (row_events self.old slot.place key) self.new) }
     {
         self.machine.lay_walked_row(slot, composed, key)
     }

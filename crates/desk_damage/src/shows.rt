@@ -5,7 +5,8 @@ ghost use Rattle.doc_model.specs.Layers.{at};
 ghost use Rattle.doc_model.specs.Picture.{picture};
 ghost use Rattle.doc_model.specs.Shots.{in_tile};
 ghost use Rattle.geom_core.specs.Areas.{Point, point};
-ghost use Rattle.machine_model.specs.Groups.{cache, covered};
+ghost use Rattle.machine_model.specs.Groups.{cache};
+ghost use Rattle.machine_model.specs.Covers.{covered};
 ghost use Rattle.pixel_core.specs.Rgba.{clear};
 ghost use Rattle.ppm_out.specs.Scenes.{colours_of};
 ghost use Rattle.ppm_out.specs.Sides.{HasSides};
@@ -45,9 +46,10 @@ impl TrackedMachine {
         self.machine.root_tile(key)
     }
 
-    /// The frames, one for each export so far.
+    /// The frames, one for each export so far. Each has the canvas's sides.
     pub fn frames(&self) -> &[Frame]
-        ensures { map colours_of result.now ≡ self.now.frames }
+        ensures colours { map colours_of result.now ≡ self.now.frames }
+        ensures sides { All (HasSides self.now.canvas) result.now }
     {
         self.machine.frames()
     }
@@ -71,10 +73,10 @@ impl TrackedMachine {
     }
 
     /// The commands that were fed.
-    pub fn fed(&self) -> &[Command]
+    pub fn commands(&self) -> &[Command]
         ensures { result.now ≡ self.now.fed }
     {
-        self.machine.fed()
+        self.machine.commands()
     }
 
     /// The canvas that it was made for.

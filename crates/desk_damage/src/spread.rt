@@ -3,7 +3,7 @@
 ghost use Rattle.std.specs.Prelude.{◌≡◌, ◌⊎◌, true, false, IfSome};
 ghost use Rattle.geom_core.specs.Areas.{holds, Point};
 ghost use Rattle.geom_core.specs.Grid.{key_of, tile};
-ghost use Rattle.geom_core.specs.Overlaps.{any_holds, IsWithin};
+ghost use Rattle.geom_core.specs.Rects.{any_holds, IsWithin};
 ghost use Rattle.tile_core.specs.Marks.{on_canvas};
 ghost use Rattle.tile_core.specs.Damage.{intact, is_damaged, part_at};
 

@@ -7,8 +7,10 @@ use Rattle.std.proofs.lemmas.Grind.{take_at_read}
 use Rattle.std.proofs.lemmas.List.Elements.{All-append, All-drop, All-from_recursion, All-nil, All-take, All-weaker}
 use Rattle.std.proofs.lemmas.Option.{get_or_from_slice_get}
 use Rattle.geom_core.specs.Areas.{Area, holds}
-use Rattle.geom_core.specs.Grid.{tile, IsWorldKey}
-use Rattle.geom_core.specs.Overlaps.{any_holds, bound}
+use Rattle.geom_core.specs.Grid.{tile}
+use Rattle.geom_core.specs.Keys.{IsWorldKey}
+use Rattle.geom_core.specs.Overlaps.{bound}
+use Rattle.geom_core.specs.Rects.{any_holds}
 use Rattle.geom_core.proofs.Bounds.{bound_first, bound_second}
 use Rattle.doc_model.specs.declared.canvas.Patch.{Patch}
 use Rattle.doc_model.specs.declared.job.Job.{Job}

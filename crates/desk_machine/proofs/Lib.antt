@@ -9,5 +9,6 @@ pub mod OwnTiles
 pub mod Untouched
 mod Committing
 mod WholeWalks
+pub mod Ending
 mod SmallJobs
 mod Barriers

@@ -4,7 +4,8 @@ use Rattle.std.specs.Prelude.{slice_get, slice_set}
 use Rattle.std.specs.Ordering.{nat_cmp}
 use Rattle.std.specs.List.{list_any, list_all}
 use Rattle.std.specs.FinMap.{FinMap}
-use Rattle.geom_core.specs.Grid.{Key, same_key, keys_of, all_keys_of, IsWorldKey}
+use Rattle.geom_core.specs.Grid.{Key, same_key, keys_of, all_keys_of}
+use Rattle.geom_core.specs.Keys.{IsWorldKey}
 use Rattle.doc_model.specs.Jobs.{reads, writes}
 use Rattle.doc_model.specs.Layers.{Layer}
 use Rattle.job_core.specs.Paints.{paint}

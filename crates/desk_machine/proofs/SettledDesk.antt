@@ -6,7 +6,8 @@ use Rattle.std.proofs.lemmas.List.{length-drop, length-map}
 use Rattle.doc_model.specs.Strokes.{entries}
 use Rattle.doc_model.specs.declared.canvas.Patch.{Patch}
 use Rattle.entry_queue.specs.Pushed.{queued}
-use Rattle.machine_model.specs.State.{State, Slot, Free, Paints, Walks, IsSettled, is_free}
+use Rattle.machine_model.specs.State.{State, Slot, Free, Paints, Walks, is_free}
+use Rattle.machine_model.specs.Settled.{IsSettled}
 use Rattle.machine_model.specs.Slots.{is_painter, is_walker, no_painter, no_walker}
 use Rattle.desk_parts.specs.Choices.{Tells, is_clean}
 use Rattle.desk_parts.specs.Parts.{Parts, state_of}

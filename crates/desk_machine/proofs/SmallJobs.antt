@@ -10,13 +10,15 @@ use Rattle.std.specs.FinSet as set
 use Rattle.std.specs.FinSet.{FinSet}
 use Rattle.pixel_core.specs.Rgba.{clear}
 use Rattle.geom_core.specs.Areas.{Area, lies_in}
-use Rattle.geom_core.specs.Grid.{Key, key_cmp, key_cmp_total, key_cmp-IsAntisymmetric, same_key, tile, all_keys_of}
+use Rattle.geom_core.specs.Grid.{Key, key_cmp, same_key, tile, all_keys_of}
+use Rattle.geom_core.specs.Keys.{key_cmp_total, key_cmp-IsAntisymmetric}
 use Rattle.geom_core.proofs.Tests.{and_left, and_right, not_true, or_left}
 use Rattle.geom_core.proofs.Tiles.{key_same, key_is}
 use Rattle.doc_model.specs.declared.job.Job.{Job}
 use Rattle.doc_model.specs.declared.job.Job.TheVariants.{Fill, Dab, Move, Blur, Track}
 use Rattle.doc_model.specs.declared.job.Kind.{Kind}
-use Rattle.doc_model.specs.Adjusting.{each, adjusted}
+use Rattle.doc_model.specs.Adjusting.{adjusted}
+use Rattle.doc_model.specs.Each.{each}
 use Rattle.doc_model.specs.Forest.{Forest, none, paint, group, content, with_content}
 use Rattle.doc_model.specs.Jobs.{reads, writes, square}
 use Rattle.doc_model.specs.Layers.{Layer, plain}
@@ -40,7 +42,8 @@ use Rattle.machine_model.specs.Event.{Start, Publish, End}
 use Rattle.machine_model.specs.Effects.{layer_in, updates_with_all, writes_of}
 use Rattle.machine_model.specs.Groups.{parent_of}
 use Rattle.machine_model.specs.Guards.{kept_jobs, is_cancelled, overlaps, is_bar, blocks}
-use Rattle.machine_model.specs.Slots.{painter_in, is_done, done, is_painter, no_painter, no_walker}
+use Rattle.machine_model.specs.Slots.{is_painter, no_painter, no_walker}
+use Rattle.machine_model.specs.Painters.{painter_in, is_done, done}
 use Rattle.machine_model.specs.Sound.{IsSound}
 use Rattle.machine_model.specs.Step.{Step, StartStep, Run}
 use Rattle.machine_model.specs.UnderWay.{UnderWay, IsOnWay}

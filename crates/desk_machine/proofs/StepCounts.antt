@@ -4,7 +4,7 @@ use Rattle.std.specs.Prelude.{take, not, Result, OnErr}
 use Rattle.std.specs.FinSet as set
 use Rattle.std.specs.FinSet.{FinSet}
 use Rattle.geom_core.specs.Grid.{key_cmp, key_set}
-use Rattle.geom_core.specs.Touches.{HasTouched}
+use Rattle.geom_core.specs.Exchanged.{HasTouched}
 use Rattle.geom_core.specs.declared.Touched.{Touched}
 use Rattle.doc_model.specs.Strokes.{Stroke}
 use Rattle.machine_model.specs.State.{State, head_stroke}

@@ -8,7 +8,7 @@ use Rattle.std.proofs.lemmas.List.Folds.{list_any-append}
 use borrow.Author.Differences.{ints}
 use Rattle.pixel_core.specs.Rgba.{clear}
 use Rattle.geom_core.specs.Areas.{Area, Point, holds, meets}
-use Rattle.geom_core.specs.Overlaps.{any_holds}
+use Rattle.geom_core.specs.Rects.{any_holds}
 use Rattle.geom_core.specs.Grid.{Key, key_of, same_key, tile, keys_of, all_keys_of}
 use Rattle.geom_core.proofs.Keys.{key_of_any_held}
 use Rattle.geom_core.proofs.Tests.{kept, or_cases, or_left, or_right, and_left, and_right, both_true}
@@ -27,7 +27,7 @@ use Rattle.doc_model.proofs.Contents.{content-with_content}
 use Rattle.job_core.proofs.Values.{HasPoints, some_of_limits}
 use Rattle.whole_tiles.specs.Wholes.{Entire}
 use Rattle.machine_model.specs.State.{State, Painter, Slot, Free, Paints, Walks, head_stroke}
-use Rattle.machine_model.specs.Slots.{painter_in, done, is_done}
+use Rattle.machine_model.specs.Painters.{painter_in, done, is_done}
 use Rattle.machine_model.specs.Effects.{layer_in}
 use Rattle.machine_model.specs.Guards.{kept_jobs}
 use Rattle.machine_model.specs.UnderWay.{UnderWay, SlotIsStarted, shown, after_jobs, writes_at}

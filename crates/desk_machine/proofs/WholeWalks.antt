@@ -1,5 +1,5 @@
 -- A whole walk comes to the desk.
-use Rattle.std.proofs.Common.{◌≡◌, ℕ, Bool, true, false, cond, Option, Some, None, Result, Ok, Err, OnOk, List, [], ◌∷◌, ◌++◌, length, take, refl, sym, ap, ◌∙◌, subst}
+use Rattle.std.proofs.Common.{◌≡◌, ℕ, ◌<◌, ◌≤◌, Bool, true, false, cond, Option, Some, None, Result, Ok, Err, OnOk, OnErr, List, [], ◌∷◌, ◌++◌, length, take, refl, sym, ap, ◌∙◌, arith, subst}
 use Rattle.std.specs.Prelude.{slice_get, slice_set}
 use Rattle.std.specs.Ordering.{nat_cmp}
 use Rattle.std.specs.List.{list_any, list_all}
@@ -18,6 +18,7 @@ use Rattle.walker_core.specs.Readings.{Readings, readings, path_in}
 use Rattle.walker_core.specs.Composing.{Composition}
 use Rattle.slot_core.specs.declared.Busy.{Busy}
 use Rattle.slot_core.specs.Busy.{work_at, work_in}
+use Rattle.desk_steps.proofs.Devices.{more_err}
 use Rattle.desk_parts.specs.declared.work.Walker.{Walker}
 use Rattle.desk_parts.specs.declared.work.Work.{Work}
 use Rattle.desk_parts.specs.declared.work.Work.TheVariants as work
@@ -31,7 +32,7 @@ use Rattle.desk_parts.proofs.KeyTests.{own_place}
 use Rattle.desk_parts.proofs.Places.{set_twice}
 use Rattle.desk_parts.proofs.Taking.{walk_is}
 use Rattle.desk_parts.proofs.WalkPlaces.{walking_at}
-use Rattle.desk_work.specs.LaidTiles.{Laid, laid, laid_as, laid_all, lacking, pairs_at, pairs_on, Lays, LaysFront}
+use Rattle.desk_work.specs.LaidTiles.{Laid, laid, laid_as, laid_all, lacking, pairs_at, pairs_on, Lays, LaysFront, LaysSome}
 use Rattle.desk_work.specs.OfWalk.{IsOfWalk, IsRowOfWalk}
 use Rattle.walker_core.specs.Sameness.{ReadTheSame}
 use Rattle.desk_machine.specs.Commits.{MayCommitWalk, MayPublishRow, ReadsAsWork, RunsFront, lacking_in, lacking_at, pair_events, row_events, commit_walk_events}
@@ -90,6 +91,11 @@ front_events : (place : ℕ) (front rest : List (ℕ × Key)) (es : List Event) 
 front_events place [] rest es = refl
 front_events place (p ∷ front) rest es = ap (λ fs. WalkPublish place p.0 p.1 ∷ fs) (front_events place front rest es)
 
+front_less : (place : ℕ) (front rest : List (ℕ × Key)) → length front < length (pair_events place (front ++ rest) ++ WalkEnd place ∷ [])
+front_less place [] [] = omega arith
+front_less place [] (p ∷ rest) = omega arith
+front_less place (p ∷ front) rest = let h = front_less place front rest in omega (arith, h)
+
 -- the desk after a walk laid the pairs that it lacked, or some of them
 pub record IsWholeAt {A E : Type 0} (d new : Parts) (place : ℕ) (r : Result A E) : Type 0 where
   pub desk : IsDesk new
@@ -105,6 +111,7 @@ whole_at {A = A} {E = E} d place w pairs r caches slots desk h laid_ok front fil
   all = go r laid_ok;
   front = record {
     count = length front.front;
+    short = subst (λ ps. length front.front < length (pair_events place ps ++ WalkEnd place ∷ [])) (front.are ∙ sym lacks) (front_less place front.front front.rest);
     run = subst (λ es. Run (state_of d) es (state_of new)) (sym (front_events place front.front front.rest (WalkEnd place ∷ [])) ∙ ap (λ ps. take (length front.front) (pair_events place ps ++ WalkEnd place ∷ [])) (front.are ∙ sym lacks)) front_run.run;
   };
   ends = may r laid_ok;
@@ -146,23 +153,26 @@ first_events : (place : ℕ) (front rest : List (ℕ × Key)) → take (length f
 first_events place [] rest = refl
 first_events place (p ∷ front) rest = ap (λ fs. WalkPublish place p.0 p.1 ∷ fs) (first_events place front rest)
 
+first_less : (place : ℕ) (front rest : List (ℕ × Key)) → 1 ≤ length rest → length front < length (pair_events place (front ++ rest))
+first_less place [] [] some = omega (arith, some)
+first_less place [] (p ∷ rest) some = omega arith
+first_less place (p ∷ front) rest some = let h = first_less place front rest some in omega (arith, h)
+
 -- the desk after a walk laid a tile of the groups of which it lacked it, or of some of them
 pub record IsRowAt {A E : Type 0} (d new : Parts) (place : ℕ) (key : Key) (r : Result A E) : Type 0 where
   pub desk : IsDesk new
   pub all : OnOk r (Run (state_of d) (row_events (state_of d) place key) (state_of new))
-  pub front : RunsFront (state_of d) (row_events (state_of d) place key) (state_of new)
+  pub front : OnErr r (RunsFront (state_of d) (row_events (state_of d) place key) (state_of new))
 
 pub row_at : {A E : Type 0} (d : Parts) (place : ℕ) (w : Walker) (key : Key) (pairs : List (ℕ × Key)) (r : Result A E) (caches : FinMap nat_cmp Layer) (slots : List (Option (Busy Work))) → IsDesk d → work_at place d.slots ≡ Some (work.Walk w)
     → list_any (same_key key) (keys_of w.inputs.patch.rect) ≡ true
     → OnOk r (Lays w.inputs (pairs_at (path_in w.inputs) key) (laid_as d.caches w.published) (laid_as caches pairs)) → LaysFront w.inputs (pairs_at (path_in w.inputs) key) (laid_as d.caches w.published) (laid_as caches pairs)
+    → OnErr r (LaysSome w.inputs (pairs_at (path_in w.inputs) key) (laid_as d.caches w.published) (laid_as caches pairs))
     → slots ≡ slice_set (slice_set d.slots place None) place (Some (busy_walker (record w { published = pairs }))) → IsRowAt d (record d { caches = caches; slots = slots }) place key r
-row_at {A = A} {E = E} d place w key pairs r caches slots desk h in_patch laid_ok front filled = record {
-  desk = front_run.desk;
+row_at {A = A} {E = E} d place w key pairs r caches slots desk h in_patch laid_ok front some filled = record {
+  desk = (run_of front).desk;
   all = go r laid_ok;
-  front = record {
-    count = length front.front;
-    run = subst (λ es. Run (state_of d) es (state_of new)) (sym (first_events place front.front front.rest) ∙ ap (λ ps. take (length front.front) (pair_events place ps)) (front.are ∙ sym lacks)) front_run.run;
-  };
+  front = more_err r first some;
 }
   where
     own : List (ℕ × Key)
@@ -174,8 +184,15 @@ row_at {A = A} {E = E} d place w key pairs r caches slots desk h in_patch laid_o
     lacks : lacking_at (slice_get (state_of d).slots place) key ≡ lacking w.published own
     lacks = ap (λ s. lacking_at s key) (held d place _ (walking_at d.slots place w desk.slots h))
 
-    front_run : IsRun d new (pair_events place front.front)
-    front_run = walk_run d place w (record w { published = pairs }) front.front caches slots desk h (front_next w.inputs w.published own front.front front.rest (own_at w.inputs key in_patch) front.are) front.lays refl filled
+    run_of : (f : LaysFront w.inputs own (laid_as d.caches w.published) (laid_as caches pairs)) → IsRun d new (pair_events place f.front)
+    run_of f = walk_run d place w (record w { published = pairs }) f.front caches slots desk h (front_next w.inputs w.published own f.front f.rest (own_at w.inputs key in_patch) f.are) f.lays refl filled
+
+    first : LaysSome w.inputs own (laid_as d.caches w.published) (laid_as caches pairs) → RunsFront (state_of d) (row_events (state_of d) place key) (state_of new)
+    first f = record {
+      count = length f.part.front;
+      short = subst (λ ps. length f.part.front < length (pair_events place ps)) (f.part.are ∙ sym lacks) (first_less place f.part.front f.part.rest f.left);
+      run = subst (λ es. Run (state_of d) es (state_of new)) (sym (first_events place f.part.front f.part.rest) ∙ ap (λ ps. take (length f.part.front) (pair_events place ps)) (f.part.are ∙ sym lacks)) (run_of f.part).run;
+    }
 
     go : (o : Result A E) → OnOk o (Lays w.inputs own (laid_as d.caches w.published) (laid_as caches pairs)) → OnOk o (Run (state_of d) (row_events (state_of d) place key) (state_of new))
     go (Err x) told = tt

@@ -1,5 +1,5 @@
 -- Whole jobs and walks that come to a desk in one hold.
-use Rattle.std.specs.Prelude.{◌≡◌, ℕ, All, true, false, Option, Some, List, [], ◌∷◌, ◌++◌, map, take, slice_get}
+use Rattle.std.specs.Prelude.{◌≡◌, ◌<◌, ℕ, All, true, false, Option, Some, List, [], ◌∷◌, ◌++◌, length, map, take, slice_get}
 use Rattle.std.specs.List.{list_any}
 use Rattle.geom_core.specs.Grid.{Key, same_key, keys_of, all_keys_of}
 use Rattle.doc_model.specs.Jobs.{writes}
@@ -33,9 +33,10 @@ pub record TakesWhole (s : State) (place : ℕ) (x : Entire) : Type 0 where
   pub in_job : list_any (same_key x.key) (all_keys_of (writes painter.job)) ≡ true
   pub fresh : list_any (same_key x.key) painter.published ≡ false
 
--- some of the events happened: those from the front on
+-- some of the events happened, from the front on, or none did; not all
 pub record RunsFront (old : State) (events : List Event) (new : State) : Type 0 where
   pub count : ℕ
+  pub short : count < length events
   pub run : Run old (take count events) new
 
 -- the walk with that serial is at work in the slot, and all its groups were composed on all tiles of its patch, of the same as the walk reads there

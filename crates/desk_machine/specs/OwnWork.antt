@@ -1,7 +1,8 @@
 -- What the work in a slot lacks.
 use Rattle.std.specs.Prelude.{◌≡◌, ℕ, Bool, true, false, List}
 use Rattle.std.specs.List.{list_all}
-use Rattle.geom_core.specs.Grid.{Key, IsWorldKey}
+use Rattle.geom_core.specs.Grid.{Key}
+use Rattle.geom_core.specs.Keys.{IsWorldKey}
 use Rattle.machine_model.specs.State.{State}
 use Rattle.machine_model.specs.Event.{Event, Publish, End, WalkPublish, WalkEnd}
 use Rattle.machine_model.specs.Step.{Run}

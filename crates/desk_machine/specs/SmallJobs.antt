@@ -1,9 +1,9 @@
 -- Jobs that write within one tile alone, painted in place without tickets.
-use Rattle.std.specs.Prelude.{All, ◌≡◌, ◌≤◌, ℕ, suc, zero, true, false, Some, List, [], ◌∷◌, take, length, slice_get}
-use Rattle.std.specs.Prelude.{Option}
+use Rattle.std.specs.Prelude.{All, ◌≡◌, ◌≤◌, ℕ, suc, zero, true, false, Some, List, [], ◌∷◌, take, length, slice_get, Option}
 use Rattle.geom_core.specs.Areas.{Area, holds, Point}
-use Rattle.geom_core.specs.Grid.{Key, tile, IsWorldKey}
-use Rattle.geom_core.specs.Overlaps.{any_holds}
+use Rattle.geom_core.specs.Grid.{Key, tile}
+use Rattle.geom_core.specs.Keys.{IsWorldKey}
+use Rattle.geom_core.specs.Rects.{any_holds}
 use Rattle.doc_model.specs.declared.job.Job.{Job}
 use Rattle.doc_model.specs.declared.job.Kind.{Kind}
 use Rattle.doc_model.specs.Jobs.{writes}

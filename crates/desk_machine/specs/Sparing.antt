@@ -3,7 +3,7 @@ use Rattle.std.specs.Prelude.{◌≡◌, ◌≤◌, ◌<◌, ℕ, All, true, fal
 use Rattle.std.specs.List.{list_any}
 use Rattle.pixel_core.specs.Rgba.{Rgba}
 use Rattle.geom_core.specs.Areas.{Point}
-use Rattle.geom_core.specs.Overlaps.{any_holds}
+use Rattle.geom_core.specs.Rects.{any_holds}
 use Rattle.geom_core.specs.Grid.{Key, key_of, same_key, all_keys_of}
 use Rattle.tile_core.specs.Shots.{sight_at}
 use Rattle.doc_model.specs.declared.job.Job.{Job}

@@ -3,7 +3,8 @@
 ghost use Rattle.std.specs.Prelude.{All, ◌≡◌, ◌<◌, ◌||◌, ◌&&◌, ℕ, true, false, Some, None, IfSome, IfNone, slice_get};
 ghost use Rattle.doc_model.specs.Jobs.{checks};
 ghost use Rattle.doc_model.specs.Strokes.{Stroke};
-ghost use Rattle.machine_model.specs.State.{head_stroke, IsSettled, Free};
+ghost use Rattle.machine_model.specs.State.{head_stroke, Free};
+ghost use Rattle.machine_model.specs.Settled.{IsSettled};
 ghost use Rattle.machine_model.specs.Slots.{no_painter, no_walker};
 ghost use Rattle.machine_model.specs.Guards.{is_paint, kept_jobs};
 ghost use Rattle.machine_model.specs.UnderWay.{IsOnWay};

@@ -1,10 +1,10 @@
 //! The ends of jobs and walks.
 
-ghost use Rattle.std.specs.Prelude.{◌≡◌, Some, true, false, slice_get};
-ghost use Rattle.machine_model.specs.State.{Painter, Walker, Paints, Walks};
+ghost use Rattle.std.specs.Prelude.{◌↔◌, IsTrue};
 ghost use Rattle.machine_model.specs.Event.{End, WalkEnd};
 ghost use Rattle.machine_model.specs.Step.{Step};
 ghost use Rattle.desk_parts.specs.Enabled.{Enabled};
+ghost use Rattle.desk_machine.specs.Ends.{JobMayEnd, WalkMayEnd};
 
 use crate::machine::Machine;
 use crate::tickets::SlotId;
@@ -14,8 +14,7 @@ use desk_work::{is_composed, is_painted, widen_all};
 impl Machine {
     /// Whether the job with that serial is at work in the slot, and all its tiles are published.
     pub fn is_complete(&self, slot: SlotId) -> bool
-        ensures some { result ≡ true → Enabled self.now (End slot.place) }
-        ensures none { result ≡ false → (w : Painter) → slice_get self.now.slots slot.place ≡ Some (Paints w) → w.serial ≡ slot.serial → Enabled self.now (End slot.place) → ⊥ }
+        ensures { IsTrue result ↔ JobMayEnd self.now slot.place slot.serial }
     {
         match self.slots.work(slot.place) {
             Some(Work::Paint(painter)) => painter.serial == slot.serial && is_painted(painter),
@@ -38,8 +37,7 @@ impl Machine {
 
     /// Whether the walk with that serial is at work in the slot, and all its tiles are published.
     pub fn is_walked(&self, slot: SlotId) -> bool
-        ensures some { result ≡ true → Enabled self.now (WalkEnd slot.place) }
-        ensures none { result ≡ false → (w : Walker) → slice_get self.now.slots slot.place ≡ Some (Walks w) → w.serial ≡ slot.serial → Enabled self.now (WalkEnd slot.place) → ⊥ }
+        ensures { IsTrue result ↔ WalkMayEnd self.now slot.place slot.serial }
     {
         match self.slots.work(slot.place) {
             Some(Work::Walk(walker)) => walker.serial == slot.serial && is_composed(walker),

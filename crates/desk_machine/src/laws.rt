@@ -1,7 +1,7 @@
 //! What holds of every machine, whatever events happened and in whatever order.
 
 ghost use Rattle.machine_model.specs.MeaningLaws.{HasMeaning};
-ghost use Rattle.machine_model.specs.State.{IsSettled};
+ghost use Rattle.machine_model.specs.Settled.{IsSettled};
 ghost use Rattle.desk_machine.specs.Shown.{ShowsPicture};
 
 use crate::machine::Machine;

@@ -9,7 +9,8 @@ ghost use Rattle.doc_model.specs.Shots.{in_tile};
 ghost use Rattle.doc_model.specs.Picture.{picture};
 ghost use Rattle.ppm_out.specs.Scenes.{colours_of};
 ghost use Rattle.ppm_out.specs.Sides.{HasSides};
-ghost use Rattle.machine_model.specs.Groups.{cache, covered};
+ghost use Rattle.machine_model.specs.Groups.{cache};
+ghost use Rattle.machine_model.specs.Covers.{covered};
 ghost use Rattle.desk_machine.specs.Asks.{wants_commands};
 
 use crate::machine::Machine;
@@ -58,9 +59,10 @@ impl Machine {
         self.filmed.caches().tile(ROOT, key)
     }
 
-    /// The frames, one for each export so far.
+    /// The frames, one for each export so far. Each has the canvas's sides.
     pub fn frames(&self) -> &[Frame]
-        ensures { map colours_of result.now ≡ self.now.frames }
+        ensures colours { map colours_of result.now ≡ self.now.frames }
+        ensures sides { All (HasSides self.now.canvas) result.now }
     {
         self.filmed.frames()
     }
@@ -84,7 +86,7 @@ impl Machine {
     }
 
     /// The commands that were fed.
-    pub fn fed(&self) -> &[Command]
+    pub fn commands(&self) -> &[Command]
         ensures { result.now ≡ self.now.fed }
     {
         self.fed.commands()

@@ -1,6 +1,6 @@
 //! A tile of a walk that was composed outside is laid of all its groups.
 
-ghost use Rattle.std.specs.Prelude.{◌≡◌, true, false, OnOk};
+ghost use Rattle.std.specs.Prelude.{◌≡◌, true, false, OnOk, OnErr};
 ghost use Rattle.machine_model.specs.Step.{Run};
 ghost use Rattle.desk_machine.specs.Commits.{MayPublishRow, ReadsAsWork, RunsFront, row_events};
 
@@ -46,7 +46,7 @@ impl Machine {
     /// Publishes the tile of each group of which the walk in a slot hasn't published it.
     ///
     /// # Errors
-    /// `NoMemory`; it is published of some of the groups, from the first on.
+    /// `NoMemory`; it is published of some of the groups, from the first on, or of none, but not of all.
     pub fn lay_walked_row(
         &mut self,
         slot: SlotId,
@@ -55,7 +55,7 @@ impl Machine {
     ) -> Result<(), NoMemory>
         requires { MayPublishRow self.old slot.place slot.serial composed.now key }
         ensures all { OnOk result (Run self.old (row_events self.old slot.place key) self.new) }
-        ensures front { RunsFront self.old (row_events self.old slot.place key) self.new }
+        ensures front { OnErr result (RunsFront self.old (row_events self.old slot.place key) self.new) }
     {
         match self.slots.clear(slot.place) {
             Some(Work::Walk(mut walker)) => {

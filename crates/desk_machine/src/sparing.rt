@@ -2,8 +2,8 @@
 
 ghost use Rattle.std.specs.Prelude.{◌≡◌, ◌≤◌, ◌<◌, ℕ, All, true, false, Some, map, slice_get};
 ghost use Rattle.geom_core.specs.Areas.{Point};
-ghost use Rattle.geom_core.specs.Grid.{IsWorldKey};
-ghost use Rattle.geom_core.specs.Overlaps.{any_holds};
+ghost use Rattle.geom_core.specs.Keys.{IsWorldKey};
+ghost use Rattle.geom_core.specs.Rects.{any_holds};
 ghost use Rattle.doc_model.specs.Jobs.{checks};
 ghost use Rattle.doc_model.specs.Shots.{in_tile};
 ghost use Rattle.machine_model.specs.State.{Painter, Paints};

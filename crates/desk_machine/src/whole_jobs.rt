@@ -8,7 +8,7 @@ ghost use Rattle.doc_model.specs.Shots.{in_tile};
 ghost use Rattle.job_core.specs.Paints.{layer_of, paint};
 ghost use Rattle.desk_steps.specs.Archives.{layer_under_way, with_put};
 ghost use Rattle.desk_work.specs.Lacking.{IsOfJob};
-ghost use Rattle.machine_model.specs.Sound.{IsOrderly};
+ghost use Rattle.machine_model.specs.Sound.{IsSound};
 ghost use Rattle.machine_model.specs.Event.{Publish, End};
 ghost use Rattle.machine_model.specs.Step.{Step};
 ghost use Rattle.desk_parts.specs.Enabled.{Enabled};
@@ -114,8 +114,8 @@ impl Machine {
     }
 
     /// Tells what holds of every desk. It does nothing.
-    pub fn tell_orderly(&self)
-        ensures { IsOrderly self.now }
+    pub fn tell_sound(&self)
+        ensures { IsSound self.now }
     {
         let _ = &self.alloc;
     }

@@ -17,7 +17,8 @@ use Rattle.desk_steps.specs.Archives.{layer_under_way}
 use Rattle.machine_model.specs.State.{Paints}
 use Rattle.machine_model.specs.Event.{Init, Start}
 use Rattle.machine_model.specs.Step.{Step}
-use Rattle.machine_model.specs.Slots.{painter_in, no_walker}
+use Rattle.machine_model.specs.Slots.{no_walker}
+use Rattle.machine_model.specs.Painters.{painter_in}
 use Rattle.machine_model.specs.Guards.{kept_jobs, is_cancelled, is_paint, blocks, is_bar}
 use Rattle.machine_model.specs.Effects.{layer_in}
 use Rattle.machine_model.proofs.Lists.{all_set}

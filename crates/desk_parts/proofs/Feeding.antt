@@ -2,7 +2,8 @@
 use Rattle.std.proofs.Common.{◌≡◌, ℕ, suc, ◌≤◌, ◌<◌, true, Option, Some, None, [], ◌∷◌, ◌++◌, length, refl, sym, ap, ◌∙◌, arith, subst}
 use Rattle.std.specs.Prelude.{◌^◌, ◌-◌, slice_get}
 use Rattle.doc_model.specs.declared.command.Command.{Command}
-use Rattle.doc_model.specs.Lawful.{may_follow, lawful}
+use Rattle.doc_model.specs.Lawful.{may_follow}
+use Rattle.doc_model.specs.Feeding.{lawful}
 use Rattle.doc_model.specs.Strokes.{Stroke, entries}
 use Rattle.doc_model.proofs.Feeding.{lawful_last}
 use Rattle.entry_queue.specs.Pushed.{takes}

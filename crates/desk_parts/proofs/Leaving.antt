@@ -5,7 +5,8 @@ use Rattle.std.specs.List.{list_any}
 use Rattle.std.specs.FinSet as set
 use Rattle.std.specs.FinSet.{FinSet}
 use Rattle.geom_core.specs.Areas.{Area}
-use Rattle.geom_core.specs.Grid.{Key, key_cmp, same_key, key_set, key_cmp_total}
+use Rattle.geom_core.specs.Grid.{Key, key_cmp, same_key, key_set}
+use Rattle.geom_core.specs.Keys.{key_cmp_total}
 use Rattle.geom_core.proofs.Tests.{not_true, or_left}
 use Rattle.geom_core.proofs.Tiles.{key_is}
 use Rattle.doc_model.specs.declared.command.Outcome.{Outcome}

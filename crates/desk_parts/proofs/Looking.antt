@@ -4,7 +4,7 @@ use Rattle.std.specs.Prelude.{pos, negsuc, ◌+ℤ◌, int_le, int_lt}
 use Rattle.std.specs.List.{list_any, AllByRecursion}
 use borrow.Author.Differences.{ints}
 use Rattle.geom_core.specs.Areas.{holds, Point, point, world}
-use Rattle.geom_core.specs.Overlaps.{any_holds}
+use Rattle.geom_core.specs.Rects.{any_holds}
 use Rattle.geom_core.proofs.Tests.{both_true}
 use Rattle.doc_model.specs.declared.canvas.Canvas.{Canvas}
 use Rattle.doc_model.specs.declared.canvas.Walk.TheVariants.{Up}
@@ -12,9 +12,10 @@ use Rattle.doc_model.specs.declared.canvas.Patch.{Patch}
 use Rattle.doc_model.specs.Canvases.{IsOfLimits}
 use Rattle.doc_model.specs.Jobs.{writes}
 use Rattle.doc_model.specs.Picture.{canvas_area}
-use Rattle.doc_model.specs.Updates.{queued_for}
+use Rattle.doc_model.specs.Queues.{queued_for}
 use Rattle.machine_model.specs.State.{Slot, Free, Paints, Walks, State, head_stroke}
-use Rattle.machine_model.specs.Groups.{on, covered, painted_group, composes}
+use Rattle.machine_model.specs.Groups.{on}
+use Rattle.machine_model.specs.Covers.{covered, painted_group, composes}
 use Rattle.machine_model.specs.Walking.{WalkStands}
 use Rattle.machine_model.specs.Sound.{IsOrderly}
 use Rattle.machine_model.proofs.WalkPaths.{path_root}

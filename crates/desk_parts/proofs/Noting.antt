@@ -7,7 +7,8 @@ use Rattle.std.specs.FinSet.{FinSet}
 use Rattle.std.proofs.lemmas.Bool.Decides.{nat_tests}
 use Rattle.std.proofs.lemmas.List.Folds.{list_any-append}
 use Rattle.geom_core.specs.Areas.{Area}
-use Rattle.geom_core.specs.Grid.{Key, key_cmp, same_key, key_cmp_total, key_cmp-IsAntisymmetric, keys_of, all_keys_of, key_set}
+use Rattle.geom_core.specs.Grid.{Key, key_cmp, same_key, keys_of, all_keys_of, key_set}
+use Rattle.geom_core.specs.Keys.{key_cmp_total, key_cmp-IsAntisymmetric}
 use Rattle.geom_core.proofs.Tests.{taken, kept, both_true, or_left, or_right}
 use Rattle.geom_core.proofs.Tiles.{key_same, key_is}
 use Rattle.doc_model.specs.declared.job.Kind.{Kind}
@@ -15,7 +16,8 @@ use Rattle.doc_model.specs.declared.job.Job.{Job}
 use Rattle.doc_model.specs.Jobs.{writes}
 use Rattle.doc_model.specs.Strokes.{Jobs}
 use Rattle.machine_model.specs.State.{Painter, Slot, Free, Paints, Walks}
-use Rattle.machine_model.specs.Slots.{painter_in, is_done, done, is_painter}
+use Rattle.machine_model.specs.Slots.{is_painter}
+use Rattle.machine_model.specs.Painters.{painter_in, is_done, done}
 use Rattle.machine_model.specs.UnderWay.{Once}
 use Rattle.machine_model.specs.Effects.{writes_of}
 use Rattle.machine_model.proofs.Choices.{and-false, same_and}

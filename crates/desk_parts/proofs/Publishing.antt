@@ -3,10 +3,11 @@ use Rattle.std.proofs.Common.{◌≡◌, ℕ, Bool, true, false, ◌||◌, ◌&&
 use Rattle.std.specs.Prelude.{slice_get, slice_set}
 use Rattle.std.specs.List.{list_any}
 use Rattle.std.specs.FinSet as set
-use Rattle.geom_core.specs.Grid.{Key, same_key, all_keys_of, key_cmp_total}
+use Rattle.geom_core.specs.Grid.{Key, same_key, all_keys_of}
+use Rattle.geom_core.specs.Keys.{key_cmp_total}
 use Rattle.doc_model.specs.declared.job.Job.{Job}
 use Rattle.geom_core.specs.Areas.{Point}
-use Rattle.geom_core.specs.Overlaps.{any_holds}
+use Rattle.geom_core.specs.Rects.{any_holds}
 use Rattle.doc_model.specs.Jobs.{reads, writes, apply}
 use Rattle.doc_model.specs.Laws.{SameOn}
 use Rattle.doc_model.specs.Shots.{published, in_tile}

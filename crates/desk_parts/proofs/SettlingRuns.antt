@@ -1,9 +1,9 @@
 -- Runs without feeding.
-use Rattle.std.proofs.Common.{◌≡◌, ℕ, suc, zero, ◌+◌, ◌<◌, ◌≤◌, true, false, not, List, [], ◌∷◌, ◌++◌, Some, length, drop, refl, ap, ◌∙◌, arith, subst, append-nil}
+use Rattle.std.proofs.Common.{◌≡◌, ℕ, suc, zero, ◌+◌, ◌<◌, ◌≤◌, Bool, true, false, not, List, [], ◌∷◌, ◌++◌, Some, length, drop, refl, sym, ap, ◌∙◌, arith, subst, append-nil}
 use Rattle.std.specs.Prelude.{slice_get}
 use Rattle.std.specs.List.{list_all}
 use Rattle.geom_core.proofs.Tests.{and_left, and_right, both_true, not_true}
-use Rattle.doc_model.specs.Lawful.{is_closed_entry}
+use Rattle.doc_model.specs.Feeding.{is_closed_entry}
 use Rattle.doc_model.specs.Strokes.{Entry, Strokes, Changes, Undoes, Redoes, Purges, Exports, entries, is_open}
 use Rattle.machine_model.specs.State.{State, Slot, Paints, Walks, is_free, head, first}
 use Rattle.machine_model.specs.Event.{Event, Feed, Init, Start, Publish, End, Finish, Cancel, Act, WalkStart, WalkPublish, WalkEnd}
@@ -106,13 +106,10 @@ closed_head s (Exports ∷ es) e h = rw e refl
 busy : (s : State) (place : ℕ) (slot : Slot) → list_all is_free s.slots ≡ true → slice_get s.slots place ≡ Some slot → is_free slot ≡ true
 busy s place slot free h = each_get is_free s.slots place slot h free
 
--- where all slots are free and all strokes closed a desk isn't idle
-pub never_idle : (s : State) → IsOrderly s → list_all is_free s.slots ≡ true → list_all is_closed_entry (entries s.fed) ≡ true → IsIdle s → ⊥
-never_idle s sound free closed idle = by on.event on.not_feed (on.new, on.step)
+-- where all slots are free an idle desk waits for commands
+pub idle_waits : (s : State) → IsOrderly s → list_all is_free s.slots ≡ true → IsIdle s → waits_for_commands s ≡ true
+idle_waits s sound free idle = go (waits_for_commands s) refl
   where
-    on : MayGoOn s
-    on = no_dead_end s sound idle.unsettled (closed_head s (drop (length s.outcomes) (entries s.fed)) refl (closed_from (length s.outcomes) (entries s.fed) closed))
-
     by : (e : Event) → is_feed e ≡ false → (new : State) × Step s e new → ⊥
     by (Feed c) other can = cc
     by Init other can = idle.head Init refl can
@@ -125,3 +122,16 @@ never_idle s sound free closed idle = by on.event on.not_feed (on.new, on.step)
     by (End p) other can = let e : false ≡ true = busy s p (Paints can.1.painter) free can.1.runs in cc
     by (WalkPublish p g k) other can = let e : false ≡ true = busy s p (Walks can.1.walker) free can.1.runs in cc
     by (WalkEnd p) other can = let e : false ≡ true = busy s p (Walks can.1.walker) free can.1.runs in cc
+
+    dead : MayGoOn s → ⊥
+    dead on = by on.event on.not_feed (on.new, on.step)
+
+    go : (b : Bool) → waits_for_commands s ≡ b → waits_for_commands s ≡ true
+    go true e = e
+    go false e = absurd (dead (no_dead_end s sound idle.unsettled e))
+
+-- where all slots are free and all strokes closed a desk isn't idle
+pub never_idle : (s : State) → IsOrderly s → list_all is_free s.slots ≡ true → list_all is_closed_entry (entries s.fed) ≡ true → IsIdle s → ⊥
+never_idle s sound free closed idle =
+    let e : false ≡ true = sym (closed_head s (drop (length s.outcomes) (entries s.fed)) refl (closed_from (length s.outcomes) (entries s.fed) closed)) ∙ idle_waits s sound free idle in
+    cc

@@ -2,7 +2,7 @@
 use Rattle.std.specs.Prelude.{◌≡◌, ℕ, ◌+◌, ◌==◌, ◌&&◌, ◌||◌, Bool, true, false, Option, Some, None, length, not, slice_get}
 use Rattle.std.specs.List.{find, list_any}
 use Rattle.geom_core.specs.Areas.{Point, holds}
-use Rattle.geom_core.specs.Overlaps.{any_holds}
+use Rattle.geom_core.specs.Rects.{any_holds}
 use Rattle.doc_model.specs.Jobs.{writes}
 use Rattle.doc_model.specs.declared.canvas.Patch.{Patch}
 use Rattle.doc_model.specs.declared.command.Command.{Command}
@@ -11,7 +11,8 @@ use Rattle.doc_model.specs.declared.job.Job.{Job}
 use Rattle.doc_model.specs.declared.job.Kind.{Kind}
 use Rattle.doc_model.specs.declared.job.Kind.TheVariants.{Bar}
 use Rattle.doc_model.specs.Strokes.{Jobs, Stroke, Entry, Changes, Undoes, Redoes, Purges, Exports}
-use Rattle.machine_model.specs.State.{State, Slot, Free, Paints, Walks, IsSettled, head, head_stroke}
+use Rattle.machine_model.specs.State.{State, Slot, Free, Paints, Walks, head, head_stroke}
+use Rattle.machine_model.specs.Settled.{IsSettled}
 use Rattle.machine_model.specs.Event.{Event, Init, Start, Finish, Cancel, Act, WalkStart}
 use Rattle.machine_model.specs.Slots.{no_walker}
 use Rattle.machine_model.specs.Step.{Step}

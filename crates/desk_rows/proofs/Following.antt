@@ -7,7 +7,7 @@ use Rattle.geom_core.specs.Grid.{Key, same_key, keys_of, all_keys_of}
 use Rattle.doc_model.specs.Canvases.{IsOfLimits}
 use Rattle.doc_model.specs.declared.command.Command.{Command}
 use Rattle.doc_model.specs.Strokes.{entries}
-use Rattle.doc_model.specs.Lawful.{is_closed_entry}
+use Rattle.doc_model.specs.Feeding.{is_closed_entry}
 use Rattle.script_text.specs.Script.{Contents}
 use Rattle.script_text.specs.Closed.{is_script}
 use Rattle.script_text.proofs.Scripts.{script_holds}

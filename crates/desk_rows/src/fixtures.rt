@@ -2,7 +2,7 @@
 
 ghost use Rattle.std.specs.Prelude.{◌≡◌, ◌≤◌, true, IfOk, IfSome};
 ghost use Rattle.std.specs.List.{list_all};
-ghost use Rattle.doc_model.specs.Lawful.{is_closed_entry};
+ghost use Rattle.doc_model.specs.Feeding.{is_closed_entry};
 ghost use Rattle.doc_model.specs.Strokes.{entries};
 ghost use Rattle.script_text.specs.Closed.{is_script};
 ghost use Rattle.script_text.specs.Script.{contents};
@@ -55,7 +55,7 @@ pub(crate) fn desk_for(alloc: Global, script: &Script, slots: u8) -> Result<Desk
 
 /// Feeds the next command of a desk's script. False where all are fed.
 pub(crate) fn feed_next(desk: &mut Desk, script: &Script) -> Result<bool, NoMemory> {
-    let count = desk.fed().len();
+    let count = desk.fed_count();
     if count >= script.len() || count > 4_000_000 {
         return Ok(false);
     }
@@ -80,7 +80,7 @@ pub(crate) fn feed(desk: &mut Desk, script: &Script, count: usize) -> Result<(),
 fn is_fed(alloc: Global, desk: &Desk, script: &Script) -> Result<bool, NoMemory>
     ensures { IfOk result (λ all. all ≡ true → list_all is_closed_entry (entries desk.now.fed) ≡ true) }
 {
-    let fed = Vec::from_slice(alloc, desk.fed())?;
+    let fed = Vec::from_slice(alloc, desk.commands())?;
     match made(alloc, script.canvas(), fed)? {
         Some(fed) => Ok(fed.commands() == script.commands()),
         None => Ok(false),

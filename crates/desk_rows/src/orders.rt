@@ -125,7 +125,7 @@ impl Driver {
         let Some((group, key)) = piece(&mut self.draws, held) else {
             return Ok(());
         };
-        let entry = self.desk.outcomes().len();
+        let entry = self.desk.outcome_count();
         let published = held.publish(self.alloc, &mut self.desk, held.slot(), group, key)?;
         if let Held::Paint(ticket) = held
             && published == Published::Stored
@@ -183,7 +183,7 @@ impl Driver {
         if paper.bytes()[3] != 255 {
             return Ok(false);
         }
-        let entries = self.desk.outcomes().len();
+        let entries = self.desk.outcome_count();
         let jobs = newest(&self.laid, entries, x, y);
         if jobs > 0 {
             self.halfway = self.halfway.wrapping_add(1);

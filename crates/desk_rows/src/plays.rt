@@ -130,7 +130,9 @@ fn is_answered<L: Ledger>(
         Call::Beside(by, of) => is_beside(alloc, desk, held, by, of),
         Call::End(of, answer) => Ok(ends(desk, held, of, answer)),
         Call::Look(x, bytes, fresh) => Ok(looks(desk, x, bytes, fresh)),
-        Call::Frame(frame, x, colours) => Ok(is_at(desk.frames().get(frame), x, 0, colours)),
+        Call::Frame(frame, x, colours) => Ok(
+            frame < desk.frame_count() && is_at(Some(desk.frame(frame)), x, 0, colours),
+        ),
     }
 }
 
@@ -250,9 +252,9 @@ fn is_beside(
 /// corner.
 fn told(desk: &Desk) -> (usize, usize, usize, bool, bool, Option<(Pixel, Fresh)>) {
     (
-        desk.fed().len(),
-        desk.outcomes().len(),
-        desk.frames().len(),
+        desk.fed_count(),
+        desk.outcome_count(),
+        desk.frame_count(),
         desk.wants_commands(),
         desk.head_may_go(),
         look(desk, 0, 0),

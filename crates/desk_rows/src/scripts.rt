@@ -15,7 +15,6 @@ use std::alloc::Global;
 use std::marker::Brand;
 use std::sync::ledger::{Blank, Ledger};
 use std::test::Fail;
-use std::thread::Threads;
 use tile_core::Frame;
 use worked_scripts::{DONE, REFUSED, ROWS, Row, WIDE};
 
@@ -48,17 +47,12 @@ fn settle_on<L: Ledger>(
 }
 
 /// The pixmaps of frames, one behind another, as far as they fit into so much room.
-fn pixmaps<R: Threads + Sync>(
-    rt: &R,
-    alloc: Global,
-    frames: &[Frame],
-    room: usize,
-) -> Result<Vec<u8>, NoMemory> {
+fn pixmaps(alloc: Global, frames: &[Frame], room: usize) -> Result<Vec<u8>, NoMemory> {
     let mut row = vec![in alloc; 0; 6144]?;
     let mut out = MemSink::new(vec![in alloc; 0; room]?, 65536, Vec::new(alloc));
     for frame in frames {
         let fits = usize::from(frame.width()) <= 2048;
-        if !fits || write_frame(rt, 1, frame, &mut row, &mut out).is_err() {
+        if !fits || write_frame(frame, &mut row, &mut out).is_err() {
             break;
         }
     }
@@ -66,11 +60,7 @@ fn pixmaps<R: Threads + Sync>(
 }
 
 /// The pixmaps of the frames of a script's text, and whether some entry was refused.
-fn painted<R: Threads + Sync>(
-    rt: &R,
-    alloc: Global,
-    text: &[u8],
-) -> Result<Option<(Vec<u8>, bool)>, NoMemory> {
+fn painted(alloc: Global, text: &[u8]) -> Result<Option<(Vec<u8>, bool)>, NoMemory> {
     let Some(script) = script_of(alloc, text)? else {
         return Ok(None);
     };
@@ -78,21 +68,15 @@ fn painted<R: Threads + Sync>(
         return Ok(None);
     };
     let refused = desk.outcomes().iter().any(|outcome| outcome.refused());
-    Ok(Some((pixmaps(rt, alloc, desk.frames(), 512)?, refused)))
+    Ok(Some((pixmaps(alloc, desk.frames(), 512)?, refused)))
 }
 
 /// Whether these are the pixmaps of a script's text, and whether some entry is refused; also where memory
 /// runs out once.
-fn paints<R: Threads + Sync>(
-    rt: &R,
-    alloc: Global,
-    text: &[u8],
-    out: &[u8],
-    refused: bool,
-) -> Result<bool, NoMemory> {
-    let painted = match painted(rt, alloc, text) {
+fn paints(alloc: Global, text: &[u8], out: &[u8], refused: bool) -> Result<bool, NoMemory> {
+    let painted = match painted(alloc, text) {
         Ok(painted) => painted,
-        Err(NoMemory) => painted(rt, alloc, text)?,
+        Err(NoMemory) => painted(alloc, text)?,
     };
     Ok(painted.is_some_and(|(bytes, some)| bytes.as_slice() == out && some == refused))
 }
@@ -101,10 +85,10 @@ fn paints<R: Threads + Sync>(
 #[test]
 fn a_settled_desk_has_the_pixmaps_of_its_script(rt: HostRuntime) -> Result<(), Fail> {
     for (shows, text, out) in DONE {
-        assert!(rt; paints(&rt, rt.alloc(), text, out, false)?, "{shows}");
+        assert!(rt; paints(rt.alloc(), text, out, false)?, "{shows}");
     }
     for (shows, text, out) in REFUSED {
-        assert!(rt; paints(&rt, rt.alloc(), text, out, true)?, "{shows}");
+        assert!(rt; paints(rt.alloc(), text, out, true)?, "{shows}");
     }
     Ok(())
 }
@@ -152,14 +136,11 @@ fn fnv(bytes: &[u8]) -> u64 {
 }
 
 /// The hash of the frames of a generated script, and how many outcomes it has.
-fn generated_sum<R: Threads + Sync>(
-    rt: &R,
-    alloc: Global,
-) -> Result<Option<(usize, u64, usize)>, NoMemory> {
+fn generated_sum(alloc: Global) -> Result<Option<(usize, u64, usize)>, NoMemory> {
     let script = generated(alloc, 1)?;
     match settled(alloc, &script, 5)? {
         Some(desk) => {
-            let bytes = pixmaps(rt, alloc, desk.frames(), 3_000_000)?;
+            let bytes = pixmaps(alloc, desk.frames(), 3_000_000)?;
             Ok(Some((bytes.len(), fnv(&bytes), desk.outcomes().len())))
         }
         None => Ok(None),
@@ -170,7 +151,7 @@ fn generated_sum<R: Threads + Sync>(
 /// another painter have.
 #[test]
 fn a_generated_script(rt: HostRuntime) -> Result<(), Fail> {
-    let sum = generated_sum(&rt, rt.alloc())?;
+    let sum = generated_sum(rt.alloc())?;
     assert_eq!(rt; sum, Some((2_880_030, 0xab28_a349_0824_ddca, 66)));
     Ok(())
 }

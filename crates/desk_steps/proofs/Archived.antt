@@ -8,8 +8,9 @@ use Rattle.std.specs.FinSet as set
 use Rattle.std.specs.FinSet.{FinSet}
 use Rattle.pixel_core.specs.Rgba.{clear}
 use Rattle.geom_core.specs.Areas.{Area, Point}
-use Rattle.geom_core.specs.Overlaps.{any_holds}
-use Rattle.geom_core.specs.Grid.{Key, key_cmp, key_of, same_key, all_keys_of, key_cmp_total}
+use Rattle.geom_core.specs.Rects.{any_holds}
+use Rattle.geom_core.specs.Grid.{Key, key_cmp, key_of, same_key, all_keys_of}
+use Rattle.geom_core.specs.Keys.{key_cmp_total}
 use Rattle.geom_core.specs.declared.NoMemory.{NoMemory}
 use Rattle.geom_core.proofs.Tests.{none_left, none_right, kept}
 use Rattle.geom_core.proofs.Tiles.{key_same}

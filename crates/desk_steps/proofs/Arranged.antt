@@ -13,7 +13,7 @@ use Rattle.std.specs.Map.{lookup}
 use Rattle.geom_core.proofs.Tests.{taken, kept}
 use Rattle.doc_model.specs.Layers.{plain}
 use Rattle.doc_model.specs.Forest.{Forest, content}
-use Rattle.doc_model.specs.Adjusting.{each}
+use Rattle.doc_model.specs.Each.{each}
 use Rattle.doc_model.specs.Changes.{changed}
 use Rattle.doc_model.specs.declared.tree.Change.{Change}
 use Rattle.doc_model.specs.declared.tree.Change.TheVariants as change

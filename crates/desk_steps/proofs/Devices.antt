@@ -19,7 +19,8 @@ use Rattle.doc_model.specs.declared.tree.Change.{Change}
 use Rattle.doc_model.specs.Picture.{Doc}
 use Rattle.doc_model.specs.declared.tree.TreeFault.{TreeFault}
 use Rattle.doc_model.specs.Forest.{Forest, none, paint, group, content, count, height}
-use Rattle.doc_model.specs.Adjusting.{adjusted, each}
+use Rattle.doc_model.specs.Adjusting.{adjusted}
+use Rattle.doc_model.specs.Each.{each}
 use Rattle.doc_model.specs.Changes.{changed}
 use Rattle.doc_model.specs.Ids.{weight, mark, times}
 use Rattle.doc_model.specs.Laws.{IsDocument}

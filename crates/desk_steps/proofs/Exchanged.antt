@@ -17,7 +17,7 @@ use Rattle.machine_model.specs.Reached.{Reaches, PastReaches}
 use Rattle.desk_steps.specs.declared.reach.Reach.TheVariants as tells
 use Rattle.desk_steps.specs.declared.entry.Entry.{Entry}
 use Rattle.desk_steps.specs.declared.entry.Entry.TheVariants as entry
-use Rattle.geom_core.specs.Touches.{HasTouched}
+use Rattle.geom_core.specs.Exchanged.{HasTouched}
 use Rattle.desk_steps.specs.Archives.{TellsReach, shape}
 use Rattle.desk_steps.specs.declared.arrangement.Arrangement.{Arrangement}
 use Rattle.desk_steps.specs.declared.arrangement.Slot.{Slot}

@@ -6,8 +6,9 @@ use Rattle.std.specs.FinMap as fin
 use Rattle.std.proofs.lemmas.Option.{slice_get_cases}
 use Rattle.std.proofs.Math.Seq.{take-length}
 use Rattle.geom_core.specs.Areas.{holds, Point}
-use Rattle.geom_core.specs.Overlaps.{any_holds}
-use Rattle.geom_core.specs.Grid.{Key, key_of, same_key, tile, key_cmp_total, key_cmp-IsAntisymmetric}
+use Rattle.geom_core.specs.Rects.{any_holds}
+use Rattle.geom_core.specs.Grid.{Key, key_of, same_key, tile}
+use Rattle.geom_core.specs.Keys.{key_cmp_total, key_cmp-IsAntisymmetric}
 use Rattle.geom_core.proofs.Tests.{taken, kept}
 use Rattle.geom_core.proofs.Tiles.{own_tile, key_same, key_is}
 use Rattle.pixel_core.specs.Rgba.{Rgba}

@@ -7,9 +7,10 @@ use Rattle.std.specs.FinMap as fin
 use Rattle.std.specs.FinSet as set
 use Rattle.pixel_core.specs.Rgba.{Rgba}
 use Rattle.geom_core.specs.Areas.{holds, Point}
-use Rattle.geom_core.specs.Overlaps.{any_holds}
-use Rattle.geom_core.specs.Grid.{Key, key_cmp, key_of, same_key, tile, key_cmp_total, key_cmp-IsAntisymmetric}
-use Rattle.geom_core.proofs.Tests.{taken, kept, or_right}
+use Rattle.geom_core.specs.Rects.{any_holds}
+use Rattle.geom_core.specs.Grid.{Key, key_cmp, key_of, same_key, tile}
+use Rattle.geom_core.specs.Keys.{key_cmp_total, key_cmp-IsAntisymmetric}
+use Rattle.geom_core.proofs.Tests.{taken, kept, or_right, same_bools}
 use Rattle.geom_core.proofs.Tiles.{own_tile, key_of_holder, key_same, key_is}
 use Rattle.memento_core.specs.Planes.{Keyed, tile_under}
 use Rattle.tile_core.specs.Pixels.{Pixels, pixel_or}
@@ -24,7 +25,6 @@ use Rattle.memento_core.specs.Revisions.{keys_in, noted_under}
 use Rattle.memento_core.proofs.Exchanging.{contains-keys_in, has-insert}
 use Rattle.memento_core.proofs.Booked.{exchange_keys}
 use Rattle.desk_steps.specs.Founds.{ExchangesTiles, GivesBack, StandIn, patched}
-use Rattle.memento_core.proofs.Sets.{same_bools}
 use Rattle.desk_steps.proofs.Lain.{ready_default, ready_layer}
 
 holds_tile : (k : Key) (p : Point) → holds (tile k) p ≡ same_key (key_of p) k

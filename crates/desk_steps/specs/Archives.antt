@@ -1,23 +1,24 @@
 -- A store as contracts see it: documents with their history, and the stroke under way.
-use Rattle.std.specs.Prelude.{◌≡◌, ℕ, Bool, false, Option, Some, None, List, [], ◌∷◌, refl}
+use Rattle.std.specs.Prelude.{◌≡◌, ℕ, Bool, false, Option, Some, None, List, [], ◌∷◌, refl, Ok}
 use Rattle.std.specs.FinSet as set
 use Rattle.std.specs.FinSet.{FinSet}
 use Rattle.std.specs.Coded.{Coded, code_by, coded×, coded_ℕ, coded_bool, coded_list, coded_option}
 use Rattle.pixel_core.specs.Rgba.{clear}
-use Rattle.geom_core.specs.Grid.{key_cmp, key_code}
-use Rattle.geom_core.specs.Touches.{HasTouched}
+use Rattle.geom_core.specs.Grid.{key_cmp}
+use Rattle.geom_core.specs.Keys.{key_code}
+use Rattle.geom_core.specs.Exchanged.{HasTouched}
 use Rattle.geom_core.specs.declared.Touched.{Touched}
 use Rattle.doc_model.specs.Layers.{Layer, plain}
 use Rattle.doc_model.specs.Shots.{published}
 use Rattle.doc_model.specs.Forest.{Forest, none}
-use Rattle.doc_model.specs.Adjusting.{each, adjusted}
+use Rattle.doc_model.specs.Adjusting.{adjusted}
+use Rattle.doc_model.specs.Each.{each}
 use Rattle.doc_model.specs.Readers.{parent}
 use Rattle.doc_model.specs.Changes.{changed}
 use Rattle.doc_model.specs.Codes.{doc_code}
 use Rattle.doc_model.specs.Laws.{IsDocument}
 use Rattle.doc_model.specs.Picture.{Doc}
 use Rattle.doc_model.specs.declared.tree.Change.{Change}
-use Rattle.std.specs.Prelude.{Ok}
 use Rattle.machine_model.specs.State.{Reach, Whole, Part}
 use Rattle.machine_model.specs.Codes.{reach_code}
 use Rattle.machine_model.specs.Effects.{layer_in}

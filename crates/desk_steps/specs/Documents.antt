@@ -3,7 +3,8 @@ use Rattle.std.specs.Prelude.{◌≡◌, ℕ, is_some}
 use Rattle.memento_core.specs.Planes.{Keyed}
 use Rattle.tile_core.specs.Pixels.{Pixels}
 use Rattle.doc_model.specs.Forest.{content}
-use Rattle.doc_model.specs.Adjusting.{each, adjusted}
+use Rattle.doc_model.specs.Adjusting.{adjusted}
+use Rattle.doc_model.specs.Each.{each}
 use Rattle.doc_model.specs.Picture.{Doc}
 use Rattle.machine_model.specs.Effects.{layer_in}
 use Rattle.tree_core.specs.Exchanges.{Leads, led}

@@ -3,7 +3,7 @@ use Rattle.std.specs.Prelude.{◌≡◌, true, cond, pos, ◌-ℤ◌, Option, No
 use Rattle.std.specs.Option.{option_or}
 use Rattle.std.specs.List.{list_any}
 use Rattle.geom_core.specs.Areas.{Area, Point}
-use Rattle.geom_core.specs.Overlaps.{any_holds}
+use Rattle.geom_core.specs.Rects.{any_holds}
 use Rattle.geom_core.specs.Grid.{Key, key, key_of, same_key, all_keys_of}
 use Rattle.tile_core.specs.Pixels.{Pixels, pixel_at}
 use Rattle.tile_core.specs.Shots.{Sight, sight_at}

@@ -3,7 +3,7 @@
 ghost use Rattle.std.specs.Prelude.{◌≡◌, true, cond, Some, IfOk, OnOk, OnErr};
 ghost use Rattle.std.specs.FinSet as set;
 ghost use Rattle.geom_core.specs.Areas.{holds, Point};
-ghost use Rattle.geom_core.specs.Grid.{IsWorldKey};
+ghost use Rattle.geom_core.specs.Keys.{IsWorldKey};
 ghost use Rattle.tile_core.specs.Pixels.{pixel_at};
 ghost use Rattle.tile_core.specs.Shots.{sight_at};
 ghost use Rattle.doc_model.specs.Layers.{Layer};

@@ -3,7 +3,7 @@
 ghost use Rattle.std.specs.Prelude.{◌≡◌, Some, vec_len, replicate, IfOk, IfSome, OnOk, OnErr};
 ghost use Rattle.std.specs.Option.{option_copied};
 ghost use Rattle.std.specs.FinSet as set;
-ghost use Rattle.geom_core.specs.Grid.{IsWorldKey};
+ghost use Rattle.geom_core.specs.Keys.{IsWorldKey};
 ghost use Rattle.memento_core.specs.Planes.{tile_under};
 ghost use Rattle.job_core.specs.Points.{LaysPoints, all_painted_in};
 ghost use Rattle.paint_device.specs.Seen.{layer_of};

@@ -18,7 +18,7 @@ ghost use Rattle.whole_tiles.specs.Wholes.{IsEntire, IsOf};
 ghost use Rattle.desk_steps.specs.declared.reach.Reach.TheVariants as tells;
 ghost use Rattle.desk_steps.specs.declared.reach.TreeRefusal.TheVariants as refusal;
 ghost use Rattle.desk_steps.specs.declared.reach.Begun.TheVariants.{Ready, NoLayer, NotPaint};
-ghost use Rattle.geom_core.specs.Touches.{HasTouched};
+ghost use Rattle.geom_core.specs.Exchanged.{HasTouched};
 ghost use Rattle.desk_steps.specs.Tiles.{ShowsTiles};
 ghost use Rattle.desk_steps.specs.Archives.{Archive, IsArchive, Changes, TellsFirst, empty_archive, layer_under_way, shape, with_put, with_painted, finished, reverted, undone, redone, tiles_in_first};
 

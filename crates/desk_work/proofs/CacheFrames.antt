@@ -10,7 +10,8 @@ use Rattle.std.proofs.lemmas.List.{take_all}
 use Rattle.std.proofs.lemmas.List.Folds.{list_any-append}
 use Rattle.pixel_core.specs.Rgba.{clear}
 use Rattle.geom_core.specs.Areas.{Point, meets}
-use Rattle.geom_core.specs.Grid.{Key, key_cmp, key_cmp_total, key_of, same_key, keys_of, tile}
+use Rattle.geom_core.specs.Grid.{Key, key_cmp, key_of, same_key, keys_of, tile}
+use Rattle.geom_core.specs.Keys.{key_cmp_total}
 use Rattle.geom_core.proofs.Axes.{tiles_met}
 use Rattle.geom_core.proofs.Keys.{key_of_held}
 use Rattle.geom_core.proofs.Tests.{and_left, and_right, none_left, none_right, taken, kept}

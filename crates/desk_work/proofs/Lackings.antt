@@ -8,8 +8,9 @@ use Rattle.std.proofs.lemmas.List.{drop_all}
 use Rattle.std.proofs.lemmas.List.Elements.{All-nil, All-cons, AllWithin-more}
 use Rattle.std.proofs.lemmas.Option.{get_or_from_slice_get, slice_get_within}
 use Rattle.geom_core.specs.Areas.{Area, holds, Point}
-use Rattle.geom_core.specs.Overlaps.{any_holds}
-use Rattle.geom_core.specs.Grid.{Key, key_cmp, key_cmp_total, same_key, all_keys_of}
+use Rattle.geom_core.specs.Rects.{any_holds}
+use Rattle.geom_core.specs.Grid.{Key, key_cmp, same_key, all_keys_of}
+use Rattle.geom_core.specs.Keys.{key_cmp_total}
 use Rattle.geom_core.proofs.Tests.{or_left}
 use Rattle.tile_core.specs.Shots.{Sight, sight_at, SameShots}
 use Rattle.doc_model.specs.declared.job.Job.{Job}

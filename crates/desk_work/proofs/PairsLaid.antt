@@ -1,5 +1,5 @@
 -- Pairs of a walk are laid one after another.
-use Rattle.std.proofs.Common.{◌≡◌, ℕ, ◌+◌, ◌≤◌, Bool, true, false, ◌||◌, cond, List, [], ◌∷◌, ◌++◌, Some, Result, Ok, Err, OnOk, OnErr, length, take, drop, refl, sym, ap, ◌∙◌, subst, append-nil, append_assoc, take-append-drop, inl, inr}
+use Rattle.std.proofs.Common.{◌≡◌, ℕ, ◌+◌, ◌≤◌, Bool, true, false, ◌||◌, cond, List, [], ◌∷◌, ◌++◌, Some, Result, Ok, Err, OnOk, OnErr, length, take, drop, refl, sym, ap, ◌∙◌, subst, append-nil, append_assoc, take-append-drop, arith, inl, inr}
 use Rattle.std.specs.Prelude.{slice_get}
 use Rattle.std.specs.Ordering.{nat_cmp}
 use Rattle.std.specs.List.{list_any, list_all}
@@ -16,10 +16,10 @@ use Rattle.walker_core.specs.Readings.{Readings, path_in}
 use Rattle.walker_core.specs.Composing.{Composition, composition, has_pair}
 use Rattle.walker_core.specs.Sameness.{ReadTheSame}
 use Rattle.group_caches.specs.Kept.{with_picture}
-use Rattle.update_queue.proofs.Elements.{take_here}
+use Rattle.update_queue.proofs.Elements.{drop_here, take_here}
 use Rattle.desk_parts.proofs.KeyTests.{on_all}
 use Rattle.desk_parts.proofs.WalkLaying.{composed_is}
-use Rattle.desk_work.specs.LaidTiles.{Laid, laid, laid_as, laid_all, lacking, pairs_at, pairs_on, Lays, LaysFront}
+use Rattle.desk_work.specs.LaidTiles.{Laid, laid, laid_as, laid_all, lacking, pairs_at, pairs_on, Lays, LaysFront, LaysSome}
 
 -- ---- what is laid, and what lacks then
 
@@ -97,6 +97,21 @@ groups_stop r path key i a b c one same =
     subst (λ ps. LaysFront r ps a c) (sym (map-append (λ q. (q, key)) (take i path) (drop i path)) ∙ ap (λ gs. pairs_at gs key) (take-append-drop i path))
     (front_more r (pairs_at (take i path) key) (pairs_at (drop i path) key) a c (front_all r (pairs_at (take i path) key) a c (same ∙ one)))
 
+-- a pair that isn't published is lacking
+first_lacks : (published ps : List (ℕ × Key)) (g : ℕ) (key : Key) → list_any (same_pair g key) published ≡ false → 1 ≤ length (lacking published ((g, key) ∷ ps))
+first_lacks published ps g key fresh = subst (λ b. 1 ≤ length (cond b (lacking published ps) ((g, key) ∷ lacking ((g, key) ∷ published) ps))) (sym fresh) (omega arith)
+
+-- where a group's turn came and its pair wasn't laid, some are left
+pub groups_left : (r : Readings) (path : List ℕ) (key : Key) (i g : ℕ) (a b c : Laid) → slice_get path i ≡ Some g → Lays r (pairs_at (take i path) key) a b → c ≡ b → list_any (same_pair g key) b.published ≡ false → LaysSome r (pairs_at path key) a c
+unfolding front_more front_all
+groups_left r path key i g a b c at one same fresh =
+    subst (λ ps. LaysSome r ps a c) (sym (map-append (λ q. (q, key)) (take i path) (drop i path)) ∙ ap (λ gs. pairs_at gs key) (take-append-drop i path))
+    (record {
+      part = front_more r (pairs_at (take i path) key) (pairs_at (drop i path) key) a c (front_all r (pairs_at (take i path) key) a c (same ∙ one));
+      left = subst (λ (l : Laid). 1 ≤ length (lacking l.published (pairs_at (drop i path) key))) one
+          (subst (λ gs. 1 ≤ length (lacking b.published (pairs_at gs key))) (sym (drop_here path i g at)) (first_lacks b.published (pairs_at (drop (i + 1) path) key) g key fresh));
+    })
+
 pub groups_end : (r : Readings) (path : List ℕ) (key : Key) (i : ℕ) (a b : Laid) → length path ≤ i → Lays r (pairs_at (take i path) key) a b → Lays r (pairs_at path key) a b
 groups_end r path key i a b past one = subst (λ gs. Lays r (pairs_at gs key) a b) (take_all i path past) one
 
@@ -147,6 +162,10 @@ same_lays own other key path a b same one = one ∙ same_front own other key sam
 
 pub same_lays_front : (own other : Readings) (key : Key) (path : List ℕ) (a b : Laid) → ReadTheSame own other key → LaysFront other (pairs_at path key) a b → LaysFront own (pairs_at path key) a b
 same_lays_front own other key path a b same f = record { front = f.front; rest = f.rest; are = f.are; lays = f.lays ∙ same_front own other key same path f.front f.rest a.published a f.are }
+
+pub same_lays_some : (own other : Readings) (key : Key) (path : List ℕ) (a b : Laid) → ReadTheSame own other key → LaysSome other (pairs_at path key) a b → LaysSome own (pairs_at path key) a b
+unfolding same_lays_front
+same_lays_some own other key path a b same f = record { part = same_lays_front own other key path a b same f.part; left = f.left }
 
 -- ---- what was composed of all tiles
 

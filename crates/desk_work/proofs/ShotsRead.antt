@@ -2,7 +2,7 @@
 use Rattle.std.proofs.Common.{◌≡◌, true, ◌&&◌, List, sym, ap, ◌∙◌, refl}
 use Rattle.std.specs.List.{list_any, list_all}
 use Rattle.geom_core.specs.Areas.{Area, Point, lies_in}
-use Rattle.geom_core.specs.Overlaps.{any_holds}
+use Rattle.geom_core.specs.Rects.{any_holds}
 use Rattle.geom_core.proofs.Tests.{both_true, taken}
 use Rattle.tile_core.specs.Shots.{Sight, sight_at, SameShots}
 use Rattle.doc_model.specs.Layers.{at, plain}

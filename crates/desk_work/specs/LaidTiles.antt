@@ -1,5 +1,5 @@
 -- Pairs of a group and a tile that a walk lays, one after another.
-use Rattle.std.specs.Prelude.{◌≡◌, ℕ, cond, List, [], ◌∷◌, ◌++◌, map}
+use Rattle.std.specs.Prelude.{◌≡◌, ◌≤◌, ℕ, cond, List, [], ◌∷◌, ◌++◌, map, length}
 use Rattle.std.specs.Ordering.{nat_cmp}
 use Rattle.std.specs.List.{list_any}
 use Rattle.std.specs.FinMap.{FinMap}
@@ -52,3 +52,8 @@ pub record LaysFront (r : Readings) (pairs : List (ℕ × Key)) (old new : Laid)
   pub rest : List (ℕ × Key)
   pub are : front ++ rest ≡ lacking old.published pairs
   pub lays : new ≡ laid_all r front old
+
+-- and some of them are left
+pub record LaysSome (r : Readings) (pairs : List (ℕ × Key)) (old new : Laid) : Type 0 where
+  pub part : LaysFront r pairs old new
+  pub left : 1 ≤ length part.rest

@@ -1,7 +1,8 @@
 -- What was composed, beside the walk that is to be published by it.
 use Rattle.std.specs.Prelude.{◌≡◌, true}
 use Rattle.std.specs.List.{list_any, list_all}
-use Rattle.geom_core.specs.Grid.{Key, IsWorldKey, same_key, keys_of}
+use Rattle.geom_core.specs.Grid.{Key, same_key, keys_of}
+use Rattle.geom_core.specs.Keys.{IsWorldKey}
 use Rattle.walker_core.specs.Readings.{Readings, path_in}
 use Rattle.walker_core.specs.Sameness.{ReadTheSame}
 use Rattle.walker_core.specs.Composing.{Composition, has_pair}

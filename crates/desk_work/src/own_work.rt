@@ -2,7 +2,8 @@
 
 ghost use Rattle.std.specs.Prelude.{◌≡◌, true, is_some, OnOk, OnErr, [], ◌∷◌};
 ghost use Rattle.std.specs.List.{list_any};
-ghost use Rattle.geom_core.specs.Grid.{IsWorldKey, same_key, all_keys_of};
+ghost use Rattle.geom_core.specs.Grid.{same_key, all_keys_of};
+ghost use Rattle.geom_core.specs.Keys.{IsWorldKey};
 ghost use Rattle.doc_model.specs.Jobs.{checks, reads, writes};
 ghost use Rattle.doc_model.specs.Lawful.{within_limits};
 ghost use Rattle.job_core.specs.Paints.{paint};

@@ -3,7 +3,8 @@
 ghost use Rattle.std.specs.Prelude.{◌≡◌, ◌↔◌, true, false, IsTrue, is_some, OnOk, OnErr, ◌∷◌};
 ghost use Rattle.std.specs.List.{list_any, list_all};
 ghost use Rattle.geom_core.specs.Areas.{lies_in, meets};
-ghost use Rattle.geom_core.specs.Grid.{IsWorldKey, same_key, all_keys_of, tile};
+ghost use Rattle.geom_core.specs.Grid.{same_key, all_keys_of, tile};
+ghost use Rattle.geom_core.specs.Keys.{IsWorldKey};
 ghost use Rattle.doc_model.specs.Lawful.{within_limits};
 ghost use Rattle.doc_model.specs.Jobs.{checks, reads, writes};
 ghost use Rattle.doc_model.specs.Laws.{SameOn};

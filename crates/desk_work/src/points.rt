@@ -3,7 +3,7 @@
 ghost use Rattle.std.specs.Prelude.{◌≡◌, Some, slice_get, true, map};
 ghost use Rattle.std.specs.List.{list_any, AllByRecursion};
 ghost use Rattle.geom_core.specs.Areas.{point, holds};
-ghost use Rattle.geom_core.specs.Overlaps.{any_holds};
+ghost use Rattle.geom_core.specs.Rects.{any_holds};
 ghost use Rattle.doc_model.specs.Jobs.{writes, checks};
 ghost use Rattle.machine_model.specs.State.{Slot};
 ghost use Rattle.desk_parts.specs.Choices.{works_on};

@@ -2,7 +2,8 @@
 
 ghost use Rattle.std.specs.Prelude.{◌≡◌, true, false, IfSome, is_none};
 ghost use Rattle.std.specs.List.{list_any, list_all};
-ghost use Rattle.geom_core.specs.Grid.{IsWorldKey, same_key, keys_of, all_keys_of};
+ghost use Rattle.geom_core.specs.Grid.{same_key, keys_of, all_keys_of};
+ghost use Rattle.geom_core.specs.Keys.{IsWorldKey};
 ghost use Rattle.doc_model.specs.Jobs.{checks, writes};
 ghost use Rattle.machine_model.specs.Groups.{on};
 ghost use Rattle.machine_model.specs.Guards.{same_pair};

@@ -15,6 +15,7 @@ use update_queue::Updates;
 use walker_core::all_groups;
 
 /// What is to be composed after a change that reaches so far. No memory.
+#[tactic(auto, using(geom_core::proofs::Rounds::touched_bound))]
 pub fn move_by(
     reach: Reach,
     store: &Store,

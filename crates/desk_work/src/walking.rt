@@ -2,7 +2,8 @@
 
 ghost use Rattle.std.specs.Prelude.{◌≡◌, OnOk, OnErr, true, false, ◌∷◌};
 ghost use Rattle.std.specs.List.{list_any, list_all};
-ghost use Rattle.geom_core.specs.Grid.{IsWorldKey, same_key, keys_of};
+ghost use Rattle.geom_core.specs.Grid.{same_key, keys_of};
+ghost use Rattle.geom_core.specs.Keys.{IsWorldKey};
 ghost use Rattle.machine_model.specs.Guards.{same_pair};
 ghost use Rattle.machine_model.specs.Walks.{walk_value};
 ghost use Rattle.walker_core.specs.Readings.{path_in};

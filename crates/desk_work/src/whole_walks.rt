@@ -1,12 +1,14 @@
 //! What a walk composed comes to the desk whole.
 
 ghost use Rattle.std.specs.Prelude.{◌≡◌, true, false, OnOk, OnErr, [], ◌∷◌};
-ghost use Rattle.std.specs.List.{list_all};
-ghost use Rattle.geom_core.specs.Grid.{IsWorldKey, keys_of};
+ghost use Rattle.std.specs.List.{list_all, list_any};
+ghost use Rattle.geom_core.specs.Grid.{keys_of};
+ghost use Rattle.geom_core.specs.Keys.{IsWorldKey};
 ghost use Rattle.walker_core.specs.Readings.{path_in};
 ghost use Rattle.walker_core.specs.Composing.{has_pair};
 ghost use Rattle.walker_core.specs.Sameness.{ReadTheSame};
-ghost use Rattle.desk_work.specs.LaidTiles.{Lays, LaysFront, laid_as, pairs_at, pairs_on};
+ghost use Rattle.desk_work.specs.LaidTiles.{Lays, LaysFront, LaysSome, laid_as, pairs_at, pairs_on};
+ghost use Rattle.machine_model.specs.Guards.{same_pair};
 ghost use Rattle.desk_work.specs.OfWalk.{IsOfWalk, IsOfWalkAt, IsRowOfWalk};
 
 use crate::filmed::FilmedCaches;
@@ -107,6 +109,7 @@ pub fn lay_row(
     requires world { IsWorldKey key }
     ensures all { OnOk result (Lays inputs.now (pairs_at (path_in inputs.now) key) (laid_as filmed.old.caches published.old) (laid_as filmed.new.caches published.new)) }
     ensures front { LaysFront inputs.now (pairs_at (path_in inputs.now) key) (laid_as filmed.old.caches published.old) (laid_as filmed.new.caches published.new) }
+    ensures some { OnErr result (LaysSome inputs.now (pairs_at (path_in inputs.now) key) (laid_as filmed.old.caches published.old) (laid_as filmed.new.caches published.new)) }
     ensures frames { filmed.new.frames ≡ filmed.old.frames }
 {
     lay_groups(filmed, published, composed, inputs.path(), key)
@@ -127,6 +130,7 @@ pub(crate) fn lay_groups(
     requires world { IsWorldKey key }
     ensures all { OnOk result (Lays composed.now.readings (pairs_at path.now key) (laid_as filmed.old.caches published.old) (laid_as filmed.new.caches published.new)) }
     ensures front { LaysFront composed.now.readings (pairs_at path.now key) (laid_as filmed.old.caches published.old) (laid_as filmed.new.caches published.new) }
+    ensures some { OnErr result (LaysSome composed.now.readings (pairs_at path.now key) (laid_as filmed.old.caches published.old) (laid_as filmed.new.caches published.new)) }
     ensures frames { filmed.new.frames ≡ filmed.old.frames }
 {
     for group in path {
@@ -147,6 +151,7 @@ fn lay_group(
     requires world { IsWorldKey key }
     ensures ok { OnOk result (Lays composed.now.readings ((group, key) ∷ []) (laid_as filmed.old.caches published.old) (laid_as filmed.new.caches published.new)) }
     ensures err { OnErr result (laid_as filmed.new.caches published.new ≡ laid_as filmed.old.caches published.old) }
+    ensures fresh { OnErr result (list_any (same_pair group key) published.old ≡ false) }
     ensures frames { filmed.new.frames ≡ filmed.old.frames }
 {
     if was_published(published, group, key) {

@@ -8,7 +8,8 @@ use Rattle.doc_model.specs.declared.job.Kind.{Kind}
 use Rattle.doc_model.specs.declared.command.Command.{Command}
 use Rattle.doc_model.specs.declared.command.Command.TheVariants as command
 use Rattle.doc_model.specs.Strokes.{Fate, Ended, Cancelled, Entry, Strokes, Changes, Undoes, Redoes, Purges, Exports, with_job, with_fate, fed, all_fed, entries, is_stroke, is_open, is_open_stroke}
-use Rattle.doc_model.specs.Lawful.{is_closed_entry, may_follow, lawful_after, lawful, within_limits}
+use Rattle.doc_model.specs.Lawful.{may_follow, within_limits}
+use Rattle.doc_model.specs.Feeding.{is_closed_entry, lawful_after, lawful}
 use Rattle.doc_model.specs.Jobs.{checks}
 
 -- stroke numbers differ

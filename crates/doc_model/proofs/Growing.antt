@@ -3,9 +3,10 @@ use Rattle.std.proofs.Common.{◌≡◌, ℕ, suc, zero, ◌+◌, ◌-◌, ◌<�
 use Rattle.doc_model.specs.declared.job.Job.{Job}
 use Rattle.doc_model.specs.declared.job.Kind.{Kind}
 use Rattle.doc_model.specs.Kept as strokes_kept
-use Rattle.doc_model.specs.Strokes.{Jobs, conflict, conflicting, first_conflicting, second_of, pair_at, least, least_from}
+use Rattle.doc_model.specs.Strokes.{Jobs, conflict, conflicting}
+use Rattle.doc_model.specs.Searches.{first_conflicting, second_of, pair_at, least, least_from}
 use Rattle.doc_model.specs.Kept.{up_to}
-use Rattle.doc_model.proofs.Conflicts.{conflicting-take, IsLeastFrom, least_from_is}
+use Rattle.doc_model.proofs.Conflicts.{conflicting-take, conflict_by, IsLeastFrom, least_from_is}
 
 pub take_front : (jobs rest : Jobs) → take (length jobs) (jobs ++ rest) ≡ jobs
 take_front [] rest = refl
@@ -75,8 +76,9 @@ BeginsWith jobs x o p = (rest : Jobs) × (up_to (jobs ++ x ∷ []) (pair_at (job
 
 -- what is kept with one more job begins with what was kept
 pub kept_more : (jobs : Jobs) (x : Kind × Job) → (rest : Jobs) × (strokes_kept.kept (jobs ++ x ∷ []) ≡ strokes_kept.kept jobs ++ rest)
-unfolding conflict
-kept_more jobs x = go (second_of jobs) (least_from_is 0 (length jobs) (λ j. is_some (first_conflicting jobs j))) (second_of (jobs ++ x ∷ [])) (second_more jobs x)
+kept_more jobs x =
+    let told : BeginsWith jobs x (second_of jobs) (second_of (jobs ++ x ∷ [])) = go (second_of jobs) (least_from_is 0 (length jobs) (λ j. is_some (first_conflicting jobs j))) (second_of (jobs ++ x ∷ [])) (second_more jobs x) in
+    (told.0, ap (up_to (jobs ++ x ∷ [])) (conflict_by (jobs ++ x ∷ [])) ∙ told.1 ∙ sym (ap (λ o. up_to jobs o ++ told.0) (conflict_by jobs)))
   where
     go : (o : Option ℕ) → IsLeastFrom 0 (length jobs) (λ j. is_some (first_conflicting jobs j)) o → (p : Option ℕ) → p ≡ or_then o (cond (is_some (first_conflicting (jobs ++ x ∷ []) (length jobs))) (Some (length jobs)) None) → BeginsWith jobs x o p
     go None told p e = subst (BeginsWith jobs x None) (sym e) (last (first_conflicting (jobs ++ x ∷ []) (length jobs)) refl)

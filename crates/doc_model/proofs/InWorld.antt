@@ -3,7 +3,7 @@ use Rattle.std.proofs.Common.{◌≡◌, ℕ, ◌≤◌, Bool, true, false, ◌&
 use Rattle.std.specs.Prelude.{ℤ, pos, negsuc, ◌+ℤ◌, ◌≤ℤ◌, int_le, Result, Ok, Err, IfOk, OnOk, OnErr}
 use borrow.Author.Differences.{ints}
 use Rattle.geom_core.specs.Areas.{Area, right, lies_in, moved, world}
-use Rattle.geom_core.specs.Overlaps.{IsInWorld}
+use Rattle.geom_core.specs.Rects.{IsInWorld}
 use Rattle.geom_core.proofs.Tests.{true_or_false, and_left, and_right, both_true}
 
 axis : (b x y e : ℤ) → b ≤ℤ x → y ≤ℤ e → (int_le b x && int_le y e) ≡ true

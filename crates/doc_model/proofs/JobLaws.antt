@@ -6,8 +6,9 @@ use borrow.Author.Differences.{ints}
 use Rattle.pixel_core.specs.Rgba.{Rgba}
 use Rattle.pixel_core.specs.Compose.{compose, mul}
 use Rattle.brush_mask.specs.Mask.{mask}
-use Rattle.geom_core.specs.Areas.{Area, holds, moved, points_of, Point, point, same_point}
-use Rattle.geom_core.specs.Overlaps.{any_holds}
+use Rattle.geom_core.specs.Areas.{Area, holds, moved, points_of, Point, point}
+use Rattle.geom_core.specs.Same.{same_point}
+use Rattle.geom_core.specs.Rects.{any_holds}
 use Rattle.geom_core.proofs.Members.{any-points_of}
 use Rattle.geom_core.proofs.Tests.{and_left, and_right, both_true, or_left, or_right}
 use Rattle.doc_model.specs.declared.job.Job.{Job}

@@ -11,11 +11,12 @@ use Rattle.std.proofs.lemmas.Map.Views.{any-filter_same}
 use Rattle.geom_core.proofs.Members.{any-points_of}
 use Rattle.pixel_core.specs.Rgba.{Rgba, same_pixel}
 use Rattle.geom_core.specs.Points.{point_cmp_total, point_cmp-IsAntisymmetric}
-use Rattle.geom_core.specs.Areas.{Area, Point, point_cmp, points_of, same_point}
+use Rattle.geom_core.specs.Areas.{Area, Point, point_cmp, points_of}
+use Rattle.geom_core.specs.Same.{same_point}
 use Rattle.doc_model.specs.Codes.{same_parts}
 use Rattle.doc_model.specs.Layers.{Layer, at, painted, painted_at, plain, put}
 use Rattle.geom_core.proofs.Entries.{get-entry}
-use Rattle.geom_core.specs.Overlaps.{any_holds}
+use Rattle.geom_core.specs.Rects.{any_holds}
 
 same_entry : (g : Rgba) (x y : Option Rgba) → x ≢ Some g → y ≢ Some g → unwrap_or x g ≡ unwrap_or y g → x ≡ y
 same_entry g None None m n e = refl

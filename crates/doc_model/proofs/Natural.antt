@@ -9,7 +9,8 @@ use Rattle.doc_model.specs.declared.tree.Change.TheVariants as change
 use Rattle.doc_model.specs.declared.tree.TreeFault.{TreeFault}
 use Rattle.doc_model.specs.declared.tree.TreeFault.TheVariants.{Taken, NoNode, NotGroup, IntoItself, TreeFull, TooDeep, BadPlace}
 use Rattle.doc_model.specs.Forest.{Forest, none, paint, group, count, width, height, has, is_group, join, lower, upper, inserted, within, without, only, children, depth, with_look, content, with_content, or_else}
-use Rattle.doc_model.specs.Adjusting.{adjusted, each}
+use Rattle.doc_model.specs.Adjusting.{adjusted}
+use Rattle.doc_model.specs.Each.{each}
 use Rattle.doc_model.specs.Readers.{parent}
 use Rattle.doc_model.specs.Changes.{changed, answer, first_of_faults, no_new, no_place, no_node, child_count, set_in, new_look}
 use Rattle.doc_model.proofs.SameContent.{content_has}

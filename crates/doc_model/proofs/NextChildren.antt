@@ -4,7 +4,7 @@ use Rattle.std.proofs.lemmas.Bool.Decides.{nat_tests}
 use Rattle.geom_core.proofs.Tests.{taken, kept, or_left}
 use Rattle.doc_model.specs.declared.tree.Look.{Look}
 use Rattle.doc_model.specs.Forest.{Forest, none, paint, group, has, is_group, height, width, lower, upper, only, children, content}
-use Rattle.doc_model.specs.Readers.{look_in, side_at, child_in}
+use Rattle.doc_model.specs.Children.{look_in, side_at, child_in}
 use Rattle.doc_model.specs.Changes.{takes, child_count}
 use Rattle.doc_model.specs.Ids.{IsTree}
 use Rattle.doc_model.proofs.Parents.{Distinct}

@@ -11,7 +11,8 @@ use Rattle.geom_core.specs.Grid.{Key, cell, cell_of, cells, parts, same_key, key
 use Rattle.doc_model.specs.declared.canvas.Walk.{Walk}
 use Rattle.doc_model.specs.declared.canvas.Walk.TheVariants.{All}
 use Rattle.doc_model.specs.declared.canvas.Patch.{Patch}
-use Rattle.doc_model.specs.Updates.{IsQueue, in_place, alike, all_unlike, same_walk, one_cell, patch, merged, merge_all, has_place, new_parts, bound_all, replaced, added, queued, queued_part, refreshed, refreshed_part}
+use Rattle.doc_model.specs.Updates.{same_walk, one_cell, patch, merged, merge_all, has_place, new_parts, bound_all, replaced, added, queued, queued_part, refreshed, refreshed_part}
+use Rattle.doc_model.specs.Queues.{IsQueue, in_place, alike, all_unlike}
 
 not_false : (b : Bool) → b ≡ false → not b ≡ true
 not_false b e = rw e refl

@@ -14,7 +14,7 @@ use Rattle.doc_model.specs.declared.canvas.Walk.{Walk}
 use Rattle.doc_model.specs.declared.canvas.Walk.TheVariants.{Up, All}
 use Rattle.doc_model.specs.declared.canvas.Patch.{Patch}
 use Rattle.doc_model.specs.Updates.{added, replaced, merged, merge_all, new_parts, has_place, bound_all, patch, same_walk, one_cell}
-pub use Rattle.doc_model.specs.Updates.{queued_for}
+pub use Rattle.doc_model.specs.Queues.{queued_for}
 use Rattle.geom_core.proofs.Tests.{and_left, and_right, both_true, or_cases, or_left, or_right}
 use Rattle.doc_model.proofs.Conflicts.{meets_at}
 

@@ -12,7 +12,8 @@ use Rattle.doc_model.specs.declared.canvas.Walk.TheVariants.{All}
 use Rattle.doc_model.specs.declared.canvas.Patch.{Patch}
 use Rattle.doc_model.specs.Canvases.{IsOfLimits}
 use Rattle.doc_model.specs.Picture.{canvas_area}
-use Rattle.doc_model.specs.Updates.{refreshed, refreshed_part, bound_all, queued_for}
+use Rattle.doc_model.specs.Updates.{refreshed, refreshed_part, bound_all}
+use Rattle.doc_model.specs.Queues.{queued_for}
 use Rattle.doc_model.specs.UpdateLaws.{TakesAll, QueuedKeepsPlaces, QueuedCovers}
 use Rattle.doc_model.proofs.Patches.{queued_right, refreshed_right}
 use Rattle.doc_model.proofs.QueueLaws.{in_grid, map_patch, parts_hold, bound_all_patch}

@@ -1,7 +1,7 @@
 -- What a shot shows, and what a published tile leaves. Of jobs only their laws are used.
 use Rattle.std.proofs.Common.{◌≡◌, Bool, true, false, ◌&&◌, cond, List, refl, ◌∙◌}
 use Rattle.geom_core.specs.Areas.{Area, Point}
-use Rattle.geom_core.specs.Overlaps.{any_holds}
+use Rattle.geom_core.specs.Rects.{any_holds}
 use Rattle.geom_core.specs.Grid.{Key}
 use Rattle.geom_core.proofs.Tests.{taken}
 use Rattle.doc_model.specs.declared.job.Job.{Job}

@@ -15,7 +15,8 @@ use Rattle.doc_model.specs.declared.track.Stamp.{Stamp}
 use Rattle.doc_model.specs.declared.track.Track.TheInside.{Inside}
 use Rattle.doc_model.specs.contracts.track.StampPartialEq.TheImpl as stamps
 use Rattle.doc_model.specs.contracts.track.TrackPartialEq.TheImpl as tracks
-use Rattle.doc_model.specs.Trails.{Trail, trail, IsTrail}
+use Rattle.doc_model.specs.Trails.{Trail, trail}
+use Rattle.doc_model.specs.TrailRules.{IsTrail}
 use Rattle.doc_model.specs.Tracks.{point_of, pair_of, seen, kept, padded, IsTrack}
 
 -- these points, and (0, 0) behind them

@@ -8,9 +8,3 @@ module _ {A : Type 0} where
   adjusted q change none = none
   adjusted q change (paint id look x rest) = paint id look (if q == id then change x else x) (adjusted q change rest)
   adjusted q change (group id look nodes rest) = group id look (adjusted q change nodes) (adjusted q change rest)
-
--- each content by its id
-abbrev pub each : {A B : Type 0} → (ℕ → A → B) → Forest A → Forest B
-each f none = none
-each f (paint id look x rest) = paint id look (f id x) (each f rest)
-each f (group id look nodes rest) = group id look (each f nodes) (each f rest)

@@ -1,5 +1,5 @@
 -- Which commands may follow which.
-use Rattle.std.specs.Prelude.{filter, nat_lt, nat_le, Bool, true, ◌&&◌, not, List, [], ◌∷◌, length}
+use Rattle.std.specs.Prelude.{filter, nat_lt, nat_le, Bool, true, ◌&&◌, not, List, length}
 use Rattle.std.specs.List.{list_any}
 use Rattle.geom_core.specs.Areas.{Area}
 use Rattle.doc_model.specs.declared.job.Job.{Job}
@@ -8,7 +8,7 @@ use Rattle.doc_model.specs.declared.command.Command.{Command}
 use Rattle.doc_model.specs.declared.command.Command.TheVariants as command
 use Rattle.doc_model.specs.Trails.{centres}
 use Rattle.doc_model.specs.Jobs.{checks}
-use Rattle.doc_model.specs.Strokes.{Entry, Strokes, fed, has_room, is_export, is_open, is_open_stroke, is_stroke}
+use Rattle.doc_model.specs.Strokes.{Entry, has_room, is_export, is_open_stroke, is_stroke}
 
 -- whether a rectangle has 1 to 4096 columns and rows
 abbrev pub of_limits : Area → Bool
@@ -22,11 +22,6 @@ within_limits (Move rect dx dy) = of_limits rect
 within_limits (Blur rect r) = of_limits rect && (nat_le 1 r && nat_le r 16)
 within_limits (Track t cell) = nat_le (length (centres t)) 4096
 
--- whether the entry isn't an open stroke
-abbrev pub is_closed_entry : Entry → Bool
-is_closed_entry (Strokes s) = not (is_open s.fate)
-is_closed_entry e = true
-
 -- whether the command may follow those that made these entries
 abbrev pub may_follow : List Entry → Command → Bool
 may_follow es (command.Stroke n layer exclusive) = not (list_any (is_stroke n) es)
@@ -35,12 +30,3 @@ may_follow es (command.End n) = list_any (is_open_stroke n) es
 may_follow es (command.Cancel n) = list_any (is_open_stroke n) es
 may_follow es command.Export = nat_lt (length (filter is_export es)) 64
 may_follow es c = true
-
--- whether each command may follow those before it
-abbrev pub lawful_after : List Entry → List Command → Bool
-lawful_after es [] = true
-lawful_after es (c ∷ cs) = may_follow es c && lawful_after (fed es c) cs
-
--- whether these commands may be fed, one after another
-abbrev pub lawful : List Command → Bool
-lawful commands = lawful_after [] commands

@@ -1,13 +1,14 @@
 -- Laws of jobs, and of undo and redo.
-use Rattle.std.specs.Prelude.{◌≡◌, ◌≢◌, ◌≤◌, Bool, true, false, Ok, List, [], ◌∷◌, ◌++◌, length}
+use Rattle.std.specs.Prelude.{◌≡◌, ◌≢◌, ◌≤◌, ◌<◌, ◌*◌, ℕ, Bool, true, false, Ok, List, [], ◌∷◌, ◌++◌, length}
 use Rattle.std.specs.List.{AllByRecursion}
 use Rattle.geom_core.specs.Areas.{Area, Point}
-use Rattle.geom_core.specs.Overlaps.{any_holds}
+use Rattle.geom_core.specs.Rects.{any_holds}
 use Rattle.geom_core.specs.Grid.{Key}
 use Rattle.doc_model.specs.declared.canvas.Canvas.{Canvas}
 use Rattle.doc_model.specs.declared.job.Job.{Job}
 use Rattle.doc_model.specs.declared.job.Kind.{Kind}
 use Rattle.doc_model.specs.declared.tree.Change.{Change}
+use Rattle.doc_model.specs.Trails.{distance, how_many_on}
 use Rattle.doc_model.specs.Layers.{Layer, at, plain}
 use Rattle.doc_model.specs.Jobs.{reads, writes, apply}
 use Rattle.doc_model.specs.Shots.{published}
@@ -34,6 +35,10 @@ pub record LawsOfJobs : Type 0 where
   pub inside : (job : Job) (a b : Layer) (p : Point) → SameOn (reads job) a b → any_holds (writes job) p ≡ true → at (apply job a) p ≡ at (apply job b) p
   -- what it writes it reads
   pub within : (job : Job) (p : Point) → any_holds (writes job) p ≡ true → any_holds (reads job) p ≡ true
+
+-- a segment has just the dabs that stand less than its length from its first point; they are numbered from 0
+abbrev pub DabsStandBefore : Type 0
+DabsStandBefore = (gap k : ℕ) (p q : Point) → 1 ≤ gap → (k < how_many_on gap p q → k * gap < distance p q) × (k * gap < distance p q → k < how_many_on gap p q)
 
 -- no point lies in rectangles of both
 abbrev pub Apart : List Area → List Area → Type 0

@@ -1,5 +1,6 @@
 pub mod Layers
 pub mod Trails
+pub mod TrailRules
 pub mod Tracks
 pub mod Jobs
 pub mod Forest
@@ -8,14 +9,19 @@ pub mod Flat
 pub mod Picture
 pub mod Changes
 pub mod Strokes
+pub mod Searches
 pub mod Lawful
+pub mod Feeding
 pub mod Meaning
 pub mod Laws
 pub mod Updates
+pub mod Queues
 pub mod UpdateLaws
 pub mod Codes
 pub mod Canvases
 pub mod Readers
+pub mod Children
 pub mod Adjusting
+pub mod Each
 pub mod Shots
 pub mod Kept

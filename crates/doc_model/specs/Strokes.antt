@@ -1,10 +1,11 @@
 -- Commands, the entries that they make, which of these are open, and conflicts of jobs.
-use Rattle.std.specs.Prelude.{ℕ, suc, nat_lt, ◌-◌, zero, ◌==◌, Bool, ◌+◌, true, false, ◌||◌, ◌&&◌, not, if◌then◌else◌, Option, Some, None, is_some, List, [], ◌∷◌, ◌++◌, map, length, slice_get}
-use Rattle.std.specs.List.{list_any}
+use Rattle.std.specs.Prelude.{ℕ, suc, nat_lt, ◌-◌, ◌==◌, Bool, true, false, ◌||◌, ◌&&◌, not, if◌then◌else◌, Option, Some, None, List, [], ◌∷◌, ◌++◌, map, length, slice_get}
+use Rattle.std.specs.List.{list_any, list_all, find, flat_map, range_with_len}
+use Rattle.std.specs.Option.{option_map}
 use Rattle.geom_core.specs.Areas.{Area, meets}
 use Rattle.doc_model.specs.declared.job.Job.{Job}
 use Rattle.doc_model.specs.declared.job.Kind.{Kind}
-use Rattle.doc_model.specs.declared.job.Kind.TheVariants.{Con, Seq, Bar, Uni}
+use Rattle.doc_model.specs.declared.job.Kind.TheVariants.{Con, Uni}
 use Rattle.doc_model.specs.declared.tree.Change.{Change}
 use Rattle.doc_model.specs.declared.command.Command.{Command}
 use Rattle.doc_model.specs.declared.command.Command.TheVariants as command
@@ -76,8 +77,7 @@ is_stroke n e = false
 -- whether the stroke is still open
 abbrev pub is_open : Fate → Bool
 is_open Open = true
-is_open Ended = false
-is_open Cancelled = false
+is_open fate = false
 
 -- whether the entry is the stroke with that number, still open
 abbrev pub is_open_stroke : ℕ → Entry → Bool
@@ -94,33 +94,16 @@ abbrev pub is_export : Entry → Bool
 is_export Exports = true
 is_export e = false
 
--- the least of the n numbers from k on that passes
-abbrev pub least_from : ℕ → ℕ → (ℕ → Bool) → Option ℕ
-least_from k zero test = None
-least_from k (suc n) test = if test k then Some k else least_from (k + 1) n test
-
--- the least number below n that passes
-abbrev pub least : ℕ → (ℕ → Bool) → Option ℕ
-least n test = least_from 0 n test
-
--- whether each of the n numbers from k on passes
-abbrev pub all_from : ℕ → ℕ → (ℕ → Bool) → Bool
-all_from k zero test = true
-all_from k (suc n) test = test k && all_from (k + 1) n test
-
 -- whether a job may stand in a run
 abbrev pub runs : Kind → Bool
 runs Con = true
-runs Seq = false
-runs Bar = false
 runs Uni = true
+runs kind = false
 
 -- whether a job is uniquely concurrent
 abbrev pub is_uni : Kind → Bool
-is_uni Con = false
-is_uni Seq = false
-is_uni Bar = false
 is_uni Uni = true
+is_uni kind = false
 
 -- whether some rectangle of the one meets some of the other
 abbrev pub any_meet : List Area → List Area → Bool
@@ -143,7 +126,7 @@ runs_at jobs k = passes (slice_get jobs k) (λ (j : Kind × Job). runs j.0)
 
 -- whether the jobs at the places i to j stand in one run
 abbrev pub one_run : Jobs → ℕ → ℕ → Bool
-one_run jobs i j = all_from i (suc j - i) (runs_at jobs)
+one_run jobs i j = list_all (runs_at jobs) (range_with_len i (suc j - i))
 
 -- whether one of the jobs writes what the other reads
 abbrev pub disturb : Job → Job → Bool
@@ -157,24 +140,10 @@ clash a b = disturb a.1 b.1 && not (is_uni a.0 && is_uni b.0)
 abbrev pub conflicting : Jobs → ℕ → ℕ → Bool
 conflicting jobs i j = one_run jobs i j && some_both (slice_get jobs i) (slice_get jobs j) clash
 
--- the least index of a job before j that conflicts with it
-abbrev pub first_conflicting : Jobs → ℕ → Option ℕ
-first_conflicting jobs j = least j (λ i. conflicting jobs i j)
+-- the pairs of a place below n and one before it, in the order of the later place, and then of the earlier
+abbrev pub pairs : ℕ → List (ℕ × ℕ)
+pairs n = flat_map (λ (j : ℕ). map (λ (i : ℕ). (i, j)) (range_with_len 0 j)) (range_with_len 0 n)
 
--- the least index of a job that conflicts with one before it
-abbrev pub second_of : Jobs → Option ℕ
-second_of jobs = least (length jobs) (λ j. is_some (first_conflicting jobs j))
-
--- the pair as numbers from 1
-abbrev pub pair_of : Option ℕ → ℕ → Option (ℕ × ℕ)
-pair_of None j = None
-pair_of (Some i) j = Some (suc i, suc j)
-
--- the pair with that second index
-abbrev pub pair_at : Jobs → Option ℕ → Option (ℕ × ℕ)
-pair_at jobs None = None
-pair_at jobs (Some j) = pair_of (first_conflicting jobs j) j
-
--- the conflicting pair with the least second number, and among these the least first; jobs are numbered from 1
+-- the first of these pairs whose jobs conflict: that with the least second number, and among these the least first; jobs are numbered from 1
 unfoldable pub conflict : Jobs → Option (ℕ × ℕ)
-conflict jobs = pair_at jobs (second_of jobs)
+conflict jobs = option_map (λ (p : ℕ × ℕ). (suc p.0, suc p.1)) (find (λ (p : ℕ × ℕ). conflicting jobs p.0 p.1) (pairs (length jobs)))

@@ -3,7 +3,8 @@ use Rattle.std.specs.Prelude.{◌≡◌, suc, ◌-◌, ℤ, pos, List, [], ◌�
 use Rattle.std.proofs.Common.{ap, ◌∙◌}
 use Rattle.geom_core.specs.Areas.{Point, point}
 use Rattle.doc_model.specs.declared.track.Track.TheInside.{Inside}
-use Rattle.doc_model.specs.Trails.{Trail, trail, IsTrail}
+use Rattle.doc_model.specs.Trails.{Trail, trail}
+use Rattle.doc_model.specs.TrailRules.{IsTrail}
 
 -- a point by the pair of its coordinates, and back
 abbrev pub point_of : ℤ × ℤ → Point

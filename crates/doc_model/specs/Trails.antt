@@ -1,9 +1,7 @@
 -- Tracks: dabs in a row along a polyline.
-use Rattle.std.specs.Prelude.{◌≤◌, ℕ, ◌*◌, pos, negsuc, ◌≤ℤ◌, ◌+ℤ◌, ◌-ℤ◌, ◌*ℤ◌, nat_abs, max, List, [], ◌∷◌, ◌++◌, map, length, refl}
+use Rattle.std.specs.Prelude.{ℕ, ◌*◌, pos, ◌+ℤ◌, ◌-ℤ◌, ◌*ℤ◌, nat_abs, max, List, [], ◌∷◌, ◌++◌, map}
 use Rattle.std.specs.Int.{div_ceil}
 use Rattle.std.specs.List.{range_with_len}
-use Rattle.std.specs.Coded.{Coded, code_by, coded×, coded_ℕ, coded_list}
-use Rattle.geom_core.specs.Points.{point_code}
 use Rattle.geom_core.specs.Areas.{Point, point}
 use Rattle.geom_core.specs.Grid.{floor_by}
 use Rattle.doc_model.specs.declared.track.Stamp.{Stamp}
@@ -19,18 +17,6 @@ pub record Trail : Type 0 where
 abbrev pub trail : List Point → ℕ → Stamp → Trail
 trail ps gap s = record { points = ps; gap = gap; stamp = s }
 
--- a point's coordinates have 16 bits
-pub record IsShort (p : Point) : Type 0 where
-  pub x : (negsuc 32767 ≤ℤ p.x) × (p.x ≤ℤ pos 32767)
-  pub y : (negsuc 32767 ≤ℤ p.y) × (p.y ≤ℤ pos 32767)
-
--- what every track keeps to
-pub record IsTrail (t : Trail) : Type 0 where
-  pub several : 2 ≤ length t.points
-  pub few : length t.points ≤ 8
-  pub gap : (1 ≤ t.gap) × (t.gap ≤ 255)
-  pub radius : t.stamp.r ≤ 128
-
 -- how far apart two points are: the greater of their distances across and down
 abbrev pub distance : Point → Point → ℕ
 distance p q = max (nat_abs (q.x -ℤ p.x)) (nat_abs (q.y -ℤ p.y))
@@ -39,7 +25,7 @@ distance p q = max (nat_abs (q.x -ℤ p.x)) (nat_abs (q.y -ℤ p.y))
 abbrev pub along : Point → Point → ℕ → Point
 along p q n = point (p.x +ℤ floor_by (distance p q) ((q.x -ℤ p.x) *ℤ pos n)) (p.y +ℤ floor_by (distance p q) ((q.y -ℤ p.y) *ℤ pos n))
 
--- how many dabs stand on a segment, one each gap from its first point on, and none at its last
+-- how many dabs stand on a segment: one for each number k with k * gap less than its length, so one each gap from its first point on, and none at its last
 abbrev pub how_many_on : ℕ → Point → Point → ℕ
 how_many_on gap p q = div_ceil (distance p q) gap
 
@@ -56,7 +42,3 @@ centres_along gap (p ∷ q ∷ rest) = on_segment gap p q ++ centres_along gap (
 -- the centres of a track's dabs, the first of them first
 abbrev pub centres : Trail → List Point
 centres t = centres_along t.gap t.points
-
--- the code by which contracts tell tracks apart
-abbrev pub trail_code : Coded Trail
-trail_code = code_by (List Point × (ℕ × Stamp)) (coded× (coded_list point_code) (coded× coded_ℕ (stamp.the_row).coded)) (λ t. (t.points, (t.gap, t.stamp))) (λ t. trail t.0 t.1.0 t.1.1) (λ _. refl)

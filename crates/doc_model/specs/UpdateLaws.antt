@@ -7,7 +7,8 @@ use Rattle.doc_model.specs.declared.canvas.Walk.TheVariants.{All}
 use Rattle.doc_model.specs.declared.canvas.Patch.{Patch}
 use Rattle.doc_model.specs.Canvases.{IsOfLimits}
 use Rattle.doc_model.specs.Picture.{canvas_area}
-use Rattle.doc_model.specs.Updates.{IsQueue, queued, refreshed, queued_for}
+use Rattle.doc_model.specs.Updates.{queued, refreshed}
+use Rattle.doc_model.specs.Queues.{IsQueue, queued_for}
 
 -- at most 64 patches, each in the canvas and in one cell, no two of one walk in one cell: so it begins, and so it stays
 pub record QueuedKeepsPlaces : Type 0 where

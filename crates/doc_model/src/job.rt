@@ -2,7 +2,8 @@
 ghost use Rattle.std.specs.Prelude.{IsTrue, ◌↔◌, ◌≡◌, ◌≤◌, ◌≤ℤ◌, ◌-ℤ◌, ◌&&◌, pos, negsuc, int_le, [], ◌∷◌, true, false, IfOk, OnOk, OnErr};
 ghost use Rattle.geom_core.specs.Areas.{lies_in, moved, world};
 ghost use Rattle.std.specs.List.{list_all};
-ghost use Rattle.geom_core.specs.Grid.{tile, IsWorldKey};
+ghost use Rattle.geom_core.specs.Grid.{tile};
+ghost use Rattle.geom_core.specs.Keys.{IsWorldKey};
 ghost use Rattle.doc_model.specs.Jobs.{square, squares, grown, reads, writes, checks};
 ghost use Rattle.doc_model.specs.Lawful.{of_limits, within_limits};
 
@@ -252,7 +253,7 @@ fn is_of_world(cell: TileKey) -> bool
 
 /// Whether all dabs of the track lie in the world. As there is one at each of its points, and the
 /// others stand between these, the points alone are looked at.
-pub fn stays_in_world(track: &Track) -> bool
+fn stays_in_world(track: &Track) -> bool
     ensures { result ≡ list_all (λ a. lies_in a world) (squares track.now) }
 {
     let r = track.stamp().r;

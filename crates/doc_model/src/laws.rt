@@ -1,12 +1,18 @@
 //! What is proved of the definitions, each law as the contract of a function that does nothing.
 
-ghost use Rattle.doc_model.specs.Laws.{LawsOfJobs, JobsCommute, TilesCommute, ConflictsBothWays, UndoThenRedo, RedoThenUndo, UndoGivesBack, RefusedLeavesNothing, OneOutcomeAnEntry, ChangesKeepLimits, MeaningKeepsLimits};
+ghost use Rattle.doc_model.specs.Laws.{LawsOfJobs, DabsStandBefore, JobsCommute, TilesCommute, ConflictsBothWays, UndoThenRedo, RedoThenUndo, UndoGivesBack, RefusedLeavesNothing, OneOutcomeAnEntry, ChangesKeepLimits, MeaningKeepsLimits};
 ghost use Rattle.doc_model.specs.UpdateLaws.{QueuedKeepsPlaces, QueuedCovers};
 
 /// What every job keeps to: outside its writes all stays, and inside them each pixel depends on
 /// its reads alone.
 pub fn job_laws()
     ensures { LawsOfJobs }
+{}
+
+/// The dabs of a track that stand on a segment, one each gap from its first point on, are just those
+/// that stand before its end.
+pub fn dabs_stand_before()
+    ensures { DabsStandBefore }
 {}
 
 /// Jobs of which neither writes what the other reads commute.

@@ -4,7 +4,8 @@ ghost use Rattle.std.specs.Prelude.{◌≡◌, ◌≤◌, ◌<◌, ◌+◌, ◌*
 ghost use Rattle.std.specs.List.{list_all};
 ghost use Rattle.geom_core.specs.Areas.{point, lies_in, world};
 ghost use Rattle.geom_core.specs.Grid.{floor_by};
-ghost use Rattle.doc_model.specs.Trails.{trail, IsTrail, distance, along, how_many_on, centres};
+ghost use Rattle.doc_model.specs.Trails.{trail, distance, along, how_many_on, centres};
+ghost use Rattle.doc_model.specs.TrailRules.{IsTrail};
 ghost use Rattle.doc_model.specs.Tracks.{point_of};
 
 use pixel_core::{Op, Pixel};
@@ -32,7 +33,8 @@ pub struct Track {
 }
 
 impl Model for Track {
-    ghost use Rattle.doc_model.specs.Trails.{Trail, trail_code};
+    ghost use Rattle.doc_model.specs.Trails.{Trail};
+    ghost use Rattle.doc_model.specs.TrailRules.{trail_code};
 
     ghost Value = { Trail };
 

@@ -10,7 +10,8 @@ use Rattle.doc_model.specs.declared.command.Outcome.{Outcome}
 use Rattle.doc_model.specs.Strokes as doc
 use Rattle.doc_model.specs.Kept as doc_kept
 use Rattle.doc_model.specs.Strokes.{Fate, Open, Ended, Cancelled, Stroke, entries, all_fed, fed, conflict, is_stroke, is_open, is_open_stroke}
-use Rattle.doc_model.specs.Lawful.{is_closed_entry, may_follow, lawful_after, lawful, within_limits}
+use Rattle.doc_model.specs.Lawful.{may_follow, within_limits}
+use Rattle.doc_model.specs.Feeding.{is_closed_entry, lawful_after, lawful}
 use Rattle.doc_model.specs.Jobs.{checks}
 use Rattle.doc_model.proofs.Feeding.{NumbersDiffer, lawful_differ, entries_last, length_fed, take_fed}
 use Rattle.stroke_core.specs.Fed as stroke

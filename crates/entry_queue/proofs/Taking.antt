@@ -11,8 +11,9 @@ use Rattle.doc_model.specs.declared.command.Command.TheVariants as command
 use Rattle.doc_model.specs.Strokes as doc
 use Rattle.doc_model.specs.Kept as doc_kept
 use Rattle.doc_model.specs.Kept.{up_to}
-use Rattle.doc_model.specs.Lawful as lawful
-use Rattle.doc_model.specs.Lawful.{is_closed_entry, may_follow, lawful_after, within_limits}
+use Rattle.doc_model.specs.Feeding as feeding
+use Rattle.doc_model.specs.Lawful.{may_follow, within_limits}
+use Rattle.doc_model.specs.Feeding.{is_closed_entry, lawful_after}
 use Rattle.doc_model.specs.Strokes.{is_stroke, is_open, is_open_stroke, Fate, Open, Ended, Cancelled, Stroke, Jobs, entries, all_fed, fed, conflict}
 use Rattle.doc_model.specs.Jobs.{checks}
 use Rattle.doc_model.proofs.Feeding.{NumbersDiffer, lawful_differ}
@@ -174,9 +175,9 @@ takes_following k es (command.Purge keep) d m all = refl
 takes_following k es command.Export d m all = refl
 
 -- what may be fed next the queue takes
-pub takes_lawful : (before : List Command) (c : Command) (q : Pending) → lawful.lawful (before ++ c ∷ []) ≡ true → StandsFor before q → takes q.left c ≡ true
+pub takes_lawful : (before : List Command) (c : Command) (q : Pending) → feeding.lawful (before ++ c ∷ []) ≡ true → StandsFor before q → takes q.left c ≡ true
 takes_lawful before c q l h =
-    let both : (lawful.lawful before ≡ true) × (may_follow (entries before) c ≡ true) = lawful_split [] before c l in
+    let both : (feeding.lawful before ≡ true) × (may_follow (entries before) c ≡ true) = lawful_split [] before c l in
     subst (λ left. takes left c ≡ true) (sym h.left_is) (takes_following (length q.outcomes) (entries before) c (lawful_differ before both.0) both.1 h.closed)
 
 -- whether all jobs are within the limits
@@ -236,7 +237,7 @@ fits_after es [] h all = all
 fits_after es (c ∷ cs) h all = fits_after (fed es c) cs (and_right (may_follow es c) _ h) (fits_fed es c (and_left (may_follow es c) _ h) all)
 
 -- the jobs of lawful commands are within the limits
-pub lawful_fits : (cs : List Command) → lawful.lawful cs ≡ true → AllByRecursion Fits (entries cs)
+pub lawful_fits : (cs : List Command) → feeding.lawful cs ≡ true → AllByRecursion Fits (entries cs)
 lawful_fits cs h = fits_after [] cs h tt
 
 fit_taken : (k : ℕ) (jobs : Jobs) → all_fit jobs ≡ true → all_fit (take k jobs) ≡ true

@@ -6,7 +6,7 @@ use Rattle.doc_model.specs.declared.job.Kind.{Kind}
 use Rattle.doc_model.specs.declared.command.Command.{Command}
 use Rattle.doc_model.specs.declared.command.Command.TheVariants as command
 use Rattle.doc_model.specs.declared.command.Outcome.{Outcome}
-use Rattle.doc_model.specs.Lawful.{is_closed_entry}
+use Rattle.doc_model.specs.Feeding.{is_closed_entry}
 use Rattle.doc_model.specs.Jobs.{checks}
 use Rattle.doc_model.specs.Strokes as doc
 use Rattle.doc_model.specs.Strokes.{Fate, Open, Ended, Cancelled, Stroke, Jobs, conflict, entries}

@@ -7,7 +7,7 @@ ghost use Rattle.slab.specs.Slab.{get, HasRoomFor, SameValues, Updates};
 ghost use Rattle.entry_queue.specs.Keys.{HasWaiting};
 ghost use Rattle.entry_queue.specs.Pushed.{TakesJob, after_job, grown};
 ghost use Rattle.entry_queue.specs.declared.entry.Entry.TheVariants.{Waiting, Whole, Other};
-ghost use Rattle.doc_model.specs.Lawful.{lawful};
+ghost use Rattle.doc_model.specs.Feeding.{lawful};
 ghost use Rattle.doc_model.specs.Jobs.{checks};
 ghost use Rattle.doc_model.specs.declared.command.Command.{Command};
 

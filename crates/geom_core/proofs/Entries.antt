@@ -3,7 +3,8 @@ use Rattle.std.proofs.Common.{◌≡◌, ◌≢◌, Bool, true, false, cond, Opt
 use Rattle.std.specs.Option.{unwrap_or}
 use Rattle.std.specs.FinMap as map
 use Rattle.std.specs.FinMap.{FinMap}
-use Rattle.geom_core.specs.Areas.{Point, point_cmp, same_point}
+use Rattle.geom_core.specs.Areas.{Point, point_cmp}
+use Rattle.geom_core.specs.Same.{same_point}
 use Rattle.geom_core.specs.Points.{point_cmp_total}
 
 module _ {A : Type 0} where

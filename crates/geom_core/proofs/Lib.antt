@@ -15,3 +15,4 @@ pub mod Axes
 pub mod Whole
 pub mod Canvas
 pub mod Entries
+pub mod Rounds

@@ -6,7 +6,8 @@ use Rattle.std.proofs.lemmas.List.{length-map}
 use borrow.Author.Differences.{ints}
 use Rattle.geom_core.specs.Areas.{Area, meets}
 use Rattle.geom_core.specs.Overlaps.{common}
-use Rattle.geom_core.specs.Grid.{key, cell, floor_by, count_from, how_many, pieces, keys_in_rows, cell_keys_of, cells_of}
+use Rattle.geom_core.specs.Grid.{key, cell, floor_by, count_from, how_many, pieces, keys_in_rows}
+use Rattle.geom_core.specs.Cells.{cell_keys_of, cells_of}
 use Rattle.geom_core.specs.Place.{seen}
 use Rattle.geom_core.specs.declared.rect.Rect.TheInside.{Inside}
 use Rattle.geom_core.proofs.Tests.{both_true}

@@ -5,8 +5,10 @@ use Rattle.std.specs.Int.{int_max}
 use Rattle.std.specs.List.{list_any}
 use borrow.Author.Differences.{ints}
 use Rattle.geom_core.specs.Areas.{Area, holds, meets, right, bottom, Point}
-use Rattle.geom_core.specs.Overlaps.{any_holds, common, length_between}
-use Rattle.geom_core.specs.Grid.{cell, cell_keys_of, cells_of, floor_by, how_many, pieces}
+use Rattle.geom_core.specs.Overlaps.{common, length_between}
+use Rattle.geom_core.specs.Rects.{any_holds}
+use Rattle.geom_core.specs.Grid.{cell, floor_by, how_many, pieces}
+use Rattle.geom_core.specs.Cells.{cell_keys_of, cells_of}
 use Rattle.geom_core.specs.Laws.{CellsAreMet}
 use Rattle.geom_core.proofs.Tests.{and_left, and_right, both_true}
 use Rattle.geom_core.proofs.Common.{shared_common, crossed}

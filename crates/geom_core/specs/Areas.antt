@@ -1,7 +1,7 @@
 -- Points, and rectangles as sets of points.
 use Rattle.std.specs.Prelude.{ℕ, suc, zero, ℤ, pos, negsuc, ◌+ℤ◌, int_le, int_lt, Bool, ◌&&◌, List, [], ◌∷◌, ◌++◌}
 use Rattle.std.specs.declared.cmp.Ordering.{Ordering}
-use Rattle.std.specs.Ordering.{int_cmp, ordering_then, eq_by_cmp}
+use Rattle.std.specs.Ordering.{int_cmp, ordering_then}
 
 -- a point by its column and row
 pub record Point : Type 0 where
@@ -15,10 +15,6 @@ point x y = record { x = x; y = y }
 -- by row, and then by column
 abbrev pub point_cmp : Point → Point → Ordering
 point_cmp p q = ordering_then (int_cmp p.y q.y) (int_cmp p.x q.x)
-
--- whether two points are one
-abbrev pub same_point : Point → Point → Bool
-same_point = eq_by_cmp point_cmp
 
 -- w columns from x on and h rows from y on
 pub record Area : Type 0 where

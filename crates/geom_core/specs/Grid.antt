@@ -3,18 +3,11 @@ use Rattle.std.specs.Prelude.{ℕ, suc, zero, ◌/◌, ℤ, pos, negsuc, ◌+ℤ
 use Rattle.std.specs.List.{filter_map}
 use Rattle.std.specs.declared.cmp.Ordering.{Ordering}
 use Rattle.std.specs.Ordering.{int_cmp, ordering_then, eq_by_cmp}
-use Rattle.std.specs.Cmp.{IsTotalOrder}
-use Rattle.std.specs.FinMap.{IsAntisymmetric}
 use Rattle.std.specs.FinSet as set
 use Rattle.std.specs.FinSet.{FinSet}
 use Rattle.geom_core.specs.declared.key.TileKey.{TileKey}
-use Rattle.std.specs.Prelude.{◌≤ℤ◌, ◌<ℤ◌}
 use Rattle.geom_core.specs.Areas.{Area, area, right, bottom, Point}
-use Rattle.geom_core.specs.Overlaps.{clipped, common}
-use Rattle.std.specs.Coded.{Coded, code_by, coded×, coded_ℤ}
-use Rattle.std.proofs.Common.{ap, refl}
-use Rattle.std.proofs.lemmas.Cmp.{on_total, then_total, int_cmp_total}
-use Rattle.std.proofs.lemmas.Map.Lookups.{exact_pairs, exact_signed}
+use Rattle.geom_core.specs.Overlaps.{clipped}
 
 -- x / n, rounded down
 abbrev pub floor_by : ℕ → ℤ → ℤ
@@ -33,24 +26,9 @@ key c r = record { col = c; row = r }
 abbrev pub key_cmp : Key → Key → Ordering
 key_cmp a b = ordering_then (int_cmp a.row b.row) (int_cmp a.col b.col)
 
--- the world's tiles have columns and rows from -256 to 255
-pub record IsWorldKey (k : Key) : Type 0 where
-  pub left : negsuc 255 ≤ℤ k.col
-  pub right : k.col <ℤ pos 256
-  pub top : negsuc 255 ≤ℤ k.row
-  pub bottom : k.row <ℤ pos 256
-
 -- whether two keys are one
 abbrev pub same_key : Key → Key → Bool
 same_key = eq_by_cmp key_cmp
-
--- keys stand in one order
-pub key_cmp_total : IsTotalOrder key_cmp
-key_cmp_total = then_total (on_total (λ (k : Key). k.row) int_cmp_total) (on_total (λ (k : Key). k.col) int_cmp_total)
-
--- keys that compare alike are one
-pub key_cmp-IsAntisymmetric : IsAntisymmetric key_cmp
-key_cmp-IsAntisymmetric a b h = ap (λ (t : ℤ × ℤ). key t.1 t.0) (exact_pairs int_cmp int_cmp exact_signed exact_signed (a.row, a.col) (b.row, b.col) h)
 
 -- the tile that a point lies in
 abbrev pub key_of : Point → Key
@@ -111,15 +89,3 @@ cell_of a = key (floor_by 256 a.x) (floor_by 256 a.y)
 -- the parts of a rectangle by the cells of the largest canvas, in row order
 abbrev pub parts : Area → List Area
 parts a = filter_map (clipped a) cells
-
--- the cells that a rectangle meets, by their columns and rows, in row order
-abbrev pub cell_keys_of : Area → List Key
-cell_keys_of a = keys_in_rows (pieces 256 a.x (right a -ℤ pos 1)) (pieces 256 a.y (bottom a -ℤ pos 1))
-
--- the parts of any rectangle in the cells that it meets, in row order
-abbrev pub cells_of : Area → List Area
-cells_of a = map (λ k. common a (cell k)) (cell_keys_of a)
-
--- the code by which contracts tell keys apart
-abbrev pub key_code : Coded Key
-key_code = code_by (ℤ × ℤ) (coded× coded_ℤ coded_ℤ) (λ k. (k.col, k.row)) (λ t. key t.0 t.1) (λ _. refl)

@@ -3,8 +3,10 @@ use Rattle.std.specs.Prelude.{◌≡◌, ◌≤◌, true, Bool, List, pos}
 use Rattle.std.specs.List.{list_any, IsDistinct}
 use Rattle.std.specs.List.Sorted.{IsStrictlySortedBy}
 use Rattle.geom_core.specs.Areas.{Area, area, holds, meets, lies_in, Point}
-use Rattle.geom_core.specs.Overlaps.{any_holds, common, bound, IsShared}
-use Rattle.geom_core.specs.Grid.{Key, key_cmp, key_of, same_key, tile, keys_of, cell, cell_keys_of, cells_of, parts}
+use Rattle.geom_core.specs.Overlaps.{common, bound}
+use Rattle.geom_core.specs.Rects.{any_holds, IsShared}
+use Rattle.geom_core.specs.Grid.{Key, key_cmp, key_of, same_key, tile, keys_of, cell, parts}
+use Rattle.geom_core.specs.Cells.{cell_keys_of, cells_of}
 
 -- each point of the first is one of the second
 abbrev pub AllIn : Area → Area → Type 0

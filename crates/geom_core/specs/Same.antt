@@ -1,8 +1,12 @@
--- When two rectangles are one.
+-- When two points or rectangles are one.
 use Rattle.std.specs.Prelude.{nat_eq, Bool, ◌&&◌}
-use Rattle.std.specs.Ordering.{int_eq}
+use Rattle.std.specs.Ordering.{int_eq, eq_by_cmp}
 use Rattle.std.specs.Cmp.{IsEquivalence, and_equiv, on_equiv, int_eq_equiv, nat_eq_equiv}
-use Rattle.geom_core.specs.Areas.{Area}
+use Rattle.geom_core.specs.Areas.{Area, Point, point_cmp}
+
+-- whether two points are one
+abbrev pub same_point : Point → Point → Bool
+same_point = eq_by_cmp point_cmp
 
 -- whether two rectangles are one
 abbrev pub same_area : Area → Area → Bool

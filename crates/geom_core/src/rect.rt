@@ -1,8 +1,11 @@
 //! Rectangles of the world.
 ghost use Rattle.std.specs.Prelude.{IfSome, IfNone, false, length, slice_get, Some, ◌/◌, ◌%◌, ◌*◌, nat_abs, ◌<ℤ◌, ◌⊎◌, MatchOption, negsuc, ◌≡◌, ℕ, ◌<◌, ◌≤◌, ◌+◌, ◌-◌, true, ◌&&◌, nat_lt, nat_le, ℤ, pos, ◌-ℤ◌, ◌+ℤ◌, ◌≤ℤ◌, int_le, int_lt, IfOk, OnOk, OnErr, MatchResult, SomeIff};
-ghost use Rattle.geom_core.specs.Overlaps.{IsShared, place_in, common, clipped, bound, IsRect, IsInWorld};
+ghost use Rattle.geom_core.specs.Overlaps.{common, clipped, bound};
+ghost use Rattle.geom_core.specs.Rects.{IsShared, place_in, IsRect, IsInWorld};
 ghost use Rattle.geom_core.specs.Areas.{Point, point, Area, area, holds, meets, lies_in, moved, right, bottom, world};
-ghost use Rattle.geom_core.specs.Grid.{keys_of, cells_of, cell, key, IsWorldKey};
+ghost use Rattle.geom_core.specs.Grid.{keys_of, cell, key};
+ghost use Rattle.geom_core.specs.Cells.{cells_of};
+ghost use Rattle.geom_core.specs.Keys.{IsWorldKey};
 ghost use Rattle.geom_core.specs.Place.{IsOffset};
 
 use crate::{OutOfWorld, TileKey};

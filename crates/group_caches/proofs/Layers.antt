@@ -8,9 +8,10 @@ use Rattle.std.specs.Option.{unwrap_or, option_copied}
 use Rattle.std.proofs.lemmas.List.{get_or-replicate}
 use Rattle.pixel_core.specs.Rgba.{Rgba, clear, same_pixel}
 use Rattle.geom_core.specs.Areas.{Area, holds, Point}
-use Rattle.geom_core.specs.Overlaps.{any_holds, IsShared, IsWithin}
+use Rattle.geom_core.specs.Rects.{any_holds, IsShared, IsWithin}
 use Rattle.geom_core.specs.Place.{across, down}
-use Rattle.geom_core.specs.Grid.{Key, key_cmp, key_cmp_total, key_of, same_key, tile}
+use Rattle.geom_core.specs.Grid.{Key, key_cmp, key_of, same_key, tile}
+use Rattle.geom_core.specs.Keys.{key_cmp_total}
 use Rattle.geom_core.proofs.Tests.{taken, kept, and_left, and_right, both_true}
 use Rattle.geom_core.proofs.Tiles.{holder, key_of_holder, key_same, key_is}
 use Rattle.tile_core.specs.Pixels.{Pixels, pixel_at, pixel_or, HasPixels}

@@ -5,7 +5,7 @@ ghost use Rattle.std.specs.FinMap as map;
 ghost use Rattle.std.specs.List.{IsDistinct};
 ghost use Rattle.pixel_core.specs.Rgba.{Rgba, clear};
 ghost use Rattle.geom_core.specs.Areas.{holds, world, Point, point};
-ghost use Rattle.geom_core.specs.Grid.{IsWorldKey};
+ghost use Rattle.geom_core.specs.Keys.{IsWorldKey};
 ghost use Rattle.tile_core.specs.Pixels.{pixel_at};
 ghost use Rattle.doc_model.specs.Layers.{at, plain};
 ghost use Rattle.doc_model.specs.Shots.{in_tile};

@@ -2,8 +2,9 @@
 
 ghost use Rattle.std.specs.Prelude.{◌≡◌, IfOk, OnOk, OnErr};
 ghost use Rattle.pixel_core.specs.Rgba.{clear};
-ghost use Rattle.geom_core.specs.Overlaps.{IsWithin};
-ghost use Rattle.geom_core.specs.Grid.{IsWorldKey, tile as tile_area};
+ghost use Rattle.geom_core.specs.Rects.{IsWithin};
+ghost use Rattle.geom_core.specs.Grid.{tile as tile_area};
+ghost use Rattle.geom_core.specs.Keys.{IsWorldKey};
 ghost use Rattle.group_caches.specs.Laying.{StandsFor, HasNone, LaysPoints, LaysGiven, LaysWhole};
 
 use compose_core::{Given, Spot};

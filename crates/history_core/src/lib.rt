@@ -36,7 +36,7 @@ impl<R> Model for UndoStack<R> {
 impl<R: Drop> UndoStack<R> {
     ghost use Rattle.history_core.specs.Lends.{LendsUndone, LendsRedone};
 
-    /// Nothing to undo, nothing to redo, and no room.
+    /// Nothing to undo and nothing to redo.
     pub fn new(alloc: Global) -> UndoStack<R>
         ensures past { result.past ≡ [] }
         ensures future { result.future ≡ [] }

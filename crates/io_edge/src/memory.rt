@@ -1,6 +1,6 @@
 //! Sources and sinks over bytes in memory, which fail when they are told to.
 
-ghost use Rattle.std.specs.Prelude.{◌≡◌, ◌<◌, ◌≤◌, ◌==◌, ◌||◌, [], Some, length, min, is_err, IfOk, OnOk, OnErr};
+ghost use Rattle.std.specs.Prelude.{◌≡◌, ◌<◌, ◌≤◌, ◌+◌, ◌==◌, ◌||◌, [], Some, length, min, is_err, IfOk, OnOk, OnErr};
 ghost use Rattle.std.specs.Io.{ReadsAtMost};
 ghost use Rattle.std.specs.Io.KnownBytes.{ReadConsumes, WriteAppends};
 ghost use Rattle.io_edge.specs.Faults.{HasCause};
@@ -73,6 +73,8 @@ impl Source for MemSource {
     /// It fails just at the calls that are to fail, and counts these.
     fn read(&mut self, buf: &mut [u8]) -> Result<usize, Failed>
         requires { 0 < length buf.old }
+
+        // As of every source.
         ensures bound { ReadsAtMost result buf.new }
         ensures bytes { ReadConsumes (Some self.old.left) (Some self.new.left) result buf.new }
         ensures cause { HasCause self.old.faults self.new.faults result }
@@ -80,9 +82,13 @@ impl Source for MemSource {
         // Which calls fail, and how much the others pass.
         ensures fails { is_err result ≡ fails_at self.old.failing (one_more self.old.calls) }
         ensures passed { IfOk result (λ n. n ≡ min (min (length buf.old) self.old.most) (length self.old.left)) }
+
+        // What is counted.
         ensures counted { self.new.calls ≡ one_more self.old.calls }
         ensures one_fault { OnErr result (self.new.faults ≡ one_more self.old.faults) }
         ensures no_fault { OnOk result (self.new.faults ≡ self.old.faults) }
+
+        // What stays.
         ensures same_most { self.new.most ≡ self.old.most }
         ensures same_failing { self.new.failing ≡ self.old.failing }
     {
@@ -163,6 +169,8 @@ impl Sink for MemSink {
     /// It fails just at the calls that are to fail and where the room is full, and counts these.
     fn write(&mut self, piece: &[u8]) -> Result<usize, Failed>
         requires { 0 < length piece.now }
+
+        // As of every sink.
         ensures some { IfOk result (λ n. 0 < n) }
         ensures bound { IfOk result (λ n. n ≤ length piece.now) }
         ensures bytes { WriteAppends (Some self.old.taken) (Some self.new.taken) result piece.now }
@@ -171,12 +179,20 @@ impl Sink for MemSink {
         // Which calls fail, and how much the others take.
         ensures fails { is_err result ≡ ((self.old.free == 0) || fails_at self.old.failing (one_more self.old.calls)) }
         ensures passed { IfOk result (λ n. n ≡ min (min (length piece.now) self.old.most) self.old.free) }
+
+        // What is left of the room.
+        ensures room { IfOk result (λ n. self.new.free + n ≡ self.old.free) }
+        ensures same_room { OnErr result (self.new.free ≡ self.old.free) }
+
+        // What is counted.
         ensures counted { self.new.calls ≡ one_more self.old.calls }
         ensures one_fault { OnErr result (self.new.faults ≡ one_more self.old.faults) }
         ensures no_fault { OnOk result (self.new.faults ≡ self.old.faults) }
-        ensures same_most { self.new.most ≡ self.old.most }
         ensures full { self.old.free ≡ 0 → self.new.full_writes ≡ one_more self.old.full_writes }
         ensures not_full { 0 < self.old.free → self.new.full_writes ≡ self.old.full_writes }
+
+        // What stays.
+        ensures same_most { self.new.most ≡ self.old.most }
         ensures same_failing { self.new.failing ≡ self.old.failing }
     {
         self.calls = self.calls.saturating_add(1);

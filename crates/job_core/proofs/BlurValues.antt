@@ -5,8 +5,9 @@ use Rattle.std.specs.List.{list_any}
 use borrow.Author.Differences.{ints}
 use Rattle.std.proofs.lemmas.Bool.Decides.{nat_tests}
 use Rattle.pixel_core.specs.Rgba.{Rgba, clear}
-use Rattle.geom_core.specs.Areas.{Area, holds, right, bottom, lies_in, points_of, world, Point, same_point}
-use Rattle.geom_core.specs.Overlaps.{place_in, IsWithin, IsShared}
+use Rattle.geom_core.specs.Areas.{Area, holds, right, bottom, lies_in, points_of, world, Point}
+use Rattle.geom_core.specs.Same.{same_point}
+use Rattle.geom_core.specs.Rects.{place_in, IsWithin, IsShared}
 use Rattle.geom_core.specs.Grid.{Key, tile}
 use Rattle.geom_core.proofs.Members.{any-points_of}
 use Rattle.geom_core.proofs.Tests.{and_left, and_right, both_true, or_left, or_right}

@@ -4,7 +4,8 @@ use Rattle.std.specs.Prelude.{ℤ, pos, ◌+ℤ◌, nat_le, nat_lt, if◌then◌
 use borrow.Author.Differences.{ints}
 use borrow.Rule.Slice.PartMut.{put_mid}
 use Rattle.std.proofs.lemmas.Bool.Decides.{nat_tests}
-use Rattle.pixel_core.specs.Rgba.{Rgba, clear, IsCanonical}
+use Rattle.pixel_core.specs.Rgba.{Rgba, clear}
+use Rattle.pixel_core.specs.Canonical.{IsCanonical}
 use Rattle.pixel_core.specs.Compose.{compose, mul}
 use Rattle.pixel_core.proofs.Rounding.{laws_of_mul}
 use Rattle.pixel_core.proofs.ComposeLaws.{unseen_leaves}

@@ -5,7 +5,7 @@ use borrow.Author.Differences.{ints}
 use Rattle.pixel_core.specs.Rgba.{Rgba, clear}
 use Rattle.pixel_core.specs.Compose.{compose}
 use Rattle.geom_core.specs.Areas.{Area, right, lies_in, world}
-use Rattle.geom_core.specs.Overlaps.{place_in, IsWithin, IsShared}
+use Rattle.geom_core.specs.Rects.{place_in, IsWithin, IsShared}
 use Rattle.geom_core.specs.Grid.{Key, tile}
 use Rattle.geom_core.proofs.Tests.{and_left, and_right, taken}
 use Rattle.tile_core.specs.Blocks.{Piece}

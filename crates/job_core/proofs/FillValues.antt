@@ -4,7 +4,7 @@ use Rattle.pixel_core.specs.Rgba.{Rgba}
 use Rattle.pixel_core.specs.Compose.{compose}
 use Rattle.pixel_rows.specs.Rows.{LaysRow}
 use Rattle.geom_core.specs.Areas.{Area, Point}
-use Rattle.geom_core.specs.Overlaps.{place_in, IsShared}
+use Rattle.geom_core.specs.Rects.{place_in, IsShared}
 use Rattle.geom_core.specs.Grid.{Key, tile}
 use Rattle.geom_core.proofs.Tests.{and_left}
 use Rattle.tile_core.specs.Blocks.{Piece}

@@ -7,9 +7,10 @@ use Rattle.pixel_core.specs.Compose.{compose}
 use Rattle.std.proofs.lemmas.List.{get_or-replicate}
 use Rattle.geom_core.specs.Place.{across, down}
 use Rattle.geom_core.specs.Areas.{Area, holds, world, Point}
-use Rattle.geom_core.specs.Overlaps.{any_holds, IsWithin, IsShared}
+use Rattle.geom_core.specs.Rects.{any_holds, IsWithin, IsShared}
 use Rattle.geom_core.proofs.Tests.{and_left, and_right, both_true, or_left, taken}
-use Rattle.geom_core.specs.Grid.{Key, tile, IsWorldKey}
+use Rattle.geom_core.specs.Grid.{Key, tile}
+use Rattle.geom_core.specs.Keys.{IsWorldKey}
 use Rattle.geom_core.proofs.Spots.{TileSpot, tile_spot}
 use Rattle.tile_core.specs.declared.rows.Part.{Part}
 use Rattle.tile_core.specs.Pixels.{Pixels, pixel_of, pixel_at}

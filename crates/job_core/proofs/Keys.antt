@@ -5,7 +5,8 @@ use Rattle.std.specs.List.{list_any, AllByRecursion}
 use Rattle.std.proofs.lemmas.List.Folds.{list_any-append}
 use borrow.Author.Differences.{ints}
 use Rattle.geom_core.specs.Areas.{Area, right, bottom, lies_in, meets, world}
-use Rattle.geom_core.specs.Grid.{Key, same_key, tile, keys_of, all_keys_of, IsWorldKey}
+use Rattle.geom_core.specs.Grid.{Key, same_key, tile, keys_of, all_keys_of}
+use Rattle.geom_core.specs.Keys.{IsWorldKey}
 use Rattle.geom_core.proofs.Tests.{and_left, and_right, both_true, or_cases}
 use Rattle.tile_core.specs.Shots.{Sight}
 use Rattle.doc_model.specs.declared.job.Job.{Job}

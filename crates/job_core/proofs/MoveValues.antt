@@ -8,7 +8,8 @@ use Rattle.std.proofs.lemmas.List.Folds.{list_any-append}
 use Rattle.std.proofs.lemmas.List.Elements.{All-from_recursion}
 use Rattle.pixel_core.specs.Rgba.{Rgba, clear}
 use Rattle.geom_core.specs.Areas.{Area, holds, right, bottom, lies_in, meets, moved, world, Point, point}
-use Rattle.geom_core.specs.Overlaps.{any_holds, place_in, clipped, common, IsWithin, IsShared}
+use Rattle.geom_core.specs.Overlaps.{clipped, common}
+use Rattle.geom_core.specs.Rects.{any_holds, place_in, IsWithin, IsShared}
 use Rattle.geom_core.specs.Grid.{Key, same_key, tile, keys_of}
 use Rattle.geom_core.proofs.Tests.{and_left, and_right, both_true, or_left, or_right, or_cases, taken}
 use Rattle.tile_core.specs.Blocks.{Piece}

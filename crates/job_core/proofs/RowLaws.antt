@@ -6,7 +6,7 @@ use Rattle.std.proofs.lemmas.Bool.Decides.{nat_tests}
 use Rattle.std.proofs.lemmas.List.{get_or-take, get_or-drop}
 use Rattle.pixel_core.specs.Rgba.{Rgba, clear}
 use Rattle.geom_core.specs.Areas.{Area, holds}
-use Rattle.geom_core.specs.Overlaps.{IsWithin}
+use Rattle.geom_core.specs.Rects.{IsWithin}
 use Rattle.geom_core.specs.Place.{IsOffset}
 use Rattle.geom_core.proofs.Tests.{and_left, and_right}
 use Rattle.tile_core.specs.Parts.{in_part}

@@ -8,13 +8,14 @@ use Rattle.pixel_core.specs.Rgba.{Rgba, clear}
 use Rattle.pixel_core.specs.Compose.{mul, compose}
 use Rattle.brush_mask.specs.Mask.{mask}
 use Rattle.geom_core.specs.Areas.{Point, Area, holds, lies_in, meets, world}
-use Rattle.geom_core.specs.Overlaps.{any_holds, place_in, IsWithin, IsShared}
+use Rattle.geom_core.specs.Rects.{any_holds, place_in, IsWithin, IsShared}
 use Rattle.geom_core.specs.Place.{across, down}
 use Rattle.geom_core.proofs.Spots.{TileSpot, tile_spot}
 use Rattle.tile_core.proofs.LaidBlocks.{rest_of}
 use Rattle.tile_core.specs.Blocks.{Piece, piece}
 use Rattle.tile_core.specs.Shots.{Sight, sight_at}
-use Rattle.geom_core.specs.Grid.{Key, key, same_key, tile, all_keys_of, keys_of, IsWorldKey}
+use Rattle.geom_core.specs.Grid.{Key, key, same_key, tile, all_keys_of, keys_of}
+use Rattle.geom_core.specs.Keys.{IsWorldKey}
 use Rattle.geom_core.proofs.Axes.{tiles_met}
 use Rattle.geom_core.proofs.Tests.{true_or_false, and_left, and_right, both_true, taken, kept}
 use Rattle.tile_core.specs.Pixels.{Pixels, pixel_at, HasPixels}

@@ -8,8 +8,9 @@ use Rattle.std.proofs.lemmas.Bool.Decides.{nat_tests}
 use Rattle.std.proofs.lemmas.List.Elements.{All-from_recursion}
 use Rattle.pixel_core.specs.Rgba.{Rgba, clear}
 use Rattle.geom_core.specs.Areas.{Area, holds, lies_in, meets, world, Point}
-use Rattle.geom_core.specs.Overlaps.{any_holds, place_in, IsShared}
-use Rattle.geom_core.specs.Grid.{Key, key_of, same_key, tile, keys_of, all_keys_of, IsWorldKey}
+use Rattle.geom_core.specs.Rects.{any_holds, place_in, IsShared}
+use Rattle.geom_core.specs.Grid.{Key, key_of, same_key, tile, keys_of, all_keys_of}
+use Rattle.geom_core.specs.Keys.{IsWorldKey}
 use Rattle.geom_core.proofs.Tests.{and_left, and_right, both_true, or_left, or_right, or_cases, taken}
 use Rattle.geom_core.proofs.Bounds.{lies_held}
 use Rattle.geom_core.proofs.Axes.{tiles_met}

@@ -2,7 +2,7 @@
 use Rattle.std.specs.Prelude.{◌≡◌, ℕ, ◌+◌, ◌-◌, ◌*◌, ◌<◌, true, if◌then◌else◌, List, slice_index_or}
 use Rattle.pixel_core.specs.Rgba.{Rgba, clear}
 use Rattle.geom_core.specs.Areas.{Area, holds, Point}
-use Rattle.geom_core.specs.Overlaps.{place_in}
+use Rattle.geom_core.specs.Rects.{place_in}
 use Rattle.tile_core.specs.Parts.{in_part}
 use Rattle.tile_core.specs.Pixels.{Pixels}
 use Rattle.pixel_core.specs.Compose.{compose}

@@ -3,7 +3,8 @@ use Rattle.std.specs.Prelude.{◌≡◌, ◌≤◌, ◌&&◌, Bool, true, false,
 use Rattle.std.specs.List.{list_any, list_all, take_while}
 use Rattle.std.specs.Coded.{Coded, code_by, coded×, coded_list}
 use Rattle.geom_core.specs.Areas.{Area, lies_in, Point}
-use Rattle.geom_core.specs.Grid.{Key, key_code, same_key, all_keys_of, tile, IsWorldKey}
+use Rattle.geom_core.specs.Grid.{Key, same_key, all_keys_of, tile}
+use Rattle.geom_core.specs.Keys.{key_code, IsWorldKey}
 use Rattle.tile_core.specs.Pixels.{Pixels, pixel_at}
 use Rattle.doc_model.specs.contracts.job.Job as job
 use Rattle.doc_model.specs.contracts.job.Kind as kind

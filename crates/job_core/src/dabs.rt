@@ -3,8 +3,9 @@
 ghost use Rattle.std.specs.Prelude.{◌≡◌, [], ◌∷◌, ◌+◌, ◌-◌, ◌*◌, ◌≤◌, ◌<◌, ◌≤ℤ◌, ◌+ℤ◌, ◌-ℤ◌, ℕ, negsuc, pos, true, IfOk, vec_len, length, min};
 ghost use Rattle.std.specs.Int.{next_multiple_of};
 ghost use Rattle.geom_core.specs.Areas.{lies_in, world};
-ghost use Rattle.geom_core.specs.Overlaps.{IsWithin};
-ghost use Rattle.geom_core.specs.Grid.{IsWorldKey, tile};
+ghost use Rattle.geom_core.specs.Rects.{IsWithin};
+ghost use Rattle.geom_core.specs.Grid.{tile};
+ghost use Rattle.geom_core.specs.Keys.{IsWorldKey};
 ghost use Rattle.tile_core.specs.Pixels.{HasPixels};
 ghost use Rattle.job_core.specs.Tasks.{dab_of};
 ghost use Rattle.doc_model.specs.Jobs.{square as square_of};

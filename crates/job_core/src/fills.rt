@@ -1,8 +1,9 @@
 //! Fills.
 
 ghost use Rattle.std.specs.Prelude.{◌≡◌, [], ◌∷◌, ◌*◌, ◌+◌, ◌≤◌, true, IfOk, vec_len, length};
-ghost use Rattle.geom_core.specs.Overlaps.{IsWithin};
-ghost use Rattle.geom_core.specs.Grid.{IsWorldKey, tile};
+ghost use Rattle.geom_core.specs.Rects.{IsWithin};
+ghost use Rattle.geom_core.specs.Grid.{tile};
+ghost use Rattle.geom_core.specs.Keys.{IsWorldKey};
 ghost use Rattle.pixel_core.specs.Compose.{compose};
 ghost use Rattle.tile_core.specs.Pixels.{HasPixels};
 ghost use Rattle.tile_core.specs.Shots.{sight_at};

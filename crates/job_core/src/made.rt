@@ -1,6 +1,6 @@
 //! Blocks on their own, without the shot that they were painted on.
 
-ghost use Rattle.std.specs.Prelude.{◌≡◌, length, ◌<◌, Some, slice_get};
+ghost use Rattle.std.specs.Prelude.{◌≡◌, length, ◌<◌, ◌≤◌, Some, slice_get};
 ghost use Rattle.job_core.specs.Paints.{IsMade, is_whole};
 
 use geom_core::TileKey;
@@ -40,7 +40,9 @@ impl Made {
 
     /// How many blocks there are: one or two.
     pub fn block_count(&self) -> usize
-        ensures { result ≡ length self.now.blocks }
+        ensures value { result ≡ length self.now.blocks }
+        ensures some { 1 ≤ result }
+        ensures few { result ≤ 2 }
     {
         match self.second {
             None => 1,

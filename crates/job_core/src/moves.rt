@@ -2,8 +2,9 @@
 
 ghost use Rattle.std.specs.Prelude.{◌≡◌, ◌∷◌, ◌*◌, true, pos, ◌-ℤ◌, IfOk, IfSome, IfNone, vec_len, length, replicate, option_to_list};
 ghost use Rattle.geom_core.specs.Areas.{holds, lies_in, moved as moved_area, world, Point};
-ghost use Rattle.geom_core.specs.Overlaps.{IsWithin, IsShared};
-ghost use Rattle.geom_core.specs.Grid.{IsWorldKey, tile};
+ghost use Rattle.geom_core.specs.Rects.{IsWithin, IsShared};
+ghost use Rattle.geom_core.specs.Grid.{tile};
+ghost use Rattle.geom_core.specs.Keys.{IsWorldKey};
 ghost use Rattle.tile_core.specs.Pixels.{HasPixels};
 ghost use Rattle.doc_model.specs.declared.job.Job.TheVariants.{Move};
 ghost use Rattle.job_core.specs.Paints.{paint, IsPainted};

@@ -1,6 +1,6 @@
 //! What a job leaves in one tile.
 
-ghost use Rattle.std.specs.Prelude.{◌≡◌, true, IfOk, IfSome, IfNone, slice_get, length, ◌<◌, Some, ◌∷◌, option_to_list, vec_len};
+ghost use Rattle.std.specs.Prelude.{◌≡◌, true, IfOk, IfSome, IfNone, slice_get, length, ◌<◌, ◌≤◌, Some, ◌∷◌, option_to_list, vec_len};
 ghost use Rattle.std.specs.List.{list_any, list_all};
 ghost use Rattle.geom_core.specs.Grid.{same_key, all_keys_of};
 ghost use Rattle.geom_core.specs.Areas.{lies_in};
@@ -70,7 +70,9 @@ impl<'a> Painted<'a> {
 
     /// How many blocks there are: one or two.
     pub fn block_count(&self) -> usize
-        ensures { result ≡ length self.now.blocks }
+        ensures value { result ≡ length self.now.blocks }
+        ensures some { 1 ≤ result }
+        ensures few { result ≤ 2 }
     {
         self.made.block_count()
     }

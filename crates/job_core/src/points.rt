@@ -4,8 +4,9 @@ ghost use Rattle.std.specs.Prelude.{◌≡◌, ◌≤◌, ◌∷◌, ◌&&◌, [
 ghost use Rattle.std.specs.List.{list_any, list_all, take_while};
 ghost use Rattle.pixel_core.specs.Rgba.{Rgba};
 ghost use Rattle.geom_core.specs.Areas.{Area, holds, lies_in, meets, Point};
-ghost use Rattle.geom_core.specs.Overlaps.{IsInWorld};
-ghost use Rattle.geom_core.specs.Grid.{IsWorldKey, keys_of, same_key, all_keys_of, tile};
+ghost use Rattle.geom_core.specs.Rects.{IsInWorld};
+ghost use Rattle.geom_core.specs.Grid.{keys_of, same_key, all_keys_of, tile};
+ghost use Rattle.geom_core.specs.Keys.{IsWorldKey};
 ghost use Rattle.tile_core.specs.Pixels.{Pixels};
 ghost use Rattle.doc_model.specs.Shots.{in_tile};
 ghost use Rattle.doc_model.specs.Lawful.{within_limits};

@@ -1,7 +1,7 @@
 //! Rows of pixels laid over others.
 
 ghost use Rattle.std.specs.Prelude.{◌≡◌, ◌+◌, ◌*◌, ◌≤◌, ◌<◌, ◌^◌, ◌++◌, take, drop, length};
-ghost use Rattle.geom_core.specs.Overlaps.{IsWithin};
+ghost use Rattle.geom_core.specs.Rects.{IsWithin};
 ghost use Rattle.job_core.specs.Laid.{LaysRows, LaysOver};
 
 use geom_core::Rect;

@@ -5,7 +5,7 @@ ghost use Rattle.job_core.specs.Due.{IsDue};
 ghost use Rattle.job_core.specs.Paints.{paint, IsPainted};
 ghost use Rattle.std.specs.List.{list_all};
 ghost use Rattle.geom_core.specs.Areas.{point, lies_in, world};
-ghost use Rattle.geom_core.specs.Grid.{IsWorldKey};
+ghost use Rattle.geom_core.specs.Keys.{IsWorldKey};
 ghost use Rattle.doc_model.specs.Trails.{on_segment};
 ghost use Rattle.doc_model.specs.Tracks.{point_of};
 ghost use Rattle.doc_model.specs.Jobs.{square as square_of, squares};

@@ -9,11 +9,12 @@ use Rattle.tile_core.specs.Frames.{Scene, put_at}
 use Rattle.doc_model.specs.declared.canvas.Canvas.{Canvas}
 use Rattle.doc_model.specs.declared.command.Outcome.{Outcome}
 use Rattle.doc_model.specs.Meaning.{Story, meaning}
-use Rattle.doc_model.specs.Picture.{Doc, Frame, picture, frame, canvas_area}
+use Rattle.doc_model.specs.Picture.{Frame, picture, frame, canvas_area}
 use Rattle.doc_model.specs.Strokes.{entries}
 use Rattle.ppm_out.specs.Scenes.{colours_of}
 use Rattle.ppm_out.specs.Sides.{HasSides}
-use Rattle.machine_model.specs.State.{State, story}
+use Rattle.machine_model.specs.State.{State}
+use Rattle.machine_model.specs.Settled.{story}
 use Rattle.machine_model.specs.MeaningLaws.{HasMeaning}
 use Rattle.machine_model.proofs.CanvasPoints.{same_list}
 use Rattle.desk_parts.specs.Cached.{ShowsCache}

@@ -10,13 +10,17 @@ ghost use Rattle.live_run.specs.Showing.{ShowsTiles, ShowsRoot};
 
 use desk_core::Desk;
 use geom_core::{NoMemory, TileKey};
-use live_view::LiveWriter;
+use live_view::{LiveWriter, Naming};
 use std::alloc::Global;
 use tile_core::{Frame, Tile};
 
 /// The frame that new readers see of a desk whose root is published, on the canvas's paper. Where no place was
 /// free for a reader or a look was refused, the tile is the desk's own. Tiles are shared.
-pub fn live_frame(alloc: Global, live: &mut LiveWriter, desk: &Desk) -> Result<Frame, NoMemory>
+pub fn live_frame<K: Naming>(
+    alloc: Global,
+    live: &mut LiveWriter<K>,
+    desk: &Desk,
+) -> Result<Frame, NoMemory>
     requires limits { IsOfLimits desk.now.canvas }
     requires none { pending live.old ≡ [] }
     requires root { ShowsRoot (updates_of (published live.old)) desk.now }
@@ -33,8 +37,8 @@ pub fn live_frame(alloc: Global, live: &mut LiveWriter, desk: &Desk) -> Result<F
 }
 
 /// Puts the tile that a new reader sees into the frame, if there is one.
-fn put_seen(
-    live: &mut LiveWriter,
+fn put_seen<K: Naming>(
+    live: &mut LiveWriter<K>,
     desk: &Desk,
     key: TileKey,
     frame: &mut Frame,
@@ -65,7 +69,7 @@ fn put_own(desk: &Desk, key: TileKey, frame: &mut Frame) -> Result<(), NoMemory>
 }
 
 /// The tile, or none, that a new reader sees under a key, where it sees just what is published by now.
-fn seen(live: &mut LiveWriter, key: TileKey) -> Option<Option<Tile>>
+fn seen<K: Naming>(live: &mut LiveWriter<K>, key: TileKey) -> Option<Option<Tile>>
     requires key { IsOnCanvas key }
     requires none { pending live.old ≡ [] }
     ensures tile { IfSome result (λ tile. tile ≡ shown (updates_of (published live.old)) key) }

@@ -3,8 +3,8 @@
 ghost use Rattle.std.specs.Prelude.{◌≡◌, ◌≤◌, ◌-◌, ◌^◌, [], length, replicate, IfOk, OnOk};
 ghost use Rattle.pixel_core.specs.Rgba.{clear};
 ghost use Rattle.doc_model.specs.Canvases.{IsOfLimits};
-ghost use Rattle.machine_model.specs.State.{IsSettled};
-ghost use Rattle.live_view.specs.Shown.{updates_of};
+ghost use Rattle.machine_model.specs.Settled.{IsSettled};
+ghost use Rattle.live_view.specs.Shown.{updates_of, StartsWith};
 ghost use Rattle.live_view.specs.Views.{published, pending};
 ghost use Rattle.live_run.specs.Showing.{ShowsRoot, ShowsPicture};
 
@@ -13,7 +13,7 @@ use crew_run::run_watched;
 use desk_core::{Desk, settled_shows_picture};
 use geom_core::NoMemory;
 use io_edge::Gate;
-use live_view::LiveWriter;
+use live_view::{LiveWriter, Naming};
 use script_text::Script;
 use std::alloc::Global;
 use std::sync::Wait;
@@ -22,24 +22,26 @@ use tile_core::Tile;
 
 /// Paints a script by so many workers and the caller. Whenever a walk was composed, the root's tiles that it
 /// met are published, so whoever has a reader of this writer sees them come; at the end all tiles of the
-/// canvas are. What is promised holds if it returns.
+/// canvas are. The writer that comes back is the one that was given, and what it had published is still the
+/// beginning. What is promised holds if it returns.
 ///
 /// # Errors
 /// `NoMemory`; the writer is closed.
-pub fn run_live<R: Threads + Wait + Sync, G: Gate>(
+pub fn run_live<K: Naming + Send + Sync, R: Threads + Wait + Sync, G: Gate>(
     rt: &R,
     alloc: Global,
     script: &Script,
     workers: u8,
     gate: &G,
-    live: LiveWriter,
-) -> Result<(Desk, LiveWriter), NoMemory>
+    live: LiveWriter<K>,
+) -> Result<(Desk, LiveWriter<K>), NoMemory>
     requires workers { workers ≤ 16 }
     requires few { length script.now.commands ≤ 2 ^ 32 - 1 }
     ensures settled { IfOk result (λ r. IsSettled r.0) }
     ensures canvas { IfOk result (λ r. r.0.canvas ≡ script.now.canvas) }
     ensures fed { IfOk result (λ r. r.0.fed ≡ script.now.commands) }
     ensures pending { IfOk result (λ r. pending r.1 ≡ []) }
+    ensures goes_on { IfOk result (λ r. StartsWith (published r.1) (published live)) }
     ensures root { IfOk result (λ r. ShowsRoot (updates_of (published r.1)) r.0) }
     ensures picture { IfOk result (λ r. ShowsPicture (updates_of (published r.1)) r.0) }
 {
@@ -56,14 +58,14 @@ pub fn run_live<R: Threads + Wait + Sync, G: Gate>(
 /// The same as `run_live`, with a writer that is lent.
 ///
 /// # Errors
-/// `NoMemory`; the writer may have published some of it.
-pub fn paint_live<R: Threads + Wait + Sync, G: Gate>(
+/// `NoMemory`; the writer may have published some of it, and some may be pending.
+pub fn paint_live<K: Naming + Send + Sync, R: Threads + Wait + Sync, G: Gate>(
     rt: &R,
     alloc: Global,
     script: &Script,
     workers: u8,
     gate: &G,
-    live: &mut LiveWriter,
+    live: &mut LiveWriter<K>,
 ) -> Result<Desk, NoMemory>
     requires workers { workers ≤ 16 }
     requires few { length script.now.commands ≤ 2 ^ 32 - 1 }
@@ -71,25 +73,30 @@ pub fn paint_live<R: Threads + Wait + Sync, G: Gate>(
     ensures canvas { IfOk result (λ d. d.canvas ≡ script.now.canvas) }
     ensures fed { IfOk result (λ d. d.fed ≡ script.now.commands) }
     ensures pending { OnOk result (pending live.new ≡ []) }
+    ensures goes_on { OnOk result (StartsWith (published live.new) (published live.old)) }
     ensures root { IfOk result (λ d. ShowsRoot (updates_of (published live.new)) d) }
     ensures picture { IfOk result (λ d. ShowsPicture (updates_of (published live.new)) d) }
 {
+    let begun = live.tell();
     let blank = Tile::clear(alloc)?;
     let desk = paint_watched(rt, alloc, script, workers, gate, live, &blank)?;
     let _commands = script.commands();
     show_root(rt, live, &blank, &desk)?;
+    if !live.has(&begun) {
+        return Err(NoMemory);
+    }
     settled_shows_picture(&desk);
     Ok(desk)
 }
 
 /// Paints the script, and shows what the crew composes.
-fn paint_watched<R: Threads + Wait + Sync, G: Gate>(
+fn paint_watched<K: Naming + Send + Sync, R: Threads + Wait + Sync, G: Gate>(
     rt: &R,
     alloc: Global,
     script: &Script,
     workers: u8,
     gate: &G,
-    live: &mut LiveWriter,
+    live: &mut LiveWriter<K>,
     blank: &Tile,
 ) -> Result<Desk, NoMemory>
     requires workers { workers ≤ 16 }
@@ -104,15 +111,15 @@ fn paint_watched<R: Threads + Wait + Sync, G: Gate>(
 }
 
 /// Publishes each tile of the canvas as the root's cache has it.
-fn show_root<R: Wait>(
+fn show_root<K: Naming, R: Wait>(
     rt: &R,
-    live: &mut LiveWriter,
+    live: &mut LiveWriter<K>,
     blank: &Tile,
     desk: &Desk,
 ) -> Result<(), NoMemory>
     requires limits { IsOfLimits desk.now.canvas }
     requires blank { blank.now ≡ replicate 4096 clear }
-    ensures pending { pending live.new ≡ [] }
+    ensures pending { OnOk result (pending live.new ≡ []) }
     ensures root { OnOk result (ShowsRoot (updates_of (published live.new)) desk.now) }
 {
     show(rt, live, blank, desk, &desk.canvas().rect())

@@ -10,7 +10,7 @@ ghost use Rattle.live_run.specs.Showing.{PutsRoot, ShowsTiles};
 use crew_run::Watching;
 use desk_core::Desk;
 use geom_core::{NoMemory, Rect, TileKey};
-use live_view::LiveWriter;
+use live_view::{LiveWriter, Naming};
 use std::sync::{Mutex, Wait};
 use tile_core::Tile;
 
@@ -20,28 +20,34 @@ const MOST: u64 = 1 << 63;
 /// Publishes each tile of the rectangle as the root's cache has it, and a blank one where it has none.
 ///
 /// # Errors
-/// `NoMemory`, also where the writer takes no more; only some of the tiles are published then.
-pub(crate) fn show<R: Wait>(
+/// `NoMemory`, also where the writer takes no more; only some of the tiles are put then, and these may be pending.
+pub(crate) fn show<K: Naming, R: Wait>(
     rt: &R,
-    live: &mut LiveWriter,
+    live: &mut LiveWriter<K>,
     blank: &Tile,
     desk: &Desk,
     rect: &Rect,
 ) -> Result<(), NoMemory>
     requires { blank.now ≡ replicate 4096 clear }
-    ensures pending { pending live.new ≡ [] }
+    ensures pending { OnOk result (pending live.new ≡ []) }
     ensures shows { OnOk result (ShowsTiles (updates_of (published live.new)) desk.now (keys_of rect.now)) }
 {
-    let put = put_root(live, blank, desk, rect);
-    live.publish(rt);
-    put
+    put_root(rt, live, blank, desk, rect)?;
+    live.publish(rt)
 }
 
-/// Puts each tile of the rectangle as the root's cache has it.
-fn put_root(live: &mut LiveWriter, blank: &Tile, desk: &Desk, rect: &Rect) -> Result<(), NoMemory>
+/// Puts each tile of the rectangle as the root's cache has it, once what an earlier call left is published.
+fn put_root<K: Naming, R: Wait>(
+    rt: &R,
+    live: &mut LiveWriter<K>,
+    blank: &Tile,
+    desk: &Desk,
+    rect: &Rect,
+) -> Result<(), NoMemory>
     requires { blank.now ≡ replicate 4096 clear }
     ensures { OnOk result (ShowsTiles (all_updates live.new) desk.now (keys_of rect.now)) }
 {
+    live.publish(rt)?;
     for i in 0..rect.tile_count() {
         put_tile(live, blank, desk, rect.tile_at(i))?;
     }
@@ -49,7 +55,12 @@ fn put_root(live: &mut LiveWriter, blank: &Tile, desk: &Desk, rect: &Rect) -> Re
 }
 
 /// Puts a tile as the root's cache has it.
-fn put_tile(live: &mut LiveWriter, blank: &Tile, desk: &Desk, key: TileKey) -> Result<(), NoMemory>
+fn put_tile<K: Naming>(
+    live: &mut LiveWriter<K>,
+    blank: &Tile,
+    desk: &Desk,
+    key: TileKey,
+) -> Result<(), NoMemory>
     requires { blank.now ≡ replicate 4096 clear }
     ensures { OnOk result (PutsRoot (all_updates live.old) (all_updates live.new) desk.now key) }
 {
@@ -64,12 +75,12 @@ fn put_tile(live: &mut LiveWriter, blank: &Tile, desk: &Desk, key: TileKey) -> R
 
 /// The writer, as long as a crew paints.
 #[derive(Drop)]
-struct Held<'w> {
-    writer: &'w mut LiveWriter,
+struct Held<'w, K: Naming> {
+    writer: &'w mut LiveWriter<K>,
 }
 
-impl<'w> Held<'w> {
-    /// Publishes the tiles of the rectangle. One that can't be put now is put once the crew is done.
+impl<'w, K: Naming> Held<'w, K> {
+    /// Publishes the tiles of the rectangle. One that can't be shown now is shown once the crew is done.
     fn show<R: Wait>(&mut self, rt: &R, blank: &Tile, desk: &Desk, rect: &Rect)
         requires { blank.now ≡ replicate 4096 clear }
     {
@@ -80,15 +91,15 @@ impl<'w> Held<'w> {
 /// Shows what a crew composes. The writer has a lock of its own, which only the thread takes that has the
 /// desk's.
 #[derive(Drop)]
-pub(crate) struct Screen<'w, 'b> {
-    held: Mutex<Held<'w>>,
+pub(crate) struct Screen<'w, 'b, K: Naming> {
+    held: Mutex<Held<'w, K>>,
     blank: &'b Tile,
     ghost is_blank: { blank.now ≡ replicate 4096 clear },
 }
 
-impl<'w, 'b> Screen<'w, 'b> {
+impl<'w, 'b, K: Naming> Screen<'w, 'b, K> {
     /// A screen over that writer.
-    pub(crate) fn new(writer: &'w mut LiveWriter, blank: &'b Tile) -> Screen<'w, 'b>
+    pub(crate) fn new(writer: &'w mut LiveWriter<K>, blank: &'b Tile) -> Screen<'w, 'b, K>
         requires { blank.now ≡ replicate 4096 clear }
     {
         Screen {
@@ -98,7 +109,7 @@ impl<'w, 'b> Screen<'w, 'b> {
     }
 }
 
-impl<'w, 'b> Watching for Screen<'w, 'b> {
+impl<'w, 'b, K: Naming + Send + Sync> Watching for Screen<'w, 'b, K> {
     fn composed<R: Wait>(&self, rt: &R, desk: &Desk, rect: &Rect) {
         self.held.lock(rt).show(rt, self.blank, desk, rect);
     }

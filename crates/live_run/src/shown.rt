@@ -2,7 +2,7 @@
 
 ghost use Rattle.std.specs.Prelude.{◌≡◌, ◌≤◌, ◌-◌, ◌^◌, [], length, IfOk};
 ghost use Rattle.doc_model.specs.Canvases.{IsOfLimits};
-ghost use Rattle.machine_model.specs.State.{IsSettled};
+ghost use Rattle.machine_model.specs.Settled.{IsSettled};
 ghost use Rattle.desk_parts.specs.Cached.{ShowsCache};
 ghost use Rattle.live_view.specs.Shown.{updates_of};
 ghost use Rattle.live_view.specs.Views.{published, pending};
@@ -15,9 +15,10 @@ use crew_run::Shown;
 use desk_core::{Desk, settled_has_meaning, settled_shows_picture};
 use geom_core::NoMemory;
 use io_edge::Gate;
-use live_view::{LiveWriter, open_live};
+use live_view::{LiveOpened, LiveWriter, Naming, open_live};
 use script_text::Script;
 use std::alloc::Global;
+use std::marker::Brand;
 use std::sync::Wait;
 use std::thread::Threads;
 use tile_core::{Film, Frame, Marks};
@@ -38,18 +39,35 @@ pub fn run_live_shown<R: Threads + Wait + Sync, G: Gate>(
     requires few { length script.now.commands ≤ 2 ^ 32 - 1 }
     ensures { IfOk result (λ s. ShowsLast script.now s.film s.outcomes.items) }
 {
-    let live = open_live(alloc, 1)?;
+    named_shown::<Brand, R, G>(rt, alloc, script, workers, gate, open_live())
+}
+
+/// The same, with the live view under a name.
+fn named_shown<K: Naming + Send + Sync, R: Threads + Wait + Sync, G: Gate>(
+    rt: &R,
+    alloc: Global,
+    script: &Script,
+    workers: u8,
+    gate: &G,
+    opened: LiveOpened,
+) -> Result<Shown, NoMemory>
+    requires workers { workers ≤ 16 }
+    requires few { length script.now.commands ≤ 2 ^ 32 - 1 }
+    requires name { opened ≡ K.book }
+    ensures { IfOk result (λ s. ShowsLast script.now s.film s.outcomes.items) }
+{
+    let live: LiveWriter<K> = opened.named(alloc, 1)?;
     let (desk, live) = run_live(rt, alloc, script, workers, gate, live)?;
     last_shown(rt, alloc, script, desk, live)
 }
 
 /// What a settled desk of the script shows. The writer is closed.
-fn last_shown<R: Wait>(
+fn last_shown<K: Naming, R: Wait>(
     rt: &R,
     alloc: Global,
     script: &Script,
     desk: Desk,
-    live: LiveWriter,
+    live: LiveWriter<K>,
 ) -> Result<Shown, NoMemory>
     requires settled { IsSettled desk }
     requires canvas { desk.canvas ≡ script.now.canvas }
@@ -69,10 +87,10 @@ fn last_shown<R: Wait>(
 }
 
 /// The frame that a new reader sees. The writer is closed.
-fn last_frame<R: Wait>(
+fn last_frame<K: Naming, R: Wait>(
     rt: &R,
     alloc: Global,
-    live: LiveWriter,
+    live: LiveWriter<K>,
     desk: &Desk,
 ) -> Result<Frame, NoMemory>
     requires limits { IsOfLimits desk.now.canvas }

@@ -1,79 +1,124 @@
 //! The writer's end.
-ghost use Rattle.std.specs.Prelude.{◌≡◌, ◌≤◌, ◌<◌, ◌+◌, ◌^◌, ◌++◌, ◌∷◌, [], length, drop, IfOk, OnOk, OnErr};
-ghost use Rattle.left_right.specs.Sides.{view};
-ghost use Rattle.live_view.specs.Shown.{updates_of, with_row};
-ghost use Rattle.live_view.specs.Walls.{laid};
+ghost use Rattle.std.specs.Prelude.{◌≡◌, ◌≤◌, ◌<◌, ◌+◌, ◌^◌, ◌++◌, ◌∷◌, ◌↔◌, [], length, true, IsTrue, IfOk, OnOk, OnErr};
+ghost use Rattle.live_view.specs.Shown.{updates_of, with_row, StartsWith};
 ghost use Rattle.live_view.specs.Views.{published, pending, total};
 
+use crate::press::{Press, RuledWriter, Stage};
 use crate::reader::LiveReader;
-use crate::row::{Publish, Row};
-use crate::rule::{Known, Published, Told};
-use crate::update::Update;
+use crate::told::Told;
+use crate::update::{Op, Update, Updates};
 use crate::wall::Wall;
 use geom_core::{NoMemory, TileKey};
 use left_right::writer::Writer;
+use past_core::{Line, Naming};
 use std::alloc::Global;
 use std::marker::{Brand, Model};
 use std::sync::Wait;
 use tile_core::Tile;
 
-/// The writer of a wall, under the rule.
-type RuledWriter = Writer<Wall, Update, Known, Published>;
-
 /// No place was found free for one more reader.
 #[derive(Clone, Copy, Debug, PartialEq, Eq)]
 pub struct NoPlace;
 
-/// The writer. Contracts see its published rows and its pending updates. It isn't `Drop`: end it by `close`.
-pub struct LiveWriter {
-    writer: Option<RuledWriter>,
-    count: u64,
+/// What begins a live view. Contracts see which one it is.
+#[derive(Drop)]
+pub struct LiveOpened {
+    line: Line<Updates>,
 }
 
-impl Model for LiveWriter {
-    ghost use Rattle.std.specs.Prelude.{◌≡◌, ◌≤◌, ◌+◌, ◌^◌, [], length, drop, IsSomeAnd, unwrap_or};
+impl Model for LiveOpened {
+    ghost use Rattle.std.specs.Prelude.{◌≡◌, []};
+    ghost use Rattle.logbook.specs.Pages.{Book, book_coded};
+    ghost use Rattle.past_core.specs.Spans.{book_of, entries};
+
+    ghost Value = { Book };
+
+    ghost coded = { book_coded };
+
+    ghost view = { λ o. book_of o.line };
+
+    ghost invariant = { λ o. entries o.line ≡ [] };
+}
+
+/// A live view that has no name yet. No memory.
+pub fn open_live() -> LiveOpened {
+    LiveOpened { line: Line::new() }
+}
+
+impl LiveOpened {
+    /// Its writer, under the name that the caller picks for it, with no update, and room for so many readers at
+    /// a time.
+    ///
+    /// # Errors
+    /// `NoMemory`.
+    pub fn named<K: Naming>(self, alloc: Global, readers: u16) -> Result<LiveWriter<K>, NoMemory>
+        requires name { self ≡ K.book }
+        requires some { 0 < readers }
+        ensures { IfOk result (λ w. w ≡ ([], [])) }
+    {
+        let LiveOpened { line } = self;
+        let past = line.past();
+        let first = Wall::new(alloc, past.again())?;
+        let second = Wall::new(alloc, past)?;
+        let writer: RuledWriter<K> = Writer::new(alloc, first, second, readers as usize)?;
+        Ok(LiveWriter {
+            press: Some(Press {
+                writer,
+                line,
+                stage: Stage::Open,
+                count: 0,
+            }),
+        })
+    }
+}
+
+/// The writer of that name. Contracts see its published rows and its pending updates. It isn't `Drop`: end it by
+/// `close`.
+pub struct LiveWriter<K: Naming> {
+    press: Option<Press<K>>,
+}
+
+impl<K: Naming> Model for LiveWriter<K> {
+    ghost use Rattle.std.specs.Prelude.{[], drop, IsSomeAnd, unwrap_or};
     ghost use Rattle.std.specs.Option.{option_map};
-    ghost use Rattle.left_right.specs.Sides.{view as knows};
-    ghost use Rattle.live_view.specs.Shown.{Rows, updates_of};
+    ghost use Rattle.past_core.specs.Spans.{entries};
+    ghost use Rattle.live_view.specs.Rule.{Stands};
     ghost use Rattle.live_view.specs.Views.{Feed};
-    ghost use Rattle.live_view.specs.Walls.{laid};
+    ghost use Rattle.live_view.specs.Walls.{updates_in};
 
     ghost Value = { Feed };
 
-    ghost view = { λ s. (unwrap_or (option_map (λ w. knows {V = Rows} w.desk.place) s.writer) [], unwrap_or (option_map (λ w. drop w.behind w.log.items) s.writer) []) };
+    ghost view = { λ s. (unwrap_or (option_map (λ p. entries p.writer.desk.shown.value.1) s.press) [], unwrap_or (option_map (λ p. updates_in (drop p.writer.behind p.writer.log.items)) s.press) []) };
 
-    ghost invariant = { λ s. IsSomeAnd s.writer (λ w. (w.desk.shown.value ≡ laid (updates_of (knows {V = Rows} w.desk.place))) × (s.count ≡ length (updates_of (knows {V = Rows} w.desk.place)) + length (drop w.behind w.log.items)) × (s.count ≤ 2 ^ 63)) };
+    ghost invariant = { λ s. IsSomeAnd s.press (λ p. Stands K.book p.writer.desk.shown.value p.line (drop p.writer.behind p.writer.log.items) p.stage p.count) };
 }
 
-/// A writer with no update, and room for so many readers at a time.
-pub fn open_live(alloc: Global, readers: u16) -> Result<LiveWriter, NoMemory>
-    requires { 0 < readers }
-    ensures { IfOk result (λ w. w ≡ ([], [])) }
-{
-    let writer = RuledWriter::new(
-        alloc,
-        Wall::new(alloc)?,
-        Wall::new(alloc)?,
-        readers as usize,
-    )?;
-    Ok(LiveWriter {
-        writer: Some(writer),
-        count: 0,
-    })
-}
-
-impl LiveWriter {
-    /// A new reader, which knows all that is published now. It has a place until it is dropped.
-    pub fn reader(&mut self) -> Result<LiveReader, NoPlace>
-        ensures known { IfOk result (λ r. r ≡ (published self.old, 0)) }
-        ensures kept { self.new ≡ self.old }
+impl<K: Naming> LiveWriter<K> {
+    /// What is published now.
+    pub fn tell(&self) -> Told<K>
+        ensures { result ≡ published self.now }
     {
-        match &mut self.writer {
-            Some(writer) => match writer.factory().reader() {
-                Ok(mut reader) => {
-                    reader.learn::<Told>(writer.tell::<Told>());
-                    Ok(LiveReader::over(reader))
-                }
+        match &self.press {
+            Some(press) => Told::by(press.writer.published()),
+            None => unreachable!(),
+        }
+    }
+
+    /// Whether so many updates are published as were told of this name. Then the published rows begin with those.
+    pub fn has(&self, told: &Told<K>) -> bool
+        ensures number { IsTrue result ↔ (length (updates_of told.now) ≤ length (updates_of (published self.now))) }
+        ensures rows { result ≡ true → StartsWith (published self.now) told.now }
+    {
+        self.tell().begins_with(told)
+    }
+
+    /// A new reader, which knows all that is published now. It has a place until it is dropped.
+    pub fn reader(&self) -> Result<LiveReader<K>, NoPlace>
+        ensures { IfOk result (λ r. r ≡ (published self.now, 0)) }
+    {
+        match &self.press {
+            Some(press) => match press.writer.factory().reader() {
+                Ok(reader) => Ok(LiveReader::over(reader, self.tell())),
                 Err(_) => Err(NoPlace),
             },
             None => unreachable!(),
@@ -85,14 +130,17 @@ impl LiveWriter {
         ensures value { result ≡ total self.now }
         ensures few { result ≤ 2 ^ 63 }
     {
-        self.count
+        match &self.press {
+            Some(press) => press.count,
+            None => unreachable!(),
+        }
     }
 
     /// One more pending update: the tile, shared, under that key. What readers see stays. A key outside
     /// the largest canvas is taken too, and never looked at.
     ///
     /// # Errors
-    /// `NoMemory`; all is as it was.
+    /// `NoMemory`; all is as it was. It comes too after a `publish` that lacked memory, until one has succeeded.
     pub fn put(&mut self, key: TileKey, tile: &Tile) -> Result<(), NoMemory>
         requires { total self.old < 2 ^ 63 }
         ensures published { published self.new ≡ published self.old }
@@ -100,31 +148,29 @@ impl LiveWriter {
         ensures err { OnErr result (pending self.new ≡ pending self.old) }
     {
         let tile = tile.share()?;
-        match &mut self.writer {
-            Some(writer) => match writer.append(Update { key, tile }) {
-                Ok(()) => {
-                    self.count += 1;
-                    Ok(())
-                }
-                Err(_) => Err(NoMemory),
-            },
-            None => unreachable!(),
-        }
+        let Some(press) = &mut self.press else {
+            unreachable!()
+        };
+        press.put(Update { key, tile })
     }
 
-    /// Publishes the pending updates, all at once and in order. It may wait for a reader, and for
-    /// an owner of a tile of which there are as many owners as can be counted.
-    pub fn publish<R: Wait>(&mut self, rt: &R)
-        ensures published { published self.new ≡ with_row (published self.old) (pending self.old) }
-        ensures pending { pending self.new ≡ [] }
+    /// Publishes the pending updates, all at once and in order. It may wait for a reader.
+    ///
+    /// # Errors
+    /// `NoMemory`, also where a tile has as many owners as can be counted; all is as it was.
+    pub fn publish<R: Wait>(&mut self, rt: &R) -> Result<(), NoMemory>
+        ensures published { OnOk result (published self.new ≡ with_row (published self.old) (pending self.old)) }
+        ensures pending { OnOk result (pending self.new ≡ []) }
+        ensures err { OnErr result (self.new ≡ self.old) }
     {
-        match self.writer.take() {
-            Some(writer) => {
-                let writer = publish_row::<Brand, R>(rt, writer);
-                match self.writer.replace(writer) {
+        match self.press.take() {
+            Some(press) => {
+                let (press, shown) = press.publish::<Brand, R>(rt);
+                match self.press.replace(press) {
                     Some(_) => unreachable!(),
                     None => {}
                 }
+                shown
             }
             None => unreachable!(),
         }
@@ -132,35 +178,18 @@ impl LiveWriter {
 
     /// Ends the writer. Pending updates are let go. It may wait for a reader.
     pub fn close<R: Wait>(self, rt: &R) {
-        let LiveWriter { writer, count: _ } = self;
-        match writer {
-            Some(writer) => {
+        let LiveWriter { press } = self;
+        match press {
+            Some(press) => {
+                let Press {
+                    writer,
+                    line: _line,
+                    stage: _,
+                    count: _,
+                } = press;
                 writer.take(rt);
             }
             None => {}
         }
     }
-}
-
-// Publishes the row that is pending, if it has updates.
-fn publish_row<K: Row, R: Wait>(rt: &R, writer: RuledWriter) -> RuledWriter
-    requires row { drop writer.behind writer.log.items ≡ K.updates }
-    requires shown { writer.desk.shown.value ≡ laid (updates_of (view writer.desk.place)) }
-    requires few { length (updates_of (view writer.desk.place)) + length K.updates ≤ 2 ^ 63 }
-    ensures shown { result.desk.shown.value ≡ laid (updates_of (view result.desk.place)) }
-    ensures published { view result.desk.place ≡ with_row (view writer.desk.place) K.updates }
-    ensures pending { drop result.behind result.log.items ≡ [] }
-{
-    if !writer.has_pending_operations() {
-        return writer;
-    }
-    let mut writer = writer;
-    for _ in rt.forever() {
-        let (after, published) = writer.publish_as::<Publish<K>, R>(rt);
-        match published {
-            Ok(()) => return after,
-            Err(_) => writer = after,
-        }
-    }
-    unreachable!()
 }

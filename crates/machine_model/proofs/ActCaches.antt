@@ -19,12 +19,13 @@ use Rattle.doc_model.proofs.Contents.{with_content-with_content, content-with_co
 use Rattle.doc_model.proofs.Weights.{tree_distinct}
 use Rattle.doc_model.specs.Ids.{IsTree}
 use Rattle.doc_model.proofs.QueueLaws.{in_grid}
-use Rattle.doc_model.specs.Updates.{queued_for}
+use Rattle.doc_model.specs.Queues.{queued_for}
 use Rattle.doc_model.proofs.QueueWhole.{refreshed_takes}
 use Rattle.doc_model.proofs.Paths.{content_put_back}
 use Rattle.geom_core.proofs.Tests.{or_left, or_right, not_true}
 use Rattle.machine_model.specs.State.{Reach, Whole, Part, Slot, Free, Paints, Walks, State, head_stroke, head, stroke_of}
-use Rattle.machine_model.specs.Groups.{path_of, on, parent_of, composes}
+use Rattle.machine_model.specs.Groups.{path_of, on, parent_of}
+use Rattle.machine_model.specs.Covers.{composes}
 use Rattle.machine_model.specs.Slots.{is_walker}
 use Rattle.machine_model.specs.Step.{ActStep}
 use Rattle.machine_model.specs.Effects.{updates_with, bound_of, after_entry, after_change, after_undo, after_redo, moved_to, with_outcome}

@@ -17,16 +17,18 @@ use Rattle.doc_model.specs.Layers.{Layer, plain}
 use Rattle.doc_model.specs.Forest.{content, with_content}
 use Rattle.doc_model.specs.Picture.{Doc, canvas_area}
 use Rattle.doc_model.specs.Changes.{changed}
-use Rattle.doc_model.specs.Lawful.{is_closed_entry}
+use Rattle.doc_model.specs.Feeding.{is_closed_entry}
 use Rattle.doc_model.specs.Strokes.{Entry, Strokes, Changes, Undoes, Redoes, Purges, Exports}
-use Rattle.doc_model.specs.Updates.{IsQueue, refreshed}
+use Rattle.doc_model.specs.Updates.{refreshed}
+use Rattle.doc_model.specs.Queues.{IsQueue}
 use Rattle.doc_model.proofs.Patches.{refreshed_right}
 use Rattle.doc_model.proofs.QueuedWalks.{refreshed_whole}
 use Rattle.doc_model.proofs.SameContent.{with_same}
 use Rattle.doc_model.proofs.Weights.{tree_distinct}
 use Rattle.doc_model.specs.Ids.{IsTree}
 use Rattle.doc_model.proofs.TreeChanges.{TreeStory}
-use Rattle.machine_model.specs.State.{Reach, Whole, Part, State, Slot, story, head, head_stroke, stroke_of}
+use Rattle.machine_model.specs.State.{Reach, Whole, Part, State, Slot, head, head_stroke, stroke_of}
+use Rattle.machine_model.specs.Settled.{story}
 use Rattle.machine_model.specs.Slots.{is_walker, is_painter}
 use Rattle.machine_model.specs.Groups.{parent_of}
 use Rattle.machine_model.specs.Guards.{is_exclusive}

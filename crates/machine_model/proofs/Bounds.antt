@@ -16,10 +16,11 @@ use Rattle.doc_model.specs.Picture.{Doc}
 use Rattle.doc_model.specs.Layers.{Layer}
 use Rattle.doc_model.specs.Laws.{IsDocument, EachDoc}
 use Rattle.doc_model.specs.Strokes.{entries}
-use Rattle.doc_model.specs.Updates.{in_place}
+use Rattle.doc_model.specs.Queues.{in_place}
 use Rattle.doc_model.proofs.Limits.{meaning_keeps_limits}
 use Rattle.doc_model.proofs.Weights.{weight_count, weight_with_content}
-use Rattle.machine_model.specs.State.{State, story}
+use Rattle.machine_model.specs.State.{State}
+use Rattle.machine_model.specs.Settled.{story}
 use Rattle.machine_model.specs.Groups.{path_of}
 use Rattle.machine_model.specs.UnderWay.{IsOnWay}
 use Rattle.machine_model.specs.Sound.{IsOrderly}

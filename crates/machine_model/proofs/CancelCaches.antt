@@ -8,7 +8,7 @@ use Rattle.std.specs.FinSet as set
 use Rattle.std.specs.List.{list_any, AllByRecursion}
 use Rattle.std.proofs.lemmas.List.Folds.{list_any-append}
 use Rattle.geom_core.specs.Areas.{Area, holds, Point}
-use Rattle.geom_core.specs.Overlaps.{any_holds}
+use Rattle.geom_core.specs.Rects.{any_holds}
 use Rattle.geom_core.specs.Grid.{Key, key_set}
 use Rattle.doc_model.specs.declared.canvas.Walk.{Walk}
 use Rattle.doc_model.specs.declared.canvas.Walk.TheVariants.{Up}
@@ -22,11 +22,13 @@ use Rattle.doc_model.proofs.Contents.{with_content-with_content, content-with_co
 use Rattle.doc_model.proofs.Weights.{tree_distinct}
 use Rattle.doc_model.specs.Ids.{IsTree}
 use Rattle.doc_model.proofs.QueueLaws.{in_grid}
-use Rattle.doc_model.specs.Updates.{queued_for}
+use Rattle.doc_model.specs.Queues.{queued_for}
 use Rattle.doc_model.proofs.Paths.{content_put_back}
 use Rattle.machine_model.specs.State.{Child, Walker, Slot, State}
-use Rattle.machine_model.specs.Groups.{with_pixels, nodes_in, path_of, on, parent_of, composes}
-use Rattle.machine_model.specs.Slots.{is_painter, done}
+use Rattle.machine_model.specs.Groups.{with_pixels, nodes_in, path_of, on, parent_of}
+use Rattle.machine_model.specs.Covers.{composes}
+use Rattle.machine_model.specs.Slots.{is_painter}
+use Rattle.machine_model.specs.Painters.{done}
 use Rattle.machine_model.specs.Step.{CancelStep}
 use Rattle.machine_model.specs.Effects.{updates_with, bound_of, writes_of, started_jobs}
 use Rattle.machine_model.specs.Guards.{kept_jobs}

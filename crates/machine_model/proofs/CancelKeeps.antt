@@ -7,14 +7,15 @@ use Rattle.geom_core.specs.Grid.{key_set}
 use Rattle.doc_model.specs.declared.canvas.Walk.TheVariants.{Up}
 use Rattle.doc_model.specs.declared.canvas.Patch.{Patch}
 use Rattle.doc_model.specs.Picture.{Doc, canvas_area}
-use Rattle.doc_model.specs.Lawful.{is_closed_entry}
+use Rattle.doc_model.specs.Feeding.{is_closed_entry}
 use Rattle.doc_model.specs.Strokes.{Stroke, Fate, Open, Ended, Cancelled, Strokes, conflict}
 use Rattle.doc_model.specs.Meaning.{Story, told_stroke, closed_stroke, ends_with}
-use Rattle.doc_model.specs.Updates.{IsQueue}
+use Rattle.doc_model.specs.Queues.{IsQueue}
 use Rattle.doc_model.proofs.Patches.{queued_right}
 use Rattle.doc_model.proofs.QueuedWalks.{queued_each}
 use Rattle.doc_model.proofs.SameContent.{with_same}
-use Rattle.machine_model.specs.State.{State, story, head, head_stroke}
+use Rattle.machine_model.specs.State.{State, head, head_stroke}
+use Rattle.machine_model.specs.Settled.{story}
 use Rattle.machine_model.specs.Groups.{parent_of}
 use Rattle.machine_model.specs.Guards.{is_closed, is_cancelled, overlaps, is_exclusive, kept_jobs}
 use Rattle.machine_model.specs.Effects.{updates_with, bound_of, writes_of, started_jobs, cancel_outcome}

@@ -6,17 +6,18 @@ use Rattle.std.specs.FinMap.{FinMap}
 use Rattle.std.specs.List.{list_any, AllByRecursion}
 use Rattle.pixel_core.specs.Rgba.{clear}
 use Rattle.geom_core.specs.Areas.{holds, Point}
-use Rattle.geom_core.specs.Overlaps.{any_holds}
+use Rattle.geom_core.specs.Rects.{any_holds}
 use Rattle.geom_core.specs.Grid.{key_of}
 use Rattle.doc_model.specs.declared.canvas.Walk.TheVariants.{Up}
 use Rattle.doc_model.specs.declared.canvas.Patch.{Patch}
 use Rattle.doc_model.specs.Layers.{Layer, at}
 use Rattle.doc_model.specs.Jobs.{writes}
 use Rattle.doc_model.specs.Picture.{Doc, canvas_area}
-use Rattle.doc_model.specs.Updates.{queued_for}
+use Rattle.doc_model.specs.Queues.{queued_for}
 use Rattle.geom_core.proofs.Tests.{or_cases, or_left, or_right}
 use Rattle.machine_model.specs.State.{Child, Walker, Slot, Free, Paints, Walks, State, head_stroke}
-use Rattle.machine_model.specs.Groups.{cache, with_pixels, nodes_in, children_of, folded, path_of, on, painted_group, covered, composes, slot_covers}
+use Rattle.machine_model.specs.Groups.{cache, with_pixels, nodes_in, children_of, path_of, on}
+use Rattle.machine_model.specs.Covers.{folded, painted_group, covered, composes, slot_covers}
 use Rattle.machine_model.specs.Slots.{is_painter}
 use Rattle.machine_model.specs.Guards.{same_pair}
 use Rattle.machine_model.specs.Walks.{walk_value}

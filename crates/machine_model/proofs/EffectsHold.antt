@@ -2,7 +2,7 @@
 use Rattle.machine_model.proofs.Choices.{and_none}
 use Rattle.std.proofs.Common.{false, ◌≡◌, ◌≢◌, ℕ, true, ◌&&◌, cond, [], Option, Some, None, refl, sym, ap, ◌∙◌, subst, eqb, ◌||◌, arith, ◌∷◌}
 use Rattle.geom_core.specs.Areas.{holds, Point}
-use Rattle.geom_core.specs.Overlaps.{any_holds}
+use Rattle.geom_core.specs.Rects.{any_holds}
 use Rattle.geom_core.proofs.Tests.{taken, kept, both_true, or_left, neither}
 use Rattle.doc_model.specs.declared.command.Outcome.TheVariants.{Done}
 use Rattle.doc_model.specs.Layers.{at, Layer, painted}
@@ -24,8 +24,9 @@ use Rattle.machine_model.proofs.JobKeeps.{painting}
 use Rattle.std.proofs.lemmas.Bool.Decides.{nat_tests}
 use Rattle.doc_model.specs.declared.canvas.Walk.TheVariants.{Up}
 use Rattle.doc_model.specs.Picture.{canvas_area}
-use Rattle.doc_model.specs.Updates.{queued_for}
-use Rattle.machine_model.specs.Groups.{cache, composes, parent_of}
+use Rattle.doc_model.specs.Queues.{queued_for}
+use Rattle.machine_model.specs.Groups.{cache, parent_of}
+use Rattle.machine_model.specs.Covers.{composes}
 use Rattle.machine_model.specs.Walks.{walk_value}
 use Rattle.machine_model.proofs.Choices.{none_and}
 use Rattle.machine_model.proofs.CanvasPoints.{canvas_grid}

@@ -12,7 +12,8 @@ use Rattle.doc_model.specs.declared.canvas.Walk.TheVariants.{Up}
 use Rattle.doc_model.specs.Picture.{canvas_area}
 use Rattle.doc_model.specs.Strokes.{Stroke, Entry, Strokes, entries, fed, with_job, with_fate, Fate, Ended, Cancelled}
 use Rattle.machine_model.specs.State.{Slot, State, head_stroke, head, stroke_of, first}
-use Rattle.machine_model.specs.Groups.{path_of, parent_of, painted_group}
+use Rattle.machine_model.specs.Groups.{path_of, parent_of}
+use Rattle.machine_model.specs.Covers.{painted_group}
 use Rattle.machine_model.specs.Slots.{is_painter}
 use Rattle.machine_model.specs.Event.{Feed}
 use Rattle.machine_model.specs.Step.{Step}

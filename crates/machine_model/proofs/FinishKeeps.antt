@@ -5,19 +5,22 @@ use Rattle.std.proofs.lemmas.List.Folds.{list_any-append}
 use Rattle.geom_core.proofs.Tests.{true_or_false, kept, or_left, or_right, is_some-None}
 use Rattle.geom_core.proofs.Keys.{key_of_any_held}
 use Rattle.geom_core.specs.Areas.{Area, holds, Point}
-use Rattle.geom_core.specs.Overlaps.{any_holds}
-use Rattle.geom_core.specs.Grid.{Key, key_cmp_total, key_of, key_set, all_keys_of}
+use Rattle.geom_core.specs.Rects.{any_holds}
+use Rattle.geom_core.specs.Grid.{Key, key_of, key_set, all_keys_of}
+use Rattle.geom_core.specs.Keys.{key_cmp_total}
 use Rattle.doc_model.specs.declared.job.Job.{Job}
 use Rattle.doc_model.specs.declared.job.Kind.{Kind}
 use Rattle.doc_model.specs.declared.command.Outcome.TheVariants as outcome
 use Rattle.doc_model.specs.Layers.{Layer, at}
 use Rattle.doc_model.specs.Jobs.{writes, apply_all}
 use Rattle.doc_model.specs.Forest.{content, with_content}
-use Rattle.doc_model.specs.Lawful.{is_closed_entry}
+use Rattle.doc_model.specs.Feeding.{is_closed_entry}
 use Rattle.doc_model.specs.Strokes.{Jobs, Stroke, Fate, Open, Ended, Cancelled, Strokes, conflict}
 use Rattle.doc_model.specs.Meaning.{Story, told_stroke, closed_stroke, laid_stroke, painted_doc, advanced}
-use Rattle.machine_model.specs.State.{State, story, head, head_stroke}
-use Rattle.machine_model.specs.Slots.{no_painter, done}
+use Rattle.machine_model.specs.State.{State, head, head_stroke}
+use Rattle.machine_model.specs.Settled.{story}
+use Rattle.machine_model.specs.Slots.{no_painter}
+use Rattle.machine_model.specs.Painters.{done}
 use Rattle.machine_model.specs.Guards.{kept_jobs, is_ended, is_paint, is_exclusive}
 use Rattle.machine_model.specs.Effects.{writes_of, no_paint_outcome, after_finish}
 use Rattle.machine_model.specs.Step.{FinishStep}

@@ -9,7 +9,8 @@ use Rattle.doc_model.proofs.LayerLaws.{layer_ext}
 use Rattle.doc_model.specs.Jobs.{apply_all}
 use Rattle.doc_model.specs.Strokes.{conflict}
 use Rattle.machine_model.specs.State.{State, Slot, Free, Paints, Walks}
-use Rattle.machine_model.specs.Slots.{painter_in, done, is_done, is_painter, no_painter}
+use Rattle.machine_model.specs.Slots.{is_painter, no_painter}
+use Rattle.machine_model.specs.Painters.{painter_in, done, is_done}
 use Rattle.geom_core.proofs.Tests.{not_true}
 use Rattle.machine_model.proofs.Lists.{take_all, length_map}
 use Rattle.machine_model.specs.Guards.{kept_jobs}

@@ -9,7 +9,8 @@ use Rattle.doc_model.specs.declared.job.Kind.{Kind}
 use Rattle.doc_model.specs.declared.canvas.Patch.{Patch}
 use Rattle.doc_model.specs.Jobs.{writes}
 use Rattle.doc_model.specs.Strokes.{Jobs, Stroke, Fate, Open, Ended, Cancelled, Entry, Strokes, Changes, Undoes, Redoes, Purges, Exports, entries, conflict, is_open}
-use Rattle.machine_model.specs.State.{Child, State, Painter, Walker, Slot, Free, Paints, Walks, head, head_stroke, stroke_of, first, is_free, IsSettled}
+use Rattle.machine_model.specs.State.{Child, State, Painter, Walker, Slot, Free, Paints, Walks, head, head_stroke, stroke_of, first, is_free}
+use Rattle.machine_model.specs.Settled.{IsSettled}
 use Rattle.machine_model.specs.Event.{Init, Start, Publish, End, Finish, Cancel, Act, WalkStart, WalkPublish, WalkEnd}
 use Rattle.machine_model.specs.Slots.{is_painter, is_walker, no_painter, no_walker}
 use Rattle.machine_model.specs.Groups.{on}

@@ -3,7 +3,7 @@ use Rattle.std.proofs.Common.{◌≡◌, ℕ, suc, zero, ◌-◌, ◌<◌, ◌�
 use Rattle.std.specs.Prelude.{slice_get}
 use Rattle.std.specs.List.{AllByRecursion}
 use Rattle.geom_core.specs.Areas.{Point}
-use Rattle.geom_core.specs.Overlaps.{any_holds}
+use Rattle.geom_core.specs.Rects.{any_holds}
 use Rattle.geom_core.specs.Grid.{Key, key_of}
 use Rattle.doc_model.specs.declared.job.Job.{Job}
 use Rattle.doc_model.specs.declared.job.Kind.{Kind}
@@ -14,7 +14,7 @@ use Rattle.doc_model.specs.Strokes.{Jobs, one_run, runs_at, passes, runs}
 use Rattle.doc_model.proofs.Conflicts.{all_from_same}
 use Rattle.machine_model.specs.State.{Slot, Free, Paints, Walks}
 use Rattle.machine_model.specs.UnderWay.{SlotIsStarted, MayOverlap, both_uni, after_jobs, writes_at, shown, ShotIsRight, PixelsAre}
-use Rattle.machine_model.specs.Slots.{done}
+use Rattle.machine_model.specs.Painters.{done}
 
 -- more items behind change none in front
 pub get_front : {A : Type 0} (xs ys : List A) (i : ℕ) → i < length xs → slice_get (xs ++ ys) i ≡ slice_get xs i

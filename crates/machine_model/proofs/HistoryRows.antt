@@ -10,7 +10,8 @@ use Rattle.doc_model.specs.declared.command.Command.TheVariants as command
 use Rattle.doc_model.specs.declared.tree.Change.TheVariants as change
 use Rattle.doc_model.proofs.LayerLaws.{at-plain}
 use Rattle.doc_model.specs.Updates.{queued, refreshed}
-use Rattle.machine_model.specs.State.{State, new_state, IsSettled}
+use Rattle.machine_model.specs.State.{State, new_state}
+use Rattle.machine_model.specs.Settled.{IsSettled}
 use Rattle.machine_model.specs.Event.{Event, Feed, Act, WalkStart, WalkPublish, WalkEnd}
 use Rattle.machine_model.proofs.RunChains.{Chain, ◌▸◌, ends, all_walked}
 

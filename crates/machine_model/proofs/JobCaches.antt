@@ -5,7 +5,7 @@ use Rattle.std.proofs.Common.{◌≡◌, ℕ, Bool, true, false, ◌&&◌, ◌||
 use Rattle.std.specs.Prelude.{slice_get, slice_set}
 use Rattle.std.specs.List.{list_any, AllByRecursion}
 use Rattle.geom_core.specs.Areas.{Area, holds, Point}
-use Rattle.geom_core.specs.Overlaps.{any_holds}
+use Rattle.geom_core.specs.Rects.{any_holds}
 use Rattle.doc_model.specs.declared.canvas.Walk.{Walk}
 use Rattle.doc_model.specs.declared.canvas.Walk.TheVariants.{Up, All}
 use Rattle.doc_model.specs.declared.canvas.Patch.{Patch}
@@ -15,11 +15,12 @@ use Rattle.doc_model.specs.Forest.{content}
 use Rattle.doc_model.specs.Strokes.{Stroke}
 use Rattle.doc_model.specs.Updates.{queued}
 use Rattle.doc_model.proofs.QueueLaws.{in_grid}
-use Rattle.doc_model.specs.Updates.{queued_for}
+use Rattle.doc_model.specs.Queues.{queued_for}
 use Rattle.doc_model.proofs.QueueWhole.{queued_stays, queued_takes}
 use Rattle.machine_model.specs.State.{Painter, Slot, Free, Paints, Walks, State, head_stroke}
 use Rattle.machine_model.specs.Guards.{is_paint}
-use Rattle.machine_model.specs.Groups.{path_of, on, parent_of, painted_group, composes}
+use Rattle.machine_model.specs.Groups.{path_of, on, parent_of}
+use Rattle.machine_model.specs.Covers.{painted_group, composes}
 use Rattle.machine_model.specs.Slots.{is_painter, no_painter}
 use Rattle.machine_model.specs.Step.{InitStep, StartStep, EndStep, FinishStep}
 use Rattle.machine_model.specs.Effects.{after_finish, updates_with_all}

@@ -15,12 +15,14 @@ use Rattle.doc_model.specs.Readers.{parent}
 use Rattle.doc_model.specs.Adjusting.{adjusted}
 use Rattle.doc_model.specs.Picture.{Doc, canvas_area}
 use Rattle.doc_model.specs.Strokes.{Stroke}
-use Rattle.doc_model.specs.Updates.{IsQueue, queued}
+use Rattle.doc_model.specs.Updates.{queued}
+use Rattle.doc_model.specs.Queues.{IsQueue}
 use Rattle.doc_model.proofs.Patches.{queued_right}
 use Rattle.doc_model.proofs.QueuedWalks.{queued_each}
 use Rattle.doc_model.proofs.Shapes.{parent_is_group}
 use Rattle.machine_model.specs.State.{State, Painter, Slot, Free, Paints, Walks, head_stroke}
-use Rattle.machine_model.specs.Slots.{painter_in, runs_in, is_painter, is_walker}
+use Rattle.machine_model.specs.Slots.{is_painter, is_walker}
+use Rattle.machine_model.specs.Painters.{painter_in, runs_in}
 use Rattle.machine_model.specs.Groups.{parent_of}
 use Rattle.machine_model.specs.Guards.{kept_jobs, is_exclusive}
 use Rattle.machine_model.specs.Effects.{layer_in, updates_with_all}

@@ -16,11 +16,12 @@ use Rattle.doc_model.specs.Strokes.{Stroke}
 use Rattle.doc_model.proofs.Weights.{tree_distinct}
 use Rattle.doc_model.specs.Ids.{IsTree}
 use Rattle.doc_model.proofs.QueueLaws.{in_grid}
-use Rattle.doc_model.specs.Updates.{queued_for}
+use Rattle.doc_model.specs.Queues.{queued_for}
 use Rattle.doc_model.proofs.QueueWhole.{queued_stays, queued_takes}
 use Rattle.doc_model.proofs.Paths.{content_put_back}
 use Rattle.machine_model.specs.State.{Child, Walker, Slot, State, head_stroke}
-use Rattle.machine_model.specs.Groups.{cache, with_pixels, nodes_in, path_of, on, parent_of, painted_group}
+use Rattle.machine_model.specs.Groups.{cache, with_pixels, nodes_in, path_of, on, parent_of}
+use Rattle.machine_model.specs.Covers.{painted_group}
 use Rattle.machine_model.specs.Slots.{is_painter}
 use Rattle.machine_model.specs.Effects.{updates_with}
 use Rattle.machine_model.specs.Caches.{SamePixels}

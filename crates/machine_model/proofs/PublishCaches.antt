@@ -3,7 +3,7 @@ use Rattle.std.proofs.Common.{◌≡◌, ℕ, Bool, true, ◌&&◌, ◌||◌, co
 use Rattle.std.specs.Prelude.{slice_set}
 use Rattle.std.specs.List.{AllByRecursion}
 use Rattle.geom_core.specs.Areas.{Point}
-use Rattle.geom_core.specs.Overlaps.{any_holds}
+use Rattle.geom_core.specs.Rects.{any_holds}
 use Rattle.geom_core.specs.Grid.{Key}
 use Rattle.doc_model.specs.declared.canvas.Walk.{Walk}
 use Rattle.doc_model.specs.declared.canvas.Walk.TheVariants.{Up}
@@ -15,11 +15,12 @@ use Rattle.doc_model.specs.Forest.{content, with_content}
 use Rattle.doc_model.proofs.Shots.{at-published}
 use Rattle.doc_model.proofs.Weights.{tree_distinct}
 use Rattle.doc_model.specs.Ids.{IsTree}
-use Rattle.doc_model.specs.Updates.{queued_for}
+use Rattle.doc_model.specs.Queues.{queued_for}
 use Rattle.geom_core.proofs.Tests.{or_right, both_true, and_left}
 use Rattle.doc_model.proofs.SameContent.{adjusted_is}
 use Rattle.machine_model.specs.State.{Child, Painter, Walker, Slot, Paints, State}
-use Rattle.machine_model.specs.Groups.{with_pixels, nodes_in, path_of, on, parent_of, composes}
+use Rattle.machine_model.specs.Groups.{with_pixels, nodes_in, path_of, on, parent_of}
+use Rattle.machine_model.specs.Covers.{composes}
 use Rattle.machine_model.specs.Slots.{is_painter}
 use Rattle.machine_model.specs.Step.{PublishStep}
 use Rattle.machine_model.specs.Caches.{CachesFold, WalkIsRight}

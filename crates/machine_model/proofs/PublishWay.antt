@@ -4,7 +4,7 @@ use Rattle.std.proofs.Common.{◌≡◌, ℕ, suc, ◌<◌, Bool, true, false, �
 use Rattle.std.specs.Prelude.{slice_get, slice_set}
 use Rattle.std.proofs.lemmas.Bool.Decides.{nat_tests}
 use Rattle.geom_core.specs.Areas.{Point}
-use Rattle.geom_core.specs.Overlaps.{any_holds}
+use Rattle.geom_core.specs.Rects.{any_holds}
 use Rattle.geom_core.specs.Grid.{Key, key_of, same_key}
 use Rattle.geom_core.proofs.Tests.{taken, kept, and_left, and_right}
 use Rattle.doc_model.specs.declared.job.Job.{Job}
@@ -20,7 +20,7 @@ use Rattle.doc_model.proofs.Contents.{adjusted-with_content}
 use Rattle.doc_model.proofs.Conflicts.{kept_clear}
 use Rattle.doc_model.specs.Strokes.{Jobs, Stroke, one_run}
 use Rattle.machine_model.specs.State.{State, Painter, Slot, Paints}
-use Rattle.machine_model.specs.Slots.{painter_in, done, is_done}
+use Rattle.machine_model.specs.Painters.{painter_in, done, is_done}
 use Rattle.machine_model.specs.Guards.{kept_jobs}
 use Rattle.machine_model.specs.Step.{PublishStep}
 use Rattle.machine_model.specs.UnderWay.{after_jobs, writes_at, shown, Once, SlotIsStarted, ShotIsRight, PixelsAre, UnderWay, both_uni}

@@ -8,7 +8,7 @@ use Rattle.std.specs.List.{list_any, AllByRecursion}
 use Rattle.std.proofs.lemmas.Bool.Decides.{nat_tests}
 use Rattle.pixel_core.specs.Rgba.{Rgba, clear}
 use Rattle.geom_core.specs.Areas.{holds, Point}
-use Rattle.geom_core.specs.Overlaps.{any_holds}
+use Rattle.geom_core.specs.Rects.{any_holds}
 use Rattle.doc_model.specs.declared.canvas.Walk.TheVariants.{Up}
 use Rattle.doc_model.specs.declared.canvas.Patch.{Patch}
 use Rattle.doc_model.specs.Layers.{Layer, at}
@@ -18,10 +18,11 @@ use Rattle.doc_model.specs.Picture.{Doc, laid}
 use Rattle.doc_model.proofs.Parents.{Distinct}
 use Rattle.doc_model.proofs.Weights.{tree_distinct, tree_root}
 use Rattle.doc_model.specs.Ids.{IsTree}
-use Rattle.doc_model.specs.Updates.{queued_for}
+use Rattle.doc_model.specs.Queues.{queued_for}
 use Rattle.doc_model.proofs.Paths.{KidsIn, kids_rest, kids_nodes, kids_other, kids_here}
 use Rattle.machine_model.specs.State.{Slot, Free, Paints, Walks, State, head_stroke}
-use Rattle.machine_model.specs.Groups.{cache, with_pixels, nodes_in, children_of, path_of, on, folded, covered, painted_group, composes}
+use Rattle.machine_model.specs.Groups.{cache, with_pixels, nodes_in, children_of, path_of, on}
+use Rattle.machine_model.specs.Covers.{folded, covered, painted_group, composes}
 use Rattle.machine_model.specs.Slots.{is_painter, is_walker, no_painter, no_walker}
 use Rattle.machine_model.specs.Walking.{WalkStands}
 use Rattle.machine_model.proofs.WalkPaths.{grouped, path_root}

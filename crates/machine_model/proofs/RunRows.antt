@@ -13,7 +13,8 @@ use Rattle.doc_model.specs.declared.tree.Change.TheVariants as change
 use Rattle.doc_model.specs.declared.canvas.Walk.TheVariants.{Up, All}
 use Rattle.doc_model.specs.Updates.{queued, refreshed}
 use Rattle.doc_model.specs.Strokes.{conflict}
-use Rattle.machine_model.specs.State.{State, new_state, IsSettled}
+use Rattle.machine_model.specs.State.{State, new_state}
+use Rattle.machine_model.specs.Settled.{IsSettled}
 use Rattle.machine_model.specs.Event.{Event, Feed, Init, Start, Publish, End, Finish, Act, WalkStart, WalkPublish, WalkEnd}
 use Rattle.machine_model.proofs.RunChains.{Chain, ◌▸◌, ends, all_walked}
 

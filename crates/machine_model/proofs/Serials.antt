@@ -7,7 +7,8 @@ use Rattle.doc_model.specs.declared.job.Kind.{Kind}
 use Rattle.doc_model.specs.declared.command.Command.{Command}
 use Rattle.doc_model.specs.declared.command.Command.TheVariants as command
 use Rattle.doc_model.specs.Strokes.{Fate, Ended, Cancelled, Entry, Strokes, Changes, Undoes, Redoes, Purges, Exports, with_job, with_fate, fed, entries, is_stroke}
-use Rattle.doc_model.specs.Lawful.{lawful_after, lawful, may_follow}
+use Rattle.doc_model.specs.Lawful.{may_follow}
+use Rattle.doc_model.specs.Feeding.{lawful_after, lawful}
 use Rattle.doc_model.proofs.Feeding.{NumbersDiffer, Touches, with_job_touches, lawful_differ, entries_last}
 use Rattle.machine_model.specs.State.{State, Slot, Free, Paints, Walks, head, first}
 use Rattle.machine_model.specs.Guards.{kept_jobs}

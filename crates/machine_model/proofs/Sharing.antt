@@ -12,7 +12,7 @@ use Rattle.doc_model.specs.Strokes.{Jobs, Stroke, runs, runs_at, passes, one_run
 use Rattle.doc_model.specs.Kept.{kept}
 use Rattle.doc_model.proofs.Conflicts.{all_from_at}
 use Rattle.machine_model.specs.State.{Painter, Walker, Slot, Free, Paints, Walks, State, head_stroke}
-use Rattle.machine_model.specs.Slots.{painter_in}
+use Rattle.machine_model.specs.Painters.{painter_in}
 use Rattle.machine_model.specs.Guards.{kept_jobs, blocks, excludes, is_bar}
 use Rattle.machine_model.specs.UnderWay.{Once, SlotIsStarted, UnderWay, both_uni}
 use Rattle.machine_model.specs.Walking.{walks_apart, all_apart}

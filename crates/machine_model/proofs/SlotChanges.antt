@@ -6,7 +6,8 @@ use Rattle.std.proofs.lemmas.Bool.Decides.{nat_tests}
 use Rattle.geom_core.proofs.Tests.{taken, kept, and_left, and_right, both_true, none_left, none_right}
 use Rattle.geom_core.specs.Areas.{Area, meets, right, bottom}
 use Rattle.machine_model.specs.State.{Walker, Slot, Free, Paints, Walks}
-use Rattle.machine_model.specs.Slots.{runs_in, is_painter, is_walker}
+use Rattle.machine_model.specs.Slots.{is_painter, is_walker}
+use Rattle.machine_model.specs.Painters.{runs_in}
 use Rattle.machine_model.specs.Guards.{meets_walker}
 use Rattle.machine_model.specs.Walking.{walks_apart, all_apart}
 use Rattle.machine_model.specs.Counted.{serial_of, SerialBelow, HasNot, SerialsDiffer, painters, ended}

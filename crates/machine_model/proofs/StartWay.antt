@@ -7,7 +7,7 @@ use Rattle.std.specs.List.{list_any, AllByRecursion}
 use Rattle.std.proofs.lemmas.Bool.Decides.{nat_tests}
 use Rattle.pixel_core.specs.Rgba.{Rgba, clear}
 use Rattle.geom_core.specs.Areas.{Point}
-use Rattle.geom_core.specs.Overlaps.{any_holds}
+use Rattle.geom_core.specs.Rects.{any_holds}
 use Rattle.geom_core.specs.Grid.{Key, key_of}
 use Rattle.geom_core.proofs.Tests.{taken, kept, none_left, none_right}
 use Rattle.doc_model.specs.declared.job.Job.{Job}
@@ -23,7 +23,7 @@ use Rattle.doc_model.proofs.Contents.{content-with_content}
 use Rattle.doc_model.proofs.Conflicts.{kept_clear, all_from_at, all_from_all}
 use Rattle.doc_model.specs.Strokes.{Jobs, Stroke, one_run, is_uni, runs_at, runs}
 use Rattle.machine_model.specs.State.{State, Painter, Slot, Free, Paints, Walks}
-use Rattle.machine_model.specs.Slots.{painter_in, runs_in, done, is_done}
+use Rattle.machine_model.specs.Painters.{painter_in, runs_in, done, is_done}
 use Rattle.machine_model.specs.Guards.{kept_jobs, blocks, excludes, kind_at}
 use Rattle.machine_model.specs.Effects.{layer_in}
 use Rattle.machine_model.specs.Step.{StartStep}

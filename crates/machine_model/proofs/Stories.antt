@@ -11,9 +11,10 @@ use Rattle.doc_model.specs.declared.canvas.Canvas.{Canvas}
 use Rattle.machine_model.specs.Told.{Told}
 use Rattle.doc_model.specs.Strokes.{entries, Entry, Strokes, Changes, Undoes, Redoes, Purges, Exports}
 use Rattle.doc_model.specs.Meaning.{start, told_all, Story, told, told_change, undone, redone}
-use Rattle.machine_model.specs.State.{Reach, Whole, Part, State, story, head, first}
+use Rattle.machine_model.specs.State.{Reach, Whole, Part, State, head, first}
+use Rattle.machine_model.specs.Settled.{story}
 use Rattle.geom_core.proofs.Tests.{both_true, and_left, and_right}
-use Rattle.doc_model.specs.Lawful.{is_closed_entry}
+use Rattle.doc_model.specs.Feeding.{is_closed_entry}
 use Rattle.machine_model.specs.Effects.{after_entry, after_change, after_undo, after_redo}
 
 -- the entry is no stroke

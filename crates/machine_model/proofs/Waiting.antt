@@ -1,6 +1,6 @@
 -- What waits for a group goes on waiting.
 use Rattle.doc_model.proofs.Queued.{queued_covers}
-use Rattle.machine_model.specs.Groups.{composes}
+use Rattle.machine_model.specs.Covers.{composes}
 use Rattle.machine_model.specs.UpdateLaws.{GroupsWait}
 use Rattle.machine_model.proofs.WalkPaths.{path_all}
 

@@ -17,11 +17,12 @@ use Rattle.doc_model.specs.Forest.{none, paint, group, has, is_group, children}
 use Rattle.doc_model.proofs.Parents.{side}
 use Rattle.doc_model.proofs.Weights.{tree_distinct, tree_root}
 use Rattle.doc_model.specs.Ids.{IsTree}
-use Rattle.doc_model.specs.Updates.{queued_for}
+use Rattle.doc_model.specs.Queues.{queued_for}
 use Rattle.doc_model.proofs.Paths.{Orderly, side_paint, paint_child_no_group, paint_row_no_group, both_false}
 use Rattle.geom_core.proofs.Tests.{or_cases, or_left, or_right, and_left, and_right}
 use Rattle.machine_model.specs.State.{Child, Walker, Slot, Free, Walks, State}
-use Rattle.machine_model.specs.Groups.{cache, with_pixels, nodes_in, children_of, path_of, on, folded}
+use Rattle.machine_model.specs.Groups.{cache, with_pixels, nodes_in, children_of, path_of, on}
+use Rattle.machine_model.specs.Covers.{folded}
 use Rattle.machine_model.specs.Slots.{is_painter}
 use Rattle.machine_model.specs.Step.{WalkEndStep}
 use Rattle.machine_model.specs.Walks.{walk_value, walk_values, looked_up}

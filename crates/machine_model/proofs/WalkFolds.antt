@@ -8,7 +8,8 @@ use Rattle.pixel_core.specs.Rgba.{Rgba, clear}
 use Rattle.geom_core.specs.Areas.{Point}
 use Rattle.doc_model.specs.Layers.{at}
 use Rattle.machine_model.specs.State.{Child}
-use Rattle.machine_model.specs.Groups.{folded, on}
+use Rattle.machine_model.specs.Groups.{on}
+use Rattle.machine_model.specs.Covers.{folded}
 use Rattle.machine_model.specs.Walks.{walk_values, walk_folded, value_in, looked_up}
 use Rattle.machine_model.specs.Walking.{SameChildren}
 use Rattle.machine_model.specs.Caches.{SamePixels}

@@ -12,7 +12,7 @@ use Rattle.machine_model.specs.Groups.{cache, path_of}
 use Rattle.geom_core.specs.Grid.{Key}
 use Rattle.doc_model.specs.declared.canvas.Patch.{Patch}
 use Rattle.doc_model.specs.Picture.{canvas_area}
-use Rattle.doc_model.specs.Updates.{IsQueue, in_place, alike, all_unlike}
+use Rattle.doc_model.specs.Queues.{IsQueue, in_place, alike, all_unlike}
 use Rattle.machine_model.specs.State.{State, Free, Walks, Walker, head_stroke}
 use Rattle.machine_model.specs.Slots.{is_walker}
 use Rattle.machine_model.specs.Guards.{is_exclusive}

@@ -19,7 +19,8 @@ use Rattle.doc_model.proofs.Weights.{tree_distinct, tree_root}
 use Rattle.doc_model.specs.Ids.{IsTree}
 use Rattle.doc_model.proofs.Paths.{Orderly, KidsIn, on_append, on_order, path_self, path_groups, path_up, path_orderly, order_orderly, group_has, child_group, path_with, order_with, is_group_with, parent_with}
 use Rattle.machine_model.specs.State.{Child}
-use Rattle.machine_model.specs.Groups.{with_pixels, nodes_in, path_of, on, parent_of, folded}
+use Rattle.machine_model.specs.Groups.{with_pixels, nodes_in, path_of, on, parent_of}
+use Rattle.machine_model.specs.Covers.{folded}
 use Rattle.machine_model.specs.Walking.{IsGroupOf}
 use Rattle.machine_model.proofs.GroupChildren.{is_child}
 

@@ -9,10 +9,11 @@ use Rattle.doc_model.specs.Layers.{at}
 use Rattle.doc_model.specs.Picture.{canvas_area}
 use Rattle.doc_model.proofs.Shots.{at-shot_of}
 use Rattle.doc_model.proofs.Conflicts.{meets_at}
-use Rattle.doc_model.specs.Updates.{queued_for}
+use Rattle.doc_model.specs.Queues.{queued_for}
 use Rattle.geom_core.proofs.Tests.{or_cases, or_left, or_right, none_left, none_right, both_true, and_left, and_right, not_true}
 use Rattle.machine_model.specs.State.{Child, Walker, Slot, Free, Paints, Walks, State}
-use Rattle.machine_model.specs.Groups.{children_of, path_of, on, composes}
+use Rattle.machine_model.specs.Groups.{children_of, path_of, on}
+use Rattle.machine_model.specs.Covers.{composes}
 use Rattle.machine_model.specs.Slots.{is_painter}
 use Rattle.machine_model.specs.Step.{WalkStartStep}
 use Rattle.machine_model.specs.Walks.{shots_of, walk_shot, cut_child}

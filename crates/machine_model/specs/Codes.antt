@@ -7,7 +7,8 @@ use Rattle.std.specs.FinMap.{FinMap}
 use Rattle.std.specs.FinSet as set
 use Rattle.std.specs.FinSet.{FinSet}
 use Rattle.std.proofs.Common.{refl, inl, inr}
-use Rattle.geom_core.specs.Grid.{Key, key_cmp, key_code}
+use Rattle.geom_core.specs.Grid.{Key, key_cmp}
+use Rattle.geom_core.specs.Keys.{key_code}
 use Rattle.doc_model.specs.declared.tree.Look.{Look}
 use Rattle.doc_model.specs.declared.job.Job.{Job}
 use Rattle.doc_model.specs.declared.canvas.Patch.{Patch}

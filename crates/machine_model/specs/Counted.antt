@@ -6,7 +6,7 @@ use Rattle.doc_model.specs.Canvases.{IsOfLimits}
 use Rattle.doc_model.specs.Jobs.{writes}
 use Rattle.doc_model.specs.Strokes.{Entry, Strokes, entries}
 use Rattle.machine_model.specs.State.{Child, Slot, Free, Paints, Walks, State}
-use Rattle.machine_model.specs.Slots.{runs_in}
+use Rattle.machine_model.specs.Painters.{runs_in}
 use Rattle.machine_model.specs.Groups.{on}
 use Rattle.machine_model.specs.Guards.{same_pair}
 

@@ -1,7 +1,7 @@
 -- What the events do, and what they leave alone.
 use Rattle.std.specs.Prelude.{◌≡◌, ◌≢◌, ℕ, suc, ◌==◌, true, false, ◌||◌, Some, None, [], ◌∷◌, ◌++◌, slice_get}
 use Rattle.geom_core.specs.Areas.{holds, Point}
-use Rattle.geom_core.specs.Overlaps.{any_holds}
+use Rattle.geom_core.specs.Rects.{any_holds}
 use Rattle.geom_core.specs.Grid.{Key}
 use Rattle.doc_model.specs.declared.job.Kind.{Kind}
 use Rattle.doc_model.specs.declared.canvas.Walk.TheVariants.{Up}
@@ -14,10 +14,11 @@ use Rattle.doc_model.specs.Forest.{is_group, content, with_content}
 use Rattle.doc_model.specs.Picture.{canvas_area}
 use Rattle.doc_model.specs.Strokes.{Stroke}
 use Rattle.doc_model.specs.Laws.{SameOn}
-use Rattle.doc_model.specs.Updates.{queued_for}
+use Rattle.doc_model.specs.Queues.{queued_for}
 use Rattle.machine_model.specs.State.{Painter, Walker, Paints, Walks, State, head_stroke}
 use Rattle.machine_model.specs.Event.{Start, Publish, End, Cancel, WalkPublish}
-use Rattle.machine_model.specs.Groups.{cache, composes, parent_of}
+use Rattle.machine_model.specs.Groups.{cache, parent_of}
+use Rattle.machine_model.specs.Covers.{composes}
 use Rattle.machine_model.specs.Guards.{kept_jobs}
 use Rattle.machine_model.specs.Walks.{walk_value}
 use Rattle.machine_model.specs.Effects.{layer_in}

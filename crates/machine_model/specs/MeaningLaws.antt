@@ -2,7 +2,8 @@
 use Rattle.std.specs.Prelude.{◌≡◌, Bool, true, false, Option, Some, None, List}
 use Rattle.doc_model.specs.Strokes.{Stroke, entries, is_open}
 use Rattle.doc_model.specs.Meaning.{meaning}
-use Rattle.machine_model.specs.State.{State, story, head_stroke, IsSettled}
+use Rattle.machine_model.specs.State.{State, head_stroke}
+use Rattle.machine_model.specs.Settled.{story, IsSettled}
 use Rattle.machine_model.specs.Event.{Event, Feed}
 use Rattle.machine_model.specs.Step.{Step}
 use Rattle.machine_model.specs.Sound.{IsOrderly}

@@ -6,7 +6,8 @@ use Rattle.doc_model.specs.Strokes.{Exports}
 use Rattle.doc_model.specs.Layers.{at}
 use Rattle.doc_model.specs.Picture.{Frame, picture, frame, canvas_area}
 use Rattle.machine_model.specs.State.{State, head}
-use Rattle.machine_model.specs.Groups.{cache, covered}
+use Rattle.machine_model.specs.Groups.{cache}
+use Rattle.machine_model.specs.Covers.{covered}
 use Rattle.machine_model.specs.Event.{Act}
 use Rattle.machine_model.specs.Step.{Step}
 use Rattle.machine_model.specs.Caches.{CachesFold}

@@ -1,7 +1,6 @@
 -- The state of the machine.
-use Rattle.std.specs.Prelude.{◌≡◌, ℕ, suc, zero, Bool, true, false, Option, Some, None, List, [], ◌∷◌, map, length, drop}
+use Rattle.std.specs.Prelude.{ℕ, suc, zero, Bool, true, false, Option, Some, None, List, [], ◌∷◌, length, drop}
 use Rattle.std.specs.Ordering.{nat_cmp}
-use Rattle.std.specs.List.{list_all}
 use Rattle.std.specs.FinMap as map
 use Rattle.std.specs.FinMap.{FinMap}
 use Rattle.std.specs.FinSet.{FinSet}
@@ -17,7 +16,6 @@ use Rattle.doc_model.specs.Layers.{Layer, plain}
 use Rattle.doc_model.specs.Forest.{none}
 use Rattle.doc_model.specs.Picture.{Doc, Frame}
 use Rattle.doc_model.specs.Strokes.{Stroke, Entry, Strokes, entries}
-use Rattle.doc_model.specs.Meaning.{Story}
 
 -- how far a change reaches: the whole document, or these tiles of one layer
 pub data Reach : Type 0 where
@@ -89,10 +87,6 @@ new_state canvas n = record {
     free_slots zero = []
     free_slots (suc n) = Free ∷ free_slots n
 
--- what the entries that have left the queue made
-abbrev pub story : State → Story
-story s = record { past = map (λ (e : Doc × Reach). e.0) s.past; document = s.base; future = map (λ (e : Doc × Reach). e.0) s.future; frames = s.frames; outcomes = s.outcomes }
-
 -- the entries that are left
 abbrev pub waiting : State → List Entry
 waiting s = drop (length s.outcomes) (entries s.fed)
@@ -119,9 +113,3 @@ head_stroke s = stroke_of (head s)
 abbrev pub is_free : Slot → Bool
 is_free Free = true
 is_free slot = false
-
--- every entry has its outcome, and nothing runs or waits
-pub record IsSettled (s : State) : Type 0 where
-  pub entries : length s.outcomes ≡ length (entries s.fed)
-  pub slots : list_all is_free s.slots ≡ true
-  pub updates : s.updates ≡ []

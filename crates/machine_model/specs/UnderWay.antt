@@ -3,7 +3,7 @@ use Rattle.std.specs.Prelude.{◌≡◌, ℕ, suc, zero, ◌<◌, ◌≤◌, Boo
 use Rattle.std.specs.List.{AllByRecursion}
 use Rattle.pixel_core.specs.Rgba.{Rgba}
 use Rattle.geom_core.specs.Areas.{Area, Point}
-use Rattle.geom_core.specs.Overlaps.{any_holds}
+use Rattle.geom_core.specs.Rects.{any_holds}
 use Rattle.geom_core.specs.Grid.{Key, key_of}
 use Rattle.doc_model.specs.declared.job.Job.{Job}
 use Rattle.doc_model.specs.declared.job.Kind.{Kind}
@@ -13,7 +13,8 @@ use Rattle.doc_model.specs.Shots.{shot_of}
 use Rattle.doc_model.specs.Forest.{content, with_content}
 use Rattle.doc_model.specs.Strokes.{Jobs, Stroke, one_run, is_uni}
 use Rattle.machine_model.specs.State.{Slot, Free, Paints, Walks, State, head_stroke}
-use Rattle.machine_model.specs.Slots.{painter_in, runs_in, done, no_painter}
+use Rattle.machine_model.specs.Slots.{no_painter}
+use Rattle.machine_model.specs.Painters.{painter_in, runs_in, done}
 use Rattle.machine_model.specs.Guards.{kept_jobs}
 
 -- the jobs without their kinds

@@ -5,7 +5,7 @@ use Rattle.doc_model.specs.Canvases.{IsOfLimits}
 use Rattle.doc_model.specs.Forest.{is_group}
 use Rattle.doc_model.specs.Picture.{Doc, canvas_area}
 use Rattle.doc_model.specs.UpdateLaws.{Waits}
-use Rattle.machine_model.specs.Groups.{composes}
+use Rattle.machine_model.specs.Covers.{composes}
 
 -- on a canvas of the limits, each point that waits for a walk of the root or of a group of the document goes on waiting as more is queued, also where the list is replaced, and each that is added waits from then on
 abbrev pub GroupsWait : Type 0

@@ -7,7 +7,7 @@ use Rattle.doc_model.specs.declared.canvas.Walk.TheVariants.{Up, All}
 use Rattle.doc_model.specs.declared.canvas.Patch.{Patch}
 use Rattle.doc_model.specs.Forest.{is_group}
 use Rattle.doc_model.specs.Picture.{Doc, canvas_area}
-use Rattle.doc_model.specs.Updates.{IsQueue}
+use Rattle.doc_model.specs.Queues.{IsQueue}
 use Rattle.machine_model.specs.State.{Child, Slot, Walks, State, head_stroke}
 use Rattle.machine_model.specs.Slots.{no_walker}
 use Rattle.machine_model.specs.Groups.{children_of, path_of}

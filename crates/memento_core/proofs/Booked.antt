@@ -3,8 +3,9 @@ use Rattle.std.proofs.Common.{◌≡◌, ℕ, ◌+◌, Bool, true, false, ◌||�
 use Rattle.std.specs.Option.{unwrap_or}
 use Rattle.std.specs.FinMap as map
 use Rattle.std.specs.FinSet as set
-use Rattle.geom_core.specs.Grid.{Key, key_cmp, same_key, key_cmp_total, key_cmp-IsAntisymmetric}
-use Rattle.geom_core.specs.Touches.{HasTouched}
+use Rattle.geom_core.specs.Grid.{Key, key_cmp, same_key}
+use Rattle.geom_core.specs.Keys.{key_cmp_total, key_cmp-IsAntisymmetric}
+use Rattle.geom_core.specs.Exchanged.{HasTouched}
 use Rattle.geom_core.specs.declared.Touched.{Touched}
 use Rattle.geom_core.proofs.Tests.{kept, is_some-None}
 use Rattle.geom_core.proofs.Tiles.{key_same}

@@ -5,7 +5,8 @@ use Rattle.std.proofs.lemmas.List.{drop_more, drop-set-lt, take_more_set, drop_a
 use Rattle.std.specs.Option.{unwrap_or}
 use Rattle.std.specs.FinMap as fin
 use Rattle.std.specs.FinSet as set
-use Rattle.geom_core.specs.Grid.{Key, key_cmp, same_key, key_cmp_total, key_cmp-IsAntisymmetric}
+use Rattle.geom_core.specs.Grid.{Key, key_cmp, same_key}
+use Rattle.geom_core.specs.Keys.{key_cmp_total, key_cmp-IsAntisymmetric}
 use Rattle.geom_core.proofs.Tests.{taken, kept, none_left, none_right, or_left, or_right, is_some-None}
 use Rattle.geom_core.proofs.Tiles.{key_same, key_is}
 use Rattle.memento_core.specs.Planes.{Keyed, tile_under}

@@ -4,7 +4,8 @@ use Rattle.std.specs.FinMap as map
 use Rattle.std.specs.FinSet as set
 use Rattle.std.specs.FinSet.{FinSet}
 use Rattle.std.specs.Coded.{Coded, coded_option}
-use Rattle.geom_core.specs.Grid.{Key, key_cmp, key_code}
+use Rattle.geom_core.specs.Grid.{Key, key_cmp}
+use Rattle.geom_core.specs.Keys.{key_code}
 use Rattle.memento_core.specs.Planes.{Keyed}
 
 -- the code by which contracts tell planes and revisions apart

@@ -3,8 +3,8 @@
 ghost use Rattle.std.specs.Prelude.{◌≡◌, ◌+◌, true, [], ◌∷◌, None, Some, is_some, take, OnOk, OnErr, IsNone, IfSome, IfNone, ◌↔◌};
 ghost use Rattle.std.specs.FinMap as map;
 ghost use Rattle.std.specs.FinSet as set;
-ghost use Rattle.geom_core.specs.Grid.{IsWorldKey};
-ghost use Rattle.geom_core.specs.Touches.{HasTouched};
+ghost use Rattle.geom_core.specs.Keys.{IsWorldKey};
+ghost use Rattle.geom_core.specs.Exchanged.{HasTouched};
 ghost use Rattle.memento_core.specs.Planes.{Keyed};
 ghost use Rattle.memento_core.specs.Revisions.{AllStand, PutsBack, keys_in, noted_under};
 ghost use Rattle.memento_core.specs.Books.{FirstStands, RollsBack, RollsForward, committed, empty_book, first_keys};

@@ -2,9 +2,10 @@
 
 ghost use Rattle.std.specs.Prelude.{◌≡◌, not, Some, All, OnOk, OnErr, IfOk};
 ghost use Rattle.std.specs.FinSet as set;
-ghost use Rattle.geom_core.specs.Grid.{IsWorldKey, key_cmp};
-ghost use Rattle.geom_core.specs.Touches.{HasTouched, bound_of};
-ghost use Rattle.memento_core.specs.KeySets.{widened};
+ghost use Rattle.geom_core.specs.Grid.{key_cmp};
+ghost use Rattle.geom_core.specs.Keys.{IsWorldKey};
+ghost use Rattle.geom_core.specs.Touches.{bound_of};
+ghost use Rattle.geom_core.specs.Exchanged.{widened, HasTouched};
 
 use geom_core::{NoMemory, Rect, TileKey, Touched};
 use std::alloc::Global;
@@ -22,7 +23,8 @@ pub struct KeySet {
 
 impl Model for KeySet {
     ghost use Rattle.std.specs.FinSet as set;
-    ghost use Rattle.geom_core.specs.Grid.{key_cmp, key_code};
+    ghost use Rattle.geom_core.specs.Grid.{key_cmp};
+    ghost use Rattle.geom_core.specs.Keys.{key_code};
     ghost use Rattle.memento_core.specs.KeySets.{IsKeySet};
 
     ghost Value = { set.FinSet key_cmp };
@@ -65,7 +67,7 @@ impl KeySet {
         self.tiles.contains(&key)
     }
 
-    /// How many there are, and the rectangle round them.
+    /// How many there are, and the least rectangle round them.
     pub fn touched(&self) -> Touched
         ensures { HasTouched self.now result }
     {

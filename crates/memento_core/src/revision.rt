@@ -3,8 +3,8 @@
 ghost use Rattle.std.specs.Prelude.{◌≡◌, ◌+◌, ◌<◌, ◌++◌, ◌∷◌, [], length, vec_capacity, OnOk, OnErr};
 ghost use Rattle.std.specs.FinMap as map;
 ghost use Rattle.std.specs.FinSet as set;
-ghost use Rattle.geom_core.specs.Grid.{IsWorldKey};
-ghost use Rattle.geom_core.specs.Touches.{HasTouched};
+ghost use Rattle.geom_core.specs.Keys.{IsWorldKey};
+ghost use Rattle.geom_core.specs.Exchanged.{HasTouched};
 ghost use Rattle.memento_core.specs.Notes.{IsEachOnce, keys_noted, noted};
 ghost use Rattle.memento_core.specs.Revisions.{AllStand, Exchanges, keys_in, noted_under};
 
@@ -63,7 +63,7 @@ impl<T: Drop> Revision<T> {
         self.keys.has(key)
     }
 
-    /// How many keys there are, and the rectangle round their tiles.
+    /// How many keys there are, and the least rectangle round their tiles.
     pub fn touched(&self) -> Touched
         ensures { HasTouched (keys_in self.now) result }
     {

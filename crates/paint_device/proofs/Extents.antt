@@ -10,12 +10,13 @@ use Rattle.std.specs.Map.{lookup}
 use Rattle.geom_core.specs.Areas.{Area, area, lies_in}
 use Rattle.geom_core.specs.Grid.{Key, key_cmp, same_key, tile}
 use Rattle.geom_core.proofs.Tests.{and_left, and_right, both_true}
+use Rattle.geom_core.proofs.Rounds.{lies_itself}
 use Rattle.geom_core.proofs.Tiles.{key_same}
 use Rattle.memento_core.specs.Planes.{tile_under}
 use Rattle.tile_core.specs.Pixels.{Pixels}
 use Rattle.tile_core.proofs.MapViews.{get-view}
 use Rattle.paint_device.specs.Extents.{IsExtent, tile_lies}
-use Rattle.memento_core.specs.KeySets.{lies_if}
+use Rattle.geom_core.specs.Exchanged.{lies_if}
 
 -- whether each tile of these entries lies in the rectangle
 pub all_lie : List (Key × Option Pixels) → Area → Bool
@@ -73,15 +74,9 @@ no_tile_there k = no_room (pos 64 *ℤ k.col) (int_le (pos 0) (pos 64 *ℤ k.row
 pub spanned : (m : BTreeMap Key (Option Pixels)) (extent : Option Area) (rest : List (Key × Option Pixels)) → rest ≡ [] → SpannedSoFar m extent rest → IfSome extent (IsExtent (map.from_entries m.entries))
 spanned m None rest e so = tt
 spanned m (Some a) rest e so = record {
-  around = λ k h. found_lies m.entries k a (so.around a (itself a) (ap (λ es. all_lie es a) e ∙ none_lie a)) (ap (λ o. is_some (unwrap_or o None)) (sym (get-view m k)) ∙ h);
+  around = λ k h. found_lies m.entries k a (so.around a (lies_itself a) (ap (λ es. all_lie es a) e ∙ none_lie a)) (ap (λ o. is_some (unwrap_or o None)) (sym (get-view m k)) ∙ h);
   least = λ d h. so.least d (λ k t. h k (ap (λ o. is_some (unwrap_or o None)) (get-view m k) ∙ t));
 }
-  where
-    at_itself : (x : ℤ) (n : ℕ) → (int_le x x && int_le (x +ℤ pos n) (x +ℤ pos n)) ≡ true
-    at_itself x n = grind (arith, ints)
-
-    itself : (a : Area) → lies_in a a ≡ true
-    itself a = both_true _ _ (at_itself a.x a.w) (at_itself a.y a.h)
 
 pub spans_none : (m : BTreeMap Key (Option Pixels)) (extent : Option Area) (rest : List (Key × Option Pixels)) → rest ≡ [] → SpannedSoFar m extent rest → IfNone extent ((k : Key) → tile_under (map.from_entries m.entries) k ≡ None)
 spans_none m None rest e so = λ k. not_there k (tile_under (map.from_entries m.entries) k) (λ h. found_lies m.entries k nowhere (so.around nowhere refl (ap (λ es. all_lie es nowhere) e ∙ none_lie nowhere)) (ap (λ o. is_some (unwrap_or o None)) (sym (get-view m k)) ∙ h))

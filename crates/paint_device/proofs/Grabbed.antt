@@ -9,8 +9,9 @@ use Rattle.std.proofs.lemmas.List.{take_more}
 use Rattle.std.proofs.Math.Seq.{take-length}
 use Rattle.pixel_core.specs.Rgba.{Rgba}
 use Rattle.geom_core.specs.Areas.{Area, Point}
-use Rattle.geom_core.specs.Overlaps.{any_holds}
-use Rattle.geom_core.specs.Grid.{Key, key_of, key_cmp, same_key, keys_of, all_keys_of, key_cmp_total}
+use Rattle.geom_core.specs.Rects.{any_holds}
+use Rattle.geom_core.specs.Grid.{Key, key_of, key_cmp, same_key, keys_of, all_keys_of}
+use Rattle.geom_core.specs.Keys.{key_cmp_total}
 use Rattle.geom_core.proofs.Keys.{key_of_any_held}
 use Rattle.tile_core.specs.Pixels.{Pixels, pixel_or}
 use Rattle.tile_core.specs.Shots.{Sight, sight, sight_at, with_seen}

@@ -7,7 +7,8 @@ use Rattle.std.specs.FinMap as map
 use Rattle.std.specs.BTreeMap as tree
 use Rattle.std.specs.BTreeMap.{BTreeMap}
 use Rattle.pixel_core.specs.Rgba.{Rgba}
-use Rattle.geom_core.specs.Grid.{Key, key_cmp, same_key, IsWorldKey}
+use Rattle.geom_core.specs.Grid.{Key, key_cmp, same_key}
+use Rattle.geom_core.specs.Keys.{IsWorldKey}
 use Rattle.geom_core.proofs.Tiles.{key_same}
 use Rattle.memento_core.specs.Planes.{tile_under}
 use Rattle.tile_core.specs.Pixels.{Pixels}

@@ -3,7 +3,8 @@ use Rattle.std.proofs.Common.{◌≡◌, Option, sym, ◌∙◌}
 use Rattle.std.specs.FinMap as map
 use Rattle.std.specs.BTreeMap as tree
 use Rattle.std.specs.BTreeMap.{BTreeMap}
-use Rattle.geom_core.specs.Grid.{Key, key_cmp, key_cmp_total, key_cmp-IsAntisymmetric}
+use Rattle.geom_core.specs.Grid.{Key, key_cmp}
+use Rattle.geom_core.specs.Keys.{key_cmp_total, key_cmp-IsAntisymmetric}
 use Rattle.tile_core.specs.Pixels.{Pixels}
 use Rattle.tile_core.proofs.MapViews.{get-view}
 

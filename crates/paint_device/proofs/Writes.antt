@@ -4,7 +4,8 @@ use Rattle.std.specs.FinMap as map
 use Rattle.std.proofs.lemmas.List.{get_or-replicate}
 use Rattle.pixel_core.specs.Rgba.{Rgba, clear}
 use Rattle.geom_core.specs.Areas.{holds, Point}
-use Rattle.geom_core.specs.Grid.{Key, key_of, same_key, tile, key_cmp_total}
+use Rattle.geom_core.specs.Grid.{Key, key_of, same_key, tile}
+use Rattle.geom_core.specs.Keys.{key_cmp_total}
 use Rattle.geom_core.specs.Place.{across, down}
 use Rattle.geom_core.proofs.Tests.{true_or_false, taken, kept}
 use Rattle.geom_core.proofs.Tiles.{own_tile, key_of_holder, key_same, key_is}

@@ -5,7 +5,8 @@ use Rattle.std.specs.Coded.{Coded, code_by, coded×, coded_list, coded_option}
 use Rattle.pixel_core.specs.Rgba.{Rgba}
 use Rattle.pixel_core.specs.Words.{pixel_code}
 use Rattle.geom_core.specs.Areas.{holds, Point}
-use Rattle.geom_core.specs.Grid.{Key, key_of, same_key, key_code, IsWorldKey}
+use Rattle.geom_core.specs.Grid.{Key, key_of, same_key}
+use Rattle.geom_core.specs.Keys.{key_code, IsWorldKey}
 use Rattle.memento_core.specs.Planes.{Keyed, tile_under}
 use Rattle.tile_core.specs.Pixels.{Pixels, pixel_or}
 use Rattle.tile_core.specs.Blocks.{Piece, piece_at}

@@ -3,8 +3,9 @@
 ghost use Rattle.std.specs.Prelude.{◌+◌, ◌∷◌, [], ◌≡◌, IfOk, OnOk, OnErr, IfSome, IfNone, IsTrue, true, false, Some, None};
 ghost use Rattle.std.specs.Option.{option_copied};
 ghost use Rattle.std.specs.FinMap as map;
-ghost use Rattle.geom_core.specs.Grid.{Key, IsWorldKey, keys_of, all_keys_of};
-ghost use Rattle.geom_core.specs.Overlaps.{any_holds};
+ghost use Rattle.geom_core.specs.Grid.{Key, keys_of, all_keys_of};
+ghost use Rattle.geom_core.specs.Keys.{IsWorldKey};
+ghost use Rattle.geom_core.specs.Rects.{any_holds};
 ghost use Rattle.geom_core.specs.Areas.{Point, point, holds, world};
 ghost use Rattle.memento_core.specs.Planes.{tile_under};
 ghost use Rattle.tile_core.specs.Blocks.{LaysBlock};

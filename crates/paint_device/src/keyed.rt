@@ -5,11 +5,12 @@ ghost use Rattle.std.specs.Option.{option_copied, unwrap_or};
 ghost use Rattle.std.specs.FinMap as map;
 ghost use Rattle.std.specs.BTreeMap as tree;
 ghost use Rattle.geom_core.specs.Areas.{Area};
-ghost use Rattle.geom_core.specs.Grid.{Key, key_cmp, IsWorldKey};
+ghost use Rattle.geom_core.specs.Grid.{Key, key_cmp};
+ghost use Rattle.geom_core.specs.Keys.{IsWorldKey};
 ghost use Rattle.memento_core.specs.Planes.{tile_under};
 ghost use Rattle.tile_core.specs.Maps.{PutsUnder};
 ghost use Rattle.paint_device.specs.InPlace.{LaidAlone, LaidUnder};
-ghost use Rattle.memento_core.specs.KeySets.{lies_if};
+ghost use Rattle.geom_core.specs.Exchanged.{lies_if};
 ghost use Rattle.paint_device.specs.Extents.{IsExtent, tile_lies};
 
 use geom_core::{NoMemory, Rect, TileKey};

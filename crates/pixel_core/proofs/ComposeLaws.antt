@@ -4,7 +4,8 @@ use Rattle.std.specs.Prelude.{if◌then◌else◌}
 use Rattle.std.proofs.lemmas.Bool.Decides.{nat_tests}
 use Rattle.pixel_core.specs.declared.blending.Op.{Op}
 use Rattle.pixel_core.specs.declared.blending.Op.TheVariants.{Over, Erase, Multiply, Screen, Addition}
-use Rattle.pixel_core.specs.Rgba.{Rgba, rgba, clear, if_canonical, IsCanonical}
+use Rattle.pixel_core.specs.Rgba.{Rgba, rgba, clear, if_canonical}
+use Rattle.pixel_core.specs.Canonical.{IsCanonical}
 use Rattle.pixel_core.specs.Compose.{blend, weight, channel, erased, laid, composed_at, compose, mul, nearest}
 use Rattle.pixel_core.specs.Laws.{StaysCanonical, UnseenLeaves, OpaqueHides, OnClear, OpaqueErases}
 use Rattle.pixel_core.proofs.Rounding.{exact_at, whole, nothing, mul_byte}

@@ -3,7 +3,8 @@
 ghost use Rattle.std.specs.Prelude.{◌≡◌};
 ghost use Rattle.std.proofs.Common.{rules};
 ghost use Rattle.std.specs.Cmp.Rules.{comparing};
-ghost use Rattle.pixel_core.specs.Rgba.{if_canonical, IsCanonical};
+ghost use Rattle.pixel_core.specs.Rgba.{if_canonical};
+ghost use Rattle.pixel_core.specs.Canonical.{IsCanonical};
 ghost use Rattle.pixel_core.specs.Words.{bytes_of};
 
 use std::marker::Model;
@@ -19,7 +20,8 @@ pub struct Pixel {
 impl Model for Pixel {
     ghost use Rattle.std.specs.Prelude.{ℕ};
     ghost use Rattle.std.proofs.Common.{ap};
-    ghost use Rattle.pixel_core.specs.Rgba.{Rgba, IsCanonical};
+    ghost use Rattle.pixel_core.specs.Rgba.{Rgba};
+    ghost use Rattle.pixel_core.specs.Canonical.{IsCanonical};
     ghost use Rattle.pixel_core.specs.Words.{pixel_of, word_of, word_back};
 
     ghost Value = { Rgba };

@@ -2,7 +2,8 @@
 use Rattle.std.proofs.Common.{◌≡◌, ◌≢◌, ℕ, ◌<◌, List, length, get_or, arith, ap, sym, ◌∙◌}
 use Rattle.pixel_core.specs.declared.blending.Op.{Op}
 use Rattle.pixel_core.specs.declared.blending.Op.TheVariants.{Over, Erase}
-use Rattle.pixel_core.specs.Rgba.{Rgba, clear, IsCanonical}
+use Rattle.pixel_core.specs.Rgba.{Rgba, clear}
+use Rattle.pixel_core.specs.Canonical.{IsCanonical}
 use Rattle.pixel_core.specs.Compose.{compose}
 use Rattle.pixel_core.proofs.Rounding.{whole}
 use Rattle.pixel_core.proofs.ComposeLaws.{unseen_leaves, opaque_hides, on_clear}

@@ -1,7 +1,8 @@
 -- Rows of pixels laid on others.
 use Rattle.std.specs.Prelude.{◌≡◌, ℕ, ◌<◌, ◌≤◌, List, length, slice_index_or}
 use Rattle.pixel_core.specs.declared.blending.Op.{Op}
-use Rattle.pixel_core.specs.Rgba.{Rgba, clear, IsCanonical}
+use Rattle.pixel_core.specs.Rgba.{Rgba, clear}
+use Rattle.pixel_core.specs.Canonical.{IsCanonical}
 use Rattle.pixel_core.specs.Compose.{compose}
 
 -- each new pixel is the source of its place laid on the old one, with the strength of its place

@@ -1,7 +1,8 @@
 //! Blocks of pixels laid on others, at full strength.
 
 ghost use Rattle.std.specs.Prelude.{◌≡◌, ◌<◌, ℕ, length, slice_index_or};
-ghost use Rattle.pixel_core.specs.Rgba.{clear, IsCanonical};
+ghost use Rattle.pixel_core.specs.Rgba.{clear};
+ghost use Rattle.pixel_core.specs.Canonical.{IsCanonical};
 ghost use Rattle.pixel_core.specs.declared.blending.Op.TheVariants.{Over};
 ghost use Rattle.pixel_core.specs.Compose.{compose as composed};
 ghost use Rattle.pixel_rows.specs.Rows.{CoversWithin, Dims, LaysRow};

@@ -1,7 +1,8 @@
 //! Rows of pixels laid on others.
 
 ghost use Rattle.std.specs.Prelude.{◌≡◌, ◌*◌, ◌+◌, ◌≤◌, ◌<◌, ℕ, length, slice_index_or, IfSome};
-ghost use Rattle.pixel_core.specs.Rgba.{Rgba, clear, IsCanonical};
+ghost use Rattle.pixel_core.specs.Rgba.{Rgba, clear};
+ghost use Rattle.pixel_core.specs.Canonical.{IsCanonical};
 ghost use Rattle.pixel_core.specs.Compose.{compose as composed};
 ghost use Rattle.pixel_rows.specs.Rows.{LaysRow, LaysPart, Dims};
 

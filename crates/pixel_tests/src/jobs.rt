@@ -7,7 +7,7 @@ ghost use Rattle.geom_core.specs.Grid.{same_key, all_keys_of};
 ghost use Rattle.doc_model.specs.Jobs.{writes, checks};
 ghost use Rattle.doc_model.specs.Lawful.{within_limits};
 
-use crate::fixtures::{ORIGIN, rect};
+use crate::fixtures::{ORIGIN, RED, rect, shows};
 use doc_model::{Job, Kind};
 use geom_core::{NoMemory, Rect, TileKey};
 use job_core::{Painted, PointWork, paint_tile, point_rect};
@@ -17,8 +17,6 @@ use std::process::Abort;
 use std::slice;
 use std::test::Fail;
 use tile_core::{Shot, Tile};
-
-const RED: [u8; 4] = [255, 0, 0, 255];
 
 const BLUE: [u8; 4] = [0, 0, 255, 255];
 
@@ -134,16 +132,6 @@ pub(crate) fn laid_in_place(rt: &impl Abort, alloc: Global, job: Job) -> Result<
     let mut tile = red_spot(alloc)?;
     assert!(rt; tile.lay_alone(&work(rt, &(Kind::Seq, job))));
     Ok(tile)
-}
-
-/// Pixels by column and row.
-type Wanted = [(u8, u8, [u8; 4]); 3];
-
-fn shows(rt: &impl Abort, tile: &Tile, wanted: Wanted) {
-    for (col, row, want) in wanted {
-        assert!(rt; col < 64 && row < 64);
-        assert_eq!(rt; tile.pixel(col, row).bytes(), want);
-    }
 }
 
 #[test]

@@ -6,7 +6,7 @@ use pixel_rows::{compose_row, lay_colour, lay_masked, lay_sources};
 /// The longest row that is tried.
 const LONGEST: usize = 100;
 
-const LENGTHS: [usize; 7] = [0, 1, 15, 16, 17, 64, 100];
+const LENGTHS: [usize; 7] = [0, 1, 15, 16, 17, 67, 100];
 
 const OPS: [Op; 5] = [Op::Over, Op::Erase, Op::Multiply, Op::Screen, Op::Addition];
 
@@ -70,13 +70,15 @@ fn row_of(kind: Kind, seed: u32) -> [Pixel; LONGEST] {
     row
 }
 
-fn mask_of(seed: u32) -> [u8; LONGEST] {
+/// Blocks of strengths: none, whole, mixed, and the ends and the middle by turns.
+fn mask_of(seed: u8) -> [u8; LONGEST] {
     let mut mask = [0; LONGEST];
     for i in 0..LONGEST {
         mask[i] = match i / 16 % 4 {
             0 => 0,
             1 => 255,
-            _ => ((i % 256) as u32 * 37 % 256 ^ seed % 256) as u8,
+            2 => ((i % 256) as u32 * 37 % 256 ^ seed as u32 % 256) as u8,
+            _ => BYTES[(i + seed as usize) % 6],
         };
     }
     mask
@@ -106,7 +108,7 @@ fn wrong_of(
 /// How many pixels the four functions get wrong.
 fn wrongs(op: Op, above: Kind, below: Kind, len: usize, strength: u8) -> u32 {
     let len = len.min(LONGEST);
-    let (sources, old, mask) = (row_of(above, 6), row_of(below, 7), mask_of(11));
+    let (sources, old, mask) = (row_of(above, 6), row_of(below, 7), mask_of(strength));
     let colour = sources[5];
     let mut laid = old;
     lay_sources(op, &sources[..len], strength, &mut laid[..len]);

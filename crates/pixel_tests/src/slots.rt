@@ -21,3 +21,22 @@ fn walkers_in_order(rt: HostRuntime) -> Result<(), Fail> {
     }
     Ok(())
 }
+
+#[test]
+fn one_slot(rt: HostRuntime) -> Result<(), Fail> {
+    let mut slots: Slots<u8> = Slots::new(rt.alloc(), 1)?;
+    let first = slots.free();
+    slots.put(0, 7, None);
+    assert!(rt; slots.running().is_empty());
+    for (answer, wanted) in [
+        (first, Some(0)),
+        (slots.free(), None),
+        (slots.work(0).copied(), Some(7)),
+        (slots.work(1).copied(), None),
+        (slots.clear(0), Some(7)),
+        (slots.clear(0), None),
+    ] {
+        assert_eq!(rt; answer, wanted);
+    }
+    Ok(())
+}

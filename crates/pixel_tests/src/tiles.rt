@@ -5,7 +5,7 @@ ghost use Rattle.std.specs.FinMap as map;
 ghost use Rattle.tile_core.specs.Films.{newest};
 ghost use Rattle.tile_core.specs.Frames.{scene, with_put};
 
-use crate::fixtures::{ORIGIN, crosses, opaque, rect};
+use crate::fixtures::{ORIGIN, RED, crosses, opaque, rect, shows};
 use geom_core::{NoMemory, TileKey};
 use pixel_core::Pixel;
 use std::alloc::Global;
@@ -16,20 +16,22 @@ use tile_core::{Block, Damage, Film, Frame, Marks, Shot, Tile};
 const SECOND: TileKey = TileKey { row: 0, col: 1 };
 
 #[test]
-fn a_block_on_a_shared_tile(rt: HostRuntime) -> Result<(), Fail> {
+fn tiles_and_a_block_on_a_shared_one(rt: HostRuntime) -> Result<(), Fail> {
     let alloc = rt.alloc();
-    let red = opaque(255, 0, 0);
     let tile = Tile::clear(alloc)?;
     let shared = tile.share()?;
     let mut block = Block::new(alloc, ORIGIN, rect(&rt, 0, 0, 1, 1))?;
-    block.set(0, 0, red);
+    block.set(0, 0, opaque(255, 0, 0));
     let written = tile.with_region(alloc, &block)?;
-    for (tile, want) in [
-        (&written, red),
-        (&tile, Pixel::CLEAR),
-        (&shared, Pixel::CLEAR),
+    let plain = Tile::plain(alloc, Pixel::new(1, 2, 3, 77))?;
+    let [none, faint] = [[0; 4], [1, 2, 3, 77]];
+    for (tile, corner, next, last) in [
+        (&written, RED, none, none),
+        (&tile, none, none, none),
+        (&shared, none, none, none),
+        (&plain, faint, faint, faint),
     ] {
-        assert_eq!(rt; tile.pixel(0, 0), want);
+        shows(&rt, tile, [(0, 0, corner), (1, 0, next), (63, 63, last)]);
     }
     crosses(&block);
     crosses(&written);

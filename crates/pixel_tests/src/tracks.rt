@@ -1,9 +1,13 @@
 //! Tracks against their dabs in turn, and worked values.
 
-ghost use Rattle.std.specs.Prelude.{◌≡◌, ◌≤◌};
+ghost use Rattle.std.specs.Prelude.{◌≡◌, ◌≤◌, true};
+ghost use Rattle.std.specs.List.{list_all};
+ghost use Rattle.geom_core.specs.Areas.{lies_in, world};
+ghost use Rattle.doc_model.specs.Jobs.{squares};
 
 use crate::fixtures::ORIGIN;
 use crate::jobs::{laid_from_a_shot, laid_in_place, pixel, red_spot, work};
+use brush_path::{cells_of, jobs_of};
 use doc_model::{Job, Kind, Stamp, Track, track_dab, track_len};
 use geom_core::{NoMemory, TileKey};
 use pixel_core::Op;
@@ -70,6 +74,34 @@ fn tracks_leave_the_world(rt: HostRuntime) {
         let track = track(&rt, &[(0, 0), end], 255, stamp(r, false, Op::Over));
         assert_eq!(rt; Job::Track { track, cell }.check().is_ok(), checks);
     }
+}
+
+/// Whether all dabs of the track lie in the world.
+fn lies_in_world(track: &Track) -> bool
+    ensures { result ≡ true → list_all (λ a. lies_in a world) (squares track.now) ≡ true }
+{
+    let job = Job::Track {
+        track: *track,
+        cell: ORIGIN,
+    };
+    job.check().is_ok()
+}
+
+#[test]
+fn a_path_over_four_tiles(rt: HostRuntime) -> Result<(), Fail> {
+    let alloc = rt.alloc();
+    let track = track(&rt, &[(0, 0), (1, 0)], 1, stamp(1, false, Op::Over));
+    assert!(rt; track_len(&track) <= 4096 && lies_in_world(&track));
+    let (cells, jobs) = (cells_of(alloc, &track)?, jobs_of(alloc, &track)?);
+    assert!(rt; cells.len() == 4 && jobs.len() == 4);
+    let places = [(-1, -1), (-1, 0), (0, -1), (0, 0)];
+    for (i, (row, col)) in places.into_iter().enumerate() {
+        let cell = TileKey { row, col };
+        assert!(rt;
+            cells.get(i) == Some(&cell) && jobs.get(i) == Some(&Job::Track { track, cell })
+        );
+    }
+    Ok(())
 }
 
 /// Lays a dab that begins in the tile, or none.

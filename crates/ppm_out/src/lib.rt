@@ -4,4 +4,4 @@
 mod picture;
 mod rows;
 
-pub use picture::{write_frame, write_frames};
+pub use picture::{write_frame, write_frame_by, write_frames_by};

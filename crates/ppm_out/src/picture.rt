@@ -9,26 +9,56 @@ ghost use Rattle.io_edge.specs.Faults.{HasCause};
 ghost use Rattle.ppm_out.specs.Pictures.{header, frame_bytes};
 ghost use Rattle.ppm_out.specs.Scenes.{colours_of, scene_bytes};
 
-use crate::rows::lay_rows;
+use crate::rows::{Alone, LaysRows, Threaded, lay_rows};
 use io_edge::{Failed, Sink, write_all, write_pieces};
 use itoa::Buffer;
 use std::thread::Threads;
 use tile_core::{Film, Frame};
 
 /// Writes a frame as a pixmap: a header, and then red, green and blue of each point, the rows from
-/// the top and each row from the left. The room is for at least three bytes a column. As many rows
-/// as it has room for are laid at a time, by at most so many threads, and written; room for 64 rows a
-/// thread is best, since a tile has as many. It takes no memory but that of the threads.
+/// the top and each row from the left. `row` is room for at least three bytes a column, and as many
+/// rows as it has room for are written at a time. No memory.
 ///
 /// # Errors
 /// `Failed` only where the sink's count of faults rose. The sink then took the first of the bytes.
-pub fn write_frame<R: Threads + Sync, K: Sink>(
+pub fn write_frame<K: Sink>(frame: &Frame, row: &mut [u8], out: &mut K) -> Result<(), Failed>
+    requires room { 3 * frame.now.width ≤ length row.old }
+    ensures ok { OnOk result (Appends (K.taken out.old) (K.taken out.new) (frame_bytes frame.now.width frame.now.height (colours_of frame.now))) }
+    ensures err { OnErr result (AppendsPrefix (K.taken out.old) (K.taken out.new) (frame_bytes frame.now.width frame.now.height (colours_of frame.now))) }
+    ensures cause { HasCause (K.faults out.old) (K.faults out.new) result }
+{
+    write_bands(&Alone, frame, row, out)
+}
+
+/// The same, where the rows that there is room for are laid by at most so many threads. Room for 64
+/// rows a thread is best, since a tile has as many. It takes no memory but that of the threads.
+///
+/// # Errors
+/// As of `write_frame`.
+pub fn write_frame_by<R: Threads + Sync, K: Sink>(
     rt: &R,
     threads: u8,
     frame: &Frame,
     room: &mut [u8],
     out: &mut K,
 ) -> Result<(), Failed>
+    requires room { 3 * frame.now.width ≤ length room.old }
+    ensures ok { OnOk result (Appends (K.taken out.old) (K.taken out.new) (frame_bytes frame.now.width frame.now.height (colours_of frame.now))) }
+    ensures err { OnErr result (AppendsPrefix (K.taken out.old) (K.taken out.new) (frame_bytes frame.now.width frame.now.height (colours_of frame.now))) }
+    ensures cause { HasCause (K.faults out.old) (K.faults out.new) result }
+{
+    let hands = Threaded { rt, threads };
+    write_bands(&hands, frame, room, out)
+}
+
+/// Writes a frame as a pixmap, by bands of as many rows as there is room for.
+fn write_bands<L: LaysRows, K: Sink>(
+    hands: &L,
+    frame: &Frame,
+    room: &mut [u8],
+    out: &mut K,
+) -> Result<(), Failed>
+    requires can { L.can }
     requires room { 3 * frame.now.width ≤ length room.old }
     ensures ok { OnOk result (Appends (K.taken out.old) (K.taken out.new) (frame_bytes frame.now.width frame.now.height (colours_of frame.now))) }
     ensures err { OnErr result (AppendsPrefix (K.taken out.old) (K.taken out.new) (frame_bytes frame.now.width frame.now.height (colours_of frame.now))) }
@@ -43,29 +73,29 @@ pub fn write_frame<R: Threads + Sync, K: Sink>(
     while top < rows {
         let n = (rows - top).min(most);
         let band = &mut room[..across * n as usize];
-        write_band(rt, threads, frame, top, n, band, out)?;
+        write_band(hands, frame, top, n, band, out)?;
         top += n;
     }
     Ok(())
 }
 
 /// Lays n rows of a frame from `top` on in a band of just as many bytes, and writes them.
-fn write_band<R: Threads + Sync, K: Sink>(
-    rt: &R,
-    threads: u8,
+fn write_band<L: LaysRows, K: Sink>(
+    hands: &L,
     frame: &Frame,
     top: u16,
     n: u16,
     band: &mut [u8],
     out: &mut K,
 ) -> Result<(), Failed>
+    requires can { L.can }
     requires inside { top + n ≤ frame.now.height }
     requires whole { length band.old ≡ 3 * (frame.now.width * n) }
     ensures ok { OnOk result (Appends (K.taken out.old) (K.taken out.new) (rows_colours frame.now top n)) }
     ensures err { OnErr result (AppendsPrefix (K.taken out.old) (K.taken out.new) (rows_colours frame.now top n)) }
     ensures cause { HasCause (K.faults out.old) (K.faults out.new) result }
 {
-    lay_rows(rt, threads, frame, top, n, band);
+    hands.lay(frame, top, n, band);
     write_all(out, band)
 }
 
@@ -75,7 +105,7 @@ fn write_band<R: Threads + Sync, K: Sink>(
 ///
 /// # Errors
 /// `Failed` only where the sink's count of faults rose. The sink then took the first of the bytes.
-pub fn write_frames<R: Threads + Sync, K: Sink>(
+pub fn write_frames_by<R: Threads + Sync, K: Sink>(
     rt: &R,
     threads: u8,
     film: &Film,

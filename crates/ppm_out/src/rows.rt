@@ -1,6 +1,6 @@
-//! Rows of frames, laid by several threads.
+//! Rows of frames, laid by the caller or by several threads.
 
-ghost use Rattle.std.specs.Prelude.{◌≡◌, ◌+◌, ◌-◌, ◌*◌, ◌≤◌, ◌<◌, length};
+ghost use Rattle.std.specs.Prelude.{◌≡◌, ◌+◌, ◌-◌, ◌*◌, ◌≤◌, ◌<◌, ⊤, length};
 ghost use Rattle.std.specs.Thread.{IsSync};
 ghost use Rattle.tile_core.specs.Frames.{rows_colours};
 
@@ -12,6 +12,46 @@ const LEAST: u16 = 64;
 
 /// From how many bytes on a band is worth a second thread.
 const WORTH_TWO: usize = 200_000;
+
+/// Who lays rows of a frame.
+pub(crate) trait LaysRows {
+    /// What has to be known first, as that threads may share their runtime.
+    ghost can: { Type 0 };
+
+    /// Writes the colours of n rows from `top` on in a band of just as many bytes.
+    fn lay(&self, frame: &Frame, top: u16, n: u16, band: &mut [u8])
+        requires can { Self.can }
+        requires inside { top + n ≤ frame.now.height }
+        requires whole { length band.old ≡ 3 * (frame.now.width * n) }
+        ensures { band.new ≡ rows_colours frame.now top n };
+}
+
+/// The caller alone.
+#[derive(Clone, Copy)]
+pub(crate) struct Alone;
+
+impl LaysRows for Alone {
+    ghost can = { ⊤ };
+
+    fn lay(&self, frame: &Frame, top: u16, n: u16, band: &mut [u8]) {
+        frame.rows_into(top, n, band);
+    }
+}
+
+/// At most so many threads.
+#[derive(Drop)]
+pub(crate) struct Threaded<'a, R> {
+    pub(crate) rt: &'a R,
+    pub(crate) threads: u8,
+}
+
+impl<'a, R: Threads + Sync> LaysRows for Threaded<'a, R> {
+    ghost can = { IsSync R.row };
+
+    fn lay(&self, frame: &Frame, top: u16, n: u16, band: &mut [u8]) {
+        lay_rows(self.rt, self.threads, frame, top, n, band);
+    }
+}
 
 /// Writes the colours of n rows from `top` on, by at most so many threads. Each half goes to a half of them.
 #[cycle(halves)]

@@ -8,7 +8,7 @@ use crate::fixtures::opaque;
 use geom_core::{NoMemory, TileKey};
 use io_edge::{Failed, MemSink};
 use pixel_core::Pixel;
-use ppm_out::{write_frame, write_frames};
+use ppm_out::{write_frame, write_frames_by};
 use std::alloc::Global;
 use std::test::Fail;
 use tile_core::{Film, Frame, Marks};
@@ -22,13 +22,10 @@ fn one_point_of_paper(rt: HostRuntime) -> Result<(), Fail> {
     let frame = Frame::new(alloc, 1, 1, opaque(0x33, 0x66, 0x99))?;
     let mut row = [0u8; 3];
     let mut whole = MemSink::new(vec![in alloc; 0; 64]?, 64, Vec::new(alloc));
-    assert_eq!(rt; write_frame(&rt, 1, &frame, &mut row, &mut whole), Ok(()));
+    assert_eq!(rt; write_frame(&frame, &mut row, &mut whole), Ok(()));
     assert_eq!(rt; whole.bytes(), b"P6\n1 1\n255\n\x33\x66\x99".as_slice());
     let mut part = MemSink::new(vec![in alloc; 0; 64]?, 8, vec![in alloc; 2]?);
-    assert_eq!(rt;
-        write_frame(&rt, 1, &frame, &mut row, &mut part),
-        Err(Failed)
-    );
+    assert_eq!(rt; write_frame(&frame, &mut row, &mut part), Err(Failed));
     assert_eq!(rt; part.bytes(), b"P6\n".as_slice());
     Ok(())
 }
@@ -59,7 +56,10 @@ fn two_frames(rt: HostRuntime) -> Result<(), Fail> {
     let film = two_points(alloc)?;
     let mut picture = [0u8; 3];
     let mut out = MemSink::new(vec![in alloc; 0; 64]?, 64, Vec::new(alloc));
-    assert_eq!(rt; write_frames(&rt, 1, &film, &mut picture, &mut out), Ok(()));
+    assert_eq!(rt;
+        write_frames_by(&rt, 1, &film, &mut picture, &mut out),
+        Ok(())
+    );
     assert_eq!(rt;
         out.bytes(),
         b"P6\n1 1\n255\n\x01\x02\x03P6\n1 1\n255\n\x04\x05\x06".as_slice()

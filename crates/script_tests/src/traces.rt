@@ -103,7 +103,7 @@ fn fed(alloc: Global, bytes: &[u8]) -> Option<usize> {
         return None;
     }
     match replay(alloc, bytes) {
-        Ok(replayed) => Some(replayed.into_script().len()),
+        Ok(replayed) => Some(replayed.script().len()),
         Err(_) => None,
     }
 }

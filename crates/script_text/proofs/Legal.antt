@@ -6,7 +6,8 @@ use Rattle.doc_model.specs.declared.command.Command.{Command}
 use Rattle.doc_model.specs.declared.command.Command.TheVariants as command
 use Rattle.doc_model.specs.declared.canvas.Canvas.{Canvas}
 use Rattle.doc_model.specs.Strokes.{Entry, entries, is_stroke, is_open_stroke, has_room, is_export}
-use Rattle.doc_model.specs.Lawful.{may_follow, lawful}
+use Rattle.doc_model.specs.Lawful.{may_follow}
+use Rattle.doc_model.specs.Feeding.{lawful}
 use Rattle.doc_model.proofs.Feeding.{lawful_last}
 use Rattle.command_log.specs.declared.refusal.Misfit.{Misfit}
 use Rattle.command_log.specs.declared.refusal.Misfit.TheVariants.{UsedAgain, UnknownStroke, ClosedStroke, TooManyJobs, TooManyExports}

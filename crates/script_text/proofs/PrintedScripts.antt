@@ -5,7 +5,8 @@ use Rattle.std.proofs.lemmas.List.Elements.{filter_map-append}
 use Rattle.doc_model.specs.declared.canvas.Canvas.{Canvas}
 use Rattle.doc_model.specs.declared.command.Command.{Command}
 use Rattle.doc_model.specs.Strokes.{Entry, fed, all_fed, entries}
-use Rattle.doc_model.specs.Lawful.{may_follow, lawful_after, lawful, is_closed_entry}
+use Rattle.doc_model.specs.Lawful.{may_follow}
+use Rattle.doc_model.specs.Feeding.{lawful_after, lawful, is_closed_entry}
 use Rattle.script_lines.specs.Lines.{lines}
 use Rattle.script_forms.specs.Jobs.{Fields}
 use Rattle.script_forms.specs.Forms.{canvas_text}

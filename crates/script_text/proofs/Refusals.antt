@@ -10,7 +10,8 @@ use Rattle.doc_model.specs.declared.canvas.Canvas.{Canvas}
 use Rattle.doc_model.specs.declared.command.Command.{Command}
 use Rattle.doc_model.specs.declared.command.Command.TheVariants as command
 use Rattle.doc_model.specs.Strokes.{Entry, Strokes, Changes, Undoes, Redoes, Purges, Exports, fed, all_fed, entries, is_open_stroke, is_open as is_open_fate}
-use Rattle.doc_model.specs.Lawful.{is_closed_entry, may_follow, lawful_after, lawful}
+use Rattle.doc_model.specs.Lawful.{may_follow}
+use Rattle.doc_model.specs.Feeding.{is_closed_entry, lawful_after, lawful}
 use Rattle.script_lines.specs.declared.cause.Cause.{Cause}
 use Rattle.script_lines.specs.declared.cause.Cause.TheVariants.{StrokeLeft}
 use Rattle.script_text.specs.declared.reading.Start.{Start}

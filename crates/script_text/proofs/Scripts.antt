@@ -5,7 +5,7 @@ use Rattle.std.specs.List.{list_all}
 use Rattle.std.proofs.lemmas.Bool.Decides.{nat_tests}
 use Rattle.geom_core.proofs.Tests.{and_left, and_right}
 use Rattle.doc_model.specs.Canvases.{IsOfLimits}
-use Rattle.doc_model.specs.Lawful.{lawful, is_closed_entry}
+use Rattle.doc_model.specs.Feeding.{lawful, is_closed_entry}
 use Rattle.doc_model.specs.Strokes.{entries}
 use Rattle.script_lines.specs.Colours.{is_pixel}
 use Rattle.script_forms.specs.Ranges.{in_limits, in_range}

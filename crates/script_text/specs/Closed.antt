@@ -8,7 +8,7 @@ use Rattle.doc_model.specs.declared.command.Command.{Command}
 use Rattle.doc_model.specs.contracts.command.Command as command_row
 use Rattle.doc_model.specs.Strokes.{entries}
 use Rattle.script_forms.specs.Ranges.{in_limits, in_range}
-use Rattle.doc_model.specs.Lawful.{lawful, is_closed_entry}
+use Rattle.doc_model.specs.Feeding.{lawful, is_closed_entry}
 use Rattle.script_text.specs.Script.{Contents, contents}
 
 abbrev pub contents_code : Coded Contents

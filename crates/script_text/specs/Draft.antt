@@ -1,7 +1,7 @@
 -- What holds of the commands of a draft.
 use Rattle.std.specs.Prelude.{◌≡◌, true}
 use Rattle.std.specs.List.{list_all}
-use Rattle.doc_model.specs.Lawful.{lawful}
+use Rattle.doc_model.specs.Feeding.{lawful}
 use Rattle.script_forms.specs.Ranges.{in_range}
 use Rattle.script_text.specs.declared.draft.Draft.TheInside.{Inside}
 

@@ -3,7 +3,7 @@
 ghost use Rattle.std.specs.Prelude.{◌≡◌, ◌&&◌, true, false, map, IfOk, Err};
 ghost use Rattle.doc_model.specs.Tracks.{point_of};
 ghost use Rattle.std.specs.List.{list_all};
-ghost use Rattle.doc_model.specs.Lawful.{lawful};
+ghost use Rattle.doc_model.specs.Feeding.{lawful};
 ghost use Rattle.script_lines.specs.Colours.{is_pixel as said_pixel};
 ghost use Rattle.script_text.specs.declared.script.MakeRefusal.TheVariants.{NotScript, NoMemory};
 ghost use Rattle.script_text.specs.Script.{contents};

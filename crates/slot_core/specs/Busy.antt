@@ -3,7 +3,7 @@ use Rattle.std.specs.Prelude.{ℕ, List, Option, Some, None, slice_get, refl}
 use Rattle.std.specs.List.{filter_map}
 use Rattle.std.specs.Coded.{Coded, code_by, coded×, coded_option}
 use Rattle.geom_core.specs.Areas.{Area}
-use Rattle.geom_core.specs.Overlaps.{area_code}
+use Rattle.geom_core.specs.Rects.{area_code}
 use Rattle.slot_core.specs.declared.Busy.{Busy}
 
 -- the work, and where it walks

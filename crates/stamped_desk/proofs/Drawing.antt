@@ -15,7 +15,8 @@ use Rattle.doc_model.specs.Strokes.{Stroke}
 use Rattle.job_core.specs.Paints.{layer_of}
 use Rattle.whole_tiles.specs.Wholes.{Entire}
 use Rattle.doc_model.specs.declared.command.Command.{Command}
-use Rattle.machine_model.specs.State.{State, Painter, Walker, Free, Paints, Walks, IsSettled}
+use Rattle.machine_model.specs.State.{State, Painter, Walker, Free, Paints, Walks}
+use Rattle.machine_model.specs.Settled.{IsSettled}
 use Rattle.machine_model.specs.Event.{Event, Feed, Start, WalkStart}
 use Rattle.machine_model.specs.Step.{Step, Run}
 use Rattle.machine_model.specs.Guards.{kept_jobs}

@@ -1,20 +1,21 @@
 //! The desk, and the stamps.
 
-ghost use Rattle.std.specs.Prelude.{◌≡◌, ◌<◌, ◌-◌, ◌^◌, [], true, length, Ok, Some, IfOk, IfSome, OnErr, OnOk};
+ghost use Rattle.std.specs.Prelude.{◌≡◌, ◌<◌, ◌-◌, ◌^◌, true, length, Some, IfOk, IfSome, OnErr, OnOk};
+ghost use Rattle.std.specs.List.{list_all};
 ghost use Rattle.doc_model.specs.Lawful.{may_follow};
 ghost use Rattle.doc_model.specs.Strokes.{entries};
-ghost use Rattle.machine_model.specs.State.{IsSettled};
+ghost use Rattle.machine_model.specs.MeaningLaws.{waits_for_commands};
+ghost use Rattle.machine_model.specs.State.{is_free};
+ghost use Rattle.machine_model.specs.Settled.{IsSettled};
 ghost use Rattle.machine_model.specs.Event.{Feed, Start, WalkStart};
-ghost use Rattle.machine_model.specs.Step.{Step, Run};
-ghost use Rattle.desk_parts.specs.Choices.{IsIdle, MayWant, DoesAtOnce};
+ghost use Rattle.machine_model.specs.Step.{Step};
+ghost use Rattle.desk_parts.specs.Choices.{IsIdle, MayWant, HeadWaits, DoesAtOnce};
 ghost use Rattle.desk_parts.specs.Enabled.{IsEnd, MayEnd};
 ghost use Rattle.desk_parts.specs.Settles.{Settles};
-ghost use Rattle.desk_machine.specs.Commits.{MayCommit, MayPublishRow, RunsFront, row_events};
 ghost use Rattle.desk_machine.specs.Tickets.{IsPaintTicket, IsWalkTicket};
 ghost use Rattle.desk_machine.specs.declared.tickets.PaintTicket.{PaintTicket};
 ghost use Rattle.desk_machine.specs.declared.tickets.WalkTicket.{WalkTicket};
-ghost use Rattle.desk_core.specs.Commits.{commit_events};
-ghost use Rattle.desk_core.specs.declared.answers.Published.TheVariants as answers;
+ghost use Rattle.desk_core.specs.Commits.{Commits, PublishesRow};
 ghost use Rattle.desk_core.specs.declared.answers.Ended.TheVariants as ended;
 ghost use Rattle.desk_core.specs.declared.tickets.Taken.TheVariants as taken;
 ghost use Rattle.stamped_desk.specs.Stamped.{IsKnown};
@@ -57,7 +58,7 @@ impl<J: Naming> StampedDesk<J> {
         requires { unnamed ≡ J.book }
         ensures { result ≡ desk }
     {
-        desk.tell_orderly();
+        desk.tell_sound();
         StampedDesk {
             desk,
             stamps: unnamed.named::<J>(),
@@ -100,13 +101,18 @@ impl<J: Naming> StampedDesk<J> {
         &mut self,
         steps: &mut Steps<L>,
     ) -> Result<(Taken, Option<Stamp<J, Taken>>), NoMemory>
+        // What each answer tells. A walk is started last.
         ensures paint { (t : PaintTicket) → IfOk result (λ r. r.0 ≡ taken.Paint t → Step self.old (Start t.slot.place) self.new × IsPaintTicket t self.new) }
         ensures walk { (t : WalkTicket) → IfOk result (λ r. r.0 ≡ taken.Walk t → Step self.old (WalkStart t.slot.place t.inputs.patch) self.new × IsWalkTicket t self.new) }
+        ensures last { (t : WalkTicket) → IfOk result (λ r. r.0 ≡ taken.Walk t → HeadWaits self.old) }
         ensures did { IfOk result (λ r. r.0 ≡ taken.Did → DoesAtOnce self.old self.new steps.old steps.new) }
         ensures idle { IfOk result (λ r. r.0 ≡ taken.Idle → IsIdle self.old × (self.new ≡ self.old)) }
+        ensures stuck { IfOk result (λ r. r.0 ≡ taken.Idle → list_all is_free self.old.slots ≡ true → waits_for_commands self.old ≡ true) }
         ensures settled { IfOk result (λ r. r.0 ≡ taken.Settled → IsSettled self.old × (self.new ≡ self.old)) }
-        ensures stamp { IfOk result (λ r. IfSome r.1 (λ s. s.value ≡ Some r.0)) }
         ensures err { OnErr result (MayWant self.old × (self.new ≡ self.old)) }
+
+        // Of what the stamp is.
+        ensures stamp { IfOk result (λ r. IfSome r.1 (λ s. s.value ≡ Some r.0)) }
     {
         let taken = self.desk.take(steps)?;
         let stamp = self.stamps.stamp(&taken);
@@ -118,12 +124,9 @@ impl<J: Naming> StampedDesk<J> {
     /// meanwhile.
     ///
     /// # Errors
-    /// `NoMemory`; of the tiles some, from the first on, are published, or none.
+    /// `NoMemory`; of the tiles some, from the first on, are published, or none, and the job hasn't ended.
     pub fn commit(&mut self, tiles: &StampedTiles<J>) -> Result<Published, NoMemory>
-        ensures stored { result ≡ Ok answers.Stored → Run self.old (commit_events tiles.now.slot.place tiles.now.tiles) self.new }
-        ensures nothing { result ≡ Ok answers.Nothing → self.new ≡ self.old }
-        ensures refused { result ≡ Ok answers.Nothing → MayCommit self.old tiles.now.slot.place tiles.now.slot.serial tiles.now.tiles → ⊥ }
-        ensures front { OnErr result (RunsFront self.old (commit_events tiles.now.slot.place tiles.now.tiles) self.new) }
+        ensures answer { Commits self.old tiles.now.slot.place tiles.now.slot.serial tiles.now.tiles result self.new }
         ensures runs { Settles self.old self.new }
         ensures canvas { self.new.canvas ≡ self.old.canvas }
         ensures fed { self.new.fed ≡ self.old.fed }
@@ -140,7 +143,7 @@ impl<J: Naming> StampedDesk<J> {
     /// the walk was taken from this desk, no pixel is compared.
     ///
     /// # Errors
-    /// `NoMemory`; of the groups some, from the first on, are published, or none.
+    /// `NoMemory`; it is published of some of the groups, from the first on, or of none, but not of all.
     pub fn publish_row(
         &mut self,
         walk: &StampedWalk<J>,
@@ -148,10 +151,7 @@ impl<J: Naming> StampedDesk<J> {
         key: TileKey,
     ) -> Result<Published, NoMemory>
         requires { composed.now.readings ≡ walk.now.inputs }
-        ensures stored { result ≡ Ok answers.Stored → Run self.old (row_events self.old walk.now.slot.place key) self.new }
-        ensures nothing { result ≡ Ok answers.Nothing → self.new ≡ self.old }
-        ensures refused { result ≡ Ok answers.Nothing → MayPublishRow self.old walk.now.slot.place walk.now.slot.serial composed.now key → ⊥ }
-        ensures front { OnErr result (RunsFront self.old (row_events self.old walk.now.slot.place key) self.new) }
+        ensures answer { PublishesRow self.old walk.now.slot.place walk.now.slot.serial composed.now key result self.new }
         ensures runs { Settles self.old self.new }
         ensures canvas { self.new.canvas ≡ self.old.canvas }
         ensures fed { self.new.fed ≡ self.old.fed }
@@ -167,6 +167,7 @@ impl<J: Naming> StampedDesk<J> {
     /// Ends the work in a slot whose tiles are all published. `Nothing` exactly where the slot hasn't that
     /// work, or some tile of it isn't published. No memory.
     pub fn end(&mut self, slot: SlotId) -> Ended
+        ensures taken { result ≡ ended.Done → MayEnd self.old slot.place slot.serial }
         ensures done { result ≡ ended.Done → IsEnd self.old slot.place self.new }
         ensures nothing { result ≡ ended.Nothing → self.new ≡ self.old }
         ensures refused { result ≡ ended.Nothing → MayEnd self.old slot.place slot.serial → ⊥ }

@@ -18,6 +18,8 @@ mod queues;
 #[cfg(test)]
 mod reverts;
 #[cfg(test)]
+mod stacks;
+#[cfg(test)]
 mod stores;
 #[cfg(test)]
 mod strokes;

@@ -4,16 +4,19 @@ use Rattle.doc_model.specs.declared.job.Job.{Job}
 use Rattle.doc_model.specs.declared.job.Kind.{Kind}
 use Rattle.doc_model.specs.Strokes as strokes
 use Rattle.doc_model.specs.Kept as strokes_kept
-use Rattle.doc_model.specs.Strokes.{Jobs, conflict, conflicting, first_conflicting, second_of, pair_at, pair_of}
+use Rattle.doc_model.specs.Strokes.{Jobs, conflict, conflicting}
+use Rattle.doc_model.specs.Searches.{first_conflicting, second_of, pair_at, pair_of}
 use Rattle.doc_model.specs.Kept.{up_to}
-use Rattle.doc_model.proofs.Conflicts.{IsLeastFrom, least_from_is}
+use Rattle.doc_model.proofs.Conflicts.{conflict_by, IsLeastFrom, least_from_is}
 use Rattle.doc_model.proofs.Growing.{take_front, take_less, or_then, first_front, second_more, one_less}
 use Rattle.stroke_core.specs.Fed.{Fed, StandsFor, found, pair_or, plus}
 
 -- one more job adds at most the pair of which it is the second
 pub conflict_more : (jobs : Jobs) (x : Kind × Job) → conflict (jobs ++ x ∷ []) ≡ pair_or (conflict jobs) (pair_of (first_conflicting (jobs ++ x ∷ []) (length jobs)) (length jobs))
-unfolding conflict
-conflict_more jobs x = ap (pair_at (jobs ++ x ∷ [])) (second_more jobs x) ∙ go (second_of jobs) (least_from_is 0 (length jobs) (λ j. is_some (first_conflicting jobs j)))
+conflict_more jobs x =
+    conflict_by (jobs ++ x ∷ []) ∙ ap (pair_at (jobs ++ x ∷ [])) (second_more jobs x)
+    ∙ go (second_of jobs) (least_from_is 0 (length jobs) (λ j. is_some (first_conflicting jobs j)))
+    ∙ sym (ap (λ o. pair_or o (pair_of last (length jobs))) (conflict_by jobs))
   where
     last : Option ℕ
     last = first_conflicting (jobs ++ x ∷ []) (length jobs)
@@ -32,8 +35,7 @@ conflict_more jobs x = ap (pair_at (jobs ++ x ∷ [])) (second_more jobs x) ∙ 
 
 -- the second of a pair is the number of a job
 pub second_small : (jobs : Jobs) (pair : ℕ × ℕ) → conflict jobs ≡ Some pair → pair.1 - 1 ≤ length jobs
-unfolding conflict
-second_small jobs pair e = go (second_of jobs) (least_from_is 0 (length jobs) (λ j. is_some (first_conflicting jobs j))) e
+second_small jobs pair e = go (second_of jobs) (least_from_is 0 (length jobs) (λ j. is_some (first_conflicting jobs j))) (sym (conflict_by jobs) ∙ e)
   where
     of_pair : (o : Option ℕ) (m : ℕ) → m < length jobs → pair_of o m ≡ Some pair → pair.1 - 1 ≤ length jobs
     of_pair None m l e = cc

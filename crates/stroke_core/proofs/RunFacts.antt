@@ -7,7 +7,8 @@ use Rattle.geom_core.proofs.Tests.{true_or_false, and_left}
 use Rattle.doc_model.specs.declared.job.Job.{Job}
 use Rattle.doc_model.specs.declared.job.Kind.{Kind}
 use Rattle.doc_model.specs.Jobs.{checks}
-use Rattle.doc_model.specs.Strokes.{Jobs, conflicting, first_conflicting, one_run, pair_of, passes, runs, runs_at, disturb, is_uni, least, least_from}
+use Rattle.doc_model.specs.Strokes.{Jobs, conflicting, one_run, passes, runs, runs_at, disturb, is_uni}
+use Rattle.doc_model.specs.Searches.{first_conflicting, pair_of, least, least_from}
 use Rattle.doc_model.proofs.Conflicts.{all_from_all, all_from_at}
 use Rattle.stroke_core.specs.Fed.{IsKept, pair_or, plus}
 use Rattle.stroke_core.specs.Marks.{Marks, marks_of, marks_in_run, marks_clash}

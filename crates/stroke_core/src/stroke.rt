@@ -2,7 +2,8 @@
 
 ghost use Rattle.std.specs.Prelude.{◌≡◌, ◌≢◌, ℕ, ◌-◌, ◌<◌, ◌≤◌, true, false, Some, None, Ok, Err, OnOk, OnErr, if◌then◌else◌, All, [], ◌∷◌, ◌++◌, length, slice_get};
 ghost use Rattle.doc_model.specs.Jobs.{checks};
-ghost use Rattle.doc_model.specs.Strokes.{Jobs, first_conflicting, runs};
+ghost use Rattle.doc_model.specs.Strokes.{Jobs, runs};
+ghost use Rattle.doc_model.specs.Searches.{first_conflicting};
 ghost use Rattle.stroke_core.specs.Fed.{found, plus, StandsFor};
 ghost use Rattle.stroke_core.specs.Marks.{marks_in_run};
 

@@ -1,5 +1,5 @@
 -- What a parse by the command's options gives.
-use Rattle.std.proofs.Common.{◌≡◌, ◌≢◌, ◌<◌, ◌≤◌, ◌+◌, ◌^◌, ◌&&◌, nat_le, codes, unwrap_or, ℕ, List, [], ◌∷◌, Bool, true, false, Option, Some, None, option_map, Result, Ok, Err, refl, sym, ap, subst, arith}
+use Rattle.std.proofs.Common.{◌≡◌, ◌≢◌, ◌<◌, ◌≤◌, ◌+◌, ◌^◌, ◌&&◌, ◌||◌, not, is_some, nat_le, codes, unwrap_or, ℕ, List, [], ◌∷◌, Bool, true, false, Option, Some, None, option_map, Result, Ok, Err, refl, sym, ap, subst, arith}
 use Rattle.std.specs.Result.{IfOk, result_ok}
 use Rattle.std.specs.Option.{option_map_or}
 use Rattle.std.specs.Str.{bytes_eq}
@@ -11,7 +11,7 @@ use Rattle.std.proofs.lemmas.Slice.Eq.{bytes_eq-Decides}
 use Rattle.script_lines.proofs.FieldLemmas.{first, second}
 use Rattle.clap.specs.Matches.{TriesOne}
 use Rattle.clap.specs.Kinds.{Kinds, IsAmong}
-use Rattle.clap.specs.Walk.{Text}
+use Rattle.clap.specs.Walk.{Text, Row, one_of}
 use Rattle.clap.specs.Faults.{fault_of, is_simple_and_free}
 use Rattle.clap.specs.Simple.{is_simple, matches_of}
 use Rattle.clap.specs.ValueTests.{is_unsigned_in}
@@ -26,7 +26,7 @@ use Rattle.strokes_top.specs.declared.choice.UnknownEmit.{UnknownEmit}
 use Rattle.strokes_top.specs.declared.asked.Asked.{Asked}
 use Rattle.strokes_top.specs.declared.choice.Choice.{Choice}
 use Rattle.strokes_top.specs.declared.choice.ChoiceError.{ChoiceError}
-use Rattle.strokes_top.specs.Choice.{command, choice, choice_by, emit_of, number_of, number_or_none, flag_of, is_of_artists, is_trace, lets_draw, is_fit, unless_fault}
+use Rattle.strokes_top.specs.Choice.{command, choice, choice_by, emit_of, demo_of, artists_of, workers_of, number_of, number_or_none, flag_of, is_of_artists, is_trace, lets_draw, is_fit, if_fit, choice_of_values, unless_fault}
 use Rattle.strokes_top.specs.Named.{IsNamed}
 
 pub is_free : is_simple_and_free command ≡ true
@@ -183,3 +183,80 @@ trace_alone c h t = go c.artists refl
     go : (a : Option ℕ) → c.artists ≡ a → c.artists ≡ None
     go None is = is
     go (Some n) is = absurd (no_trace c.emit t (draws_of c n (fit_draws c n is h)))
+
+-- nothing fits that doesn't pass the test
+if_fits : (x c : Choice) → if_fit x ≡ Some c → is_fit c ≡ true
+if_fits x c h = go (is_fit x) refl
+  where
+    go : (b : Bool) → is_fit x ≡ b → is_fit c ≡ true
+    go true is =
+        let given : if_fit x ≡ Some x = rw is refl in
+        let same : x ≡ c = cc in
+        subst (λ y. is_fit y ≡ true) same is
+    go false is =
+        let given : if_fit x ≡ None = rw is refl in
+        cc
+
+values_fit : (emit : Option Emit) (demo : Option (Option ℕ)) (replay : Option Bool) (artists : Option (Option ℕ)) (workers : Option ℕ) (c : Choice)
+    → choice_of_values emit demo replay artists workers ≡ Some c → is_fit c ≡ true
+values_fit (Some e) (Some d) (Some r) (Some a) (Some w) c h = if_fits (record { emit = e; demo = d; replay = r; artists = a; workers = w }) c h
+values_fit None d r a w c h = cc
+values_fit (Some e) None r a w c h = cc
+values_fit (Some e) (Some d) None a w c h = cc
+values_fit (Some e) (Some d) (Some r) None w c h = cc
+values_fit (Some e) (Some d) (Some r) (Some a) None c h = cc
+
+rows_fit : (rows : List Row) (c : Choice) → choice_by rows ≡ Some c → is_fit c ≡ true
+rows_fit rows c h = values_fit (emit_of (one_of (codes "emit") rows)) (demo_of (one_of (codes "demo") rows)) (flag_of (one_of (codes "replay") rows))
+    (artists_of (one_of (codes "artists") rows)) (workers_of (one_of (codes "workers") rows)) c h
+
+unless_fits : (kinds : Kinds) (o : Option Choice) (c : Choice) → ((d : Choice) → o ≡ Some d → is_fit d ≡ true) → unless_fault kinds o ≡ Some c → is_fit c ≡ true
+unless_fits [] o c f h = f c h
+unless_fits (k ∷ kinds) o c f h = cc
+
+-- what the words ask for fits together
+pub choice_fits : (words : List Text) (c : Choice) → choice words ≡ Some c → is_fit c ≡ true
+unfolding choice
+choice_fits words c h = unless_fits (fault_of command words) (choice_by (matches_of command words)) c (λ d. rows_fit (matches_of command words) d) h
+
+pub untrue : (b : Bool) → not b ≡ true → b ≡ false
+untrue false h = refl
+untrue true h = cc
+
+pub nothing : (o : Option ℕ) → is_some o ≡ false → o ≡ None
+nothing None h = refl
+nothing (Some n) h = cc
+
+-- artists draw no trace
+pub draws_alone : (c : Choice) (n : ℕ) → lets_draw c n ≡ true → c.replay ≡ false
+draws_alone c n h = untrue c.replay (second ((nat_le 1 n && nat_le n 16) && is_of_artists c.emit) _ h)
+
+-- where a trace is read no script is generated and none is written
+replays : (c : Choice) → is_fit c ≡ true → c.replay ≡ true → (not (is_some c.demo) && not (is_trace c.emit)) ≡ true
+replays c h is = go c.replay is (second (nat_le c.workers 16 && option_map_or (lets_draw c) c.artists true) _ h)
+  where
+    go : (b : Bool) → b ≡ true → (not b || (not (is_some c.demo) && not (is_trace c.emit))) ≡ true → (not (is_some c.demo) && not (is_trace c.emit)) ≡ true
+    go true is h = h
+    go false is h = cc
+
+pub replay_paints : (c : Choice) → is_fit c ≡ true → c.replay ≡ true → is_trace c.emit ≡ false
+replay_paints c h is = untrue (is_trace c.emit) (second (not (is_some c.demo)) _ (replays c h is))
+
+pub trace_reads : (c : Choice) → is_fit c ≡ true → is_trace c.emit ≡ true → c.replay ≡ false
+trace_reads c h t = go c.replay refl
+  where
+    go : (b : Bool) → c.replay ≡ b → c.replay ≡ false
+    go false is = is
+    go true is =
+        let other : is_trace c.emit ≡ false = replay_paints c h is in
+        cc
+
+-- and no artists draw
+pub replay_alone : (c : Choice) → is_fit c ≡ true → c.replay ≡ true → (c.demo ≡ None) × (c.artists ≡ None)
+replay_alone c h is = (nothing c.demo (untrue (is_some c.demo) (first (not (is_some c.demo)) _ (replays c h is))), go c.artists refl)
+  where
+    go : (a : Option ℕ) → c.artists ≡ a → c.artists ≡ None
+    go None with_none = with_none
+    go (Some n) with_some =
+        let other : c.replay ≡ false = draws_alone c n (fit_draws c n with_some h) in
+        cc

@@ -4,7 +4,8 @@ use Rattle.script_text.specs.Script.{Contents}
 use Rattle.script_text.specs.Reading.{script}
 use Rattle.strokes_top.specs.declared.choice.Choice.{Choice}
 use Rattle.strokes_top.specs.Choice.{choice}
-use Rattle.strokes_top.specs.Run.{WasRead, Gives, IsOf, IsAnswered}
+use Rattle.strokes_top.specs.Reading.{WasRead}
+use Rattle.strokes_top.specs.Run.{Gives, IsOf, IsAnswered}
 
 some_same : (P : Contents → Type 0) (s : Contents) (o : Option Contents) → IsSomeAnd o (λ t. t ≡ s) → P s → IsSomeAnd o P
 some_same P s None h p = h

@@ -4,3 +4,5 @@ pub mod Takings
 pub mod Choices
 pub mod Outputs
 pub mod Givings
+pub mod Ways
+pub mod Completeness

@@ -24,8 +24,9 @@ use Rattle.strokes_top.specs.declared.choice.Emit.{Emit}
 use Rattle.strokes_top.specs.declared.choice.Emit.TheVariants as emit
 use Rattle.strokes_top.specs.declared.choice.Choice.{Choice}
 use Rattle.strokes_top.specs.Choice.{is_of_artists, is_trace}
-use Rattle.strokes_top.specs.Output.{HasRoom, ShowsFor, rows_at_once}
-use Rattle.strokes_top.specs.Run.{IsWhole, lead, output}
+use Rattle.strokes_top.specs.Room.{HasRoom, ShowsFor, rows_at_once}
+use Rattle.strokes_top.specs.Output.{output}
+use Rattle.strokes_top.specs.Run.{IsWhole, lead}
 use Rattle.trace_out.specs.Traces.{IsTraceOf}
 
 -- pictures are asked for

@@ -9,7 +9,7 @@ use Rattle.strokes_top.specs.declared.status.Status.{Status}
 use Rattle.strokes_top.specs.declared.status.Status.TheVariants as status
 use Rattle.strokes_top.specs.declared.transfer.ReadError.{ReadError}
 use Rattle.strokes_top.specs.declared.transfer.ReadError.TheVariants as read
-use Rattle.strokes_top.specs.Run.{ConsumesAtMost, WasRead}
+use Rattle.strokes_top.specs.Reading.{ConsumesAtMost, WasRead}
 use Rattle.strokes_top.specs.Intakes.{HasTaken}
 use Rattle.strokes_top.specs.Ends.{of_read, is_of_read, is_of_replay, is_of_trace}
 use Rattle.strokes_top.proofs.Transfers.{IsCounted, more_counted}

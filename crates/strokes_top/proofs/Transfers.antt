@@ -7,7 +7,7 @@ use Rattle.io_edge.specs.declared.outside.Failed.{Failed}
 use Rattle.io_edge.specs.Told.{AppendsPrefix}
 use Rattle.script_text.specs.declared.script.ScriptFault.{ScriptFault}
 use Rattle.script_text.specs.Reading.{fault}
-use Rattle.strokes_top.specs.Run.{WasRead, ConsumesMore, ConsumesAtMost}
+use Rattle.strokes_top.specs.Reading.{WasRead, ConsumesMore, ConsumesAtMost}
 use Rattle.strokes_top.specs.Parts.{HasFault}
 
 -- all of a line is a prefix of it

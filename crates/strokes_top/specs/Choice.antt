@@ -78,6 +78,10 @@ abbrev pub is_trace : Emit → Bool
 is_trace Trace = true
 is_trace emit = false
 
+-- whether no artists draw, and no trace is read or written
+abbrev pub is_plain : Choice → Bool
+is_plain c = not (is_some c.artists) && (not c.replay && not (is_trace c.emit))
+
 -- artists are 1 to 16 and draw a script, and there is no live view and no trace of what they draw
 abbrev pub lets_draw : Choice → ℕ → Bool
 lets_draw c n = ((nat_le 1 n && nat_le n 16) && is_of_artists c.emit) && not c.replay

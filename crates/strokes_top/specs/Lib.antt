@@ -1,7 +1,13 @@
 pub mod Choice
 pub mod Intakes
 pub mod Named
+pub mod Pictures
 pub mod Output
+pub mod Room
+pub mod Reading
+pub mod Written
+pub mod Together
+pub mod Traces
 pub mod Status
 pub mod Run
 pub mod Ends

@@ -1,15 +1,10 @@
 -- Parts of what is told of a source.
-use Rattle.std.specs.Prelude.{◌≡◌, ℕ, Bool, true, false, List, Option, Some, None, IsSomeAnd}
+use Rattle.std.specs.Prelude.{◌≡◌, ℕ, Bool, true, false, List, Option, Some, None}
 use Rattle.script_text.specs.declared.script.ScriptFault.{ScriptFault}
-use Rattle.script_text.specs.Script.{Contents}
-use Rattle.script_text.specs.Reading.{fault, script}
+use Rattle.script_text.specs.Reading.{fault}
 use Rattle.trace_forms.specs.declared.line.TraceFault.{TraceFault}
 use Rattle.trace_forms.specs.Replay.{trace_fault}
-use Rattle.strokes_top.specs.Run.{WasRead}
-
--- these bytes are a script without a fault, which has P
-abbrev pub IsGood : (Contents → Type 0) → List ℕ → Type 0
-IsGood P bytes = (fault bytes ≡ None) × IsSomeAnd (script bytes) P
+use Rattle.strokes_top.specs.Reading.{WasRead}
 
 -- the first fault of these bytes is that line and cause
 abbrev pub HasFault : ScriptFault → List ℕ → Type 0

@@ -1,12 +1,16 @@
 //! One run of the command.
 
-ghost use Rattle.std.specs.Prelude.{◌≡◌, ◌≢◌, ◌≤◌, ℕ, None, true, false, is_some};
+ghost use Rattle.std.specs.Prelude.{◌≡◌, ◌≢◌, ◌≤◌, ◌⊎◌, ℕ, None, true, false, is_some, IfSome};
 ghost use Rattle.std.specs.Io.KnownBytes.{Keeps, Appends};
 ghost use Rattle.io_edge.specs.Told.{AppendsPrefix, Rose};
 ghost use Rattle.script_lines.specs.declared.cause.Cause.{Cause};
 ghost use Rattle.strokes_top.specs.Choice.{choice};
 ghost use Rattle.trace_forms.specs.declared.line.TraceCause.{TraceCause};
-ghost use Rattle.strokes_top.specs.Run.{IsAnswered, IsFaulty, IsFaultyTrace, asks_for_demo, limit_for, IsOutput, IsBegun, ConsumesMore, ConsumesAtMost};
+ghost use Rattle.strokes_top.specs.Reading.{IsFaulty, asks_for_demo, limit_for, ConsumesMore, ConsumesAtMost, IsGivenScript};
+ghost use Rattle.strokes_top.specs.Written.{IsPainted};
+ghost use Rattle.strokes_top.specs.Together.{IsPaintedTogether};
+ghost use Rattle.strokes_top.specs.Traces.{IsTraced, IsReplayed, IsFaultyTrace, IsGivenTrace};
+ghost use Rattle.strokes_top.specs.Run.{IsAnswered, IsOutput, IsBegun};
 ghost use Rattle.strokes_top.specs.Status.{is_done, may_write, told_by};
 ghost use Rattle.strokes_top.specs.Ends.{is_painted};
 ghost use Rattle.doc_model.specs.Meaning.{some_refused as said_refused};
@@ -84,6 +88,7 @@ fn answer<R: Threads + Wait + Sync, S: Source, K: Sink, G: Gate>(
     ensures taken_words { result ≢ Status.Usage → result ≢ Status.NoMemory → is_some (choice words.now) ≡ true }
     ensures script { (line : ℕ) (cause : Cause) → result ≡ Status.Script line cause → IsFaulty (record { line = line; cause = cause }) words.now (S.left source.old) (S.left source.new) }
     ensures trace { (line : ℕ) (cause : TraceCause) → result ≡ Status.Trace line cause → IsFaultyTrace (record { line = line; cause = cause }) words.now (S.left source.old) (S.left source.new) }
+    ensures too_long_reads { result ≡ Status.TooLong → asks_for_demo words.now ≡ false }
     ensures too_long { result ≡ Status.TooLong → ConsumesMore (limit_for words.now) CHUNK (S.left source.old) (S.left source.new) }
     ensures within_limit { result ≢ Status.TooLong → ConsumesAtMost (limit_for words.now) (S.left source.old) (S.left source.new) }
     ensures read_fault { result ≡ Status.ReadFault → Rose (S.faults source.old) (S.faults source.new) }
@@ -123,17 +128,23 @@ pub fn run<R: Threads + Wait + Sync, S: Source, K: Sink, E: Sink, G: Gate>(
     err: &mut E,
     gate: &G,
 ) -> Status
-    // The words were taken, the script was read, generated or given by a trace without a fault, and just what is asked for was
-    // written: of that script, or of what artists drew of it. Where the source doesn't tell what it has left, that is so of
-    // some bytes.
-    ensures done { result ≡ Status.Done → IsAnswered (IsOutput false (K.taken out.old) (K.taken out.new)) words.now (S.left source.old) (S.left source.new) }
-    ensures done_with_refusals { result ≡ Status.DoneWithRefusals → IsAnswered (IsOutput true (K.taken out.old) (K.taken out.new)) words.now (S.left source.old) (S.left source.new) }
+    // What was read, and what was written of it at codes 0, 1 and 5: without artists and traces, by artists, as a trace, and of a
+    // trace. Where the source doesn't tell what it has left, that is so of some bytes.
+    ensures painted { may_write result ≡ true → IfSome (choice words.now) (IsPainted result (S.left source.old) (S.left source.new) (K.taken out.old) (K.taken out.new)) }
+    ensures drawn { may_write result ≡ true → IfSome (choice words.now) (IsPaintedTogether result (S.left source.old) (S.left source.new) (K.taken out.old) (K.taken out.new)) }
+    ensures traced { may_write result ≡ true → IfSome (choice words.now) (IsTraced result (S.left source.old) (S.left source.new) (K.taken out.old) (K.taken out.new)) }
+    ensures replayed { may_write result ≡ true → IfSome (choice words.now) (IsReplayed result (S.left source.old) (S.left source.new) (K.taken out.old) (K.taken out.new)) }
+
+    // When there is an output: where nothing fails an input without fault has one, if memory suffices.
+    ensures complete { IsGivenScript words.now (S.left source.old) → ¬ Rose (S.faults source.old) (S.faults source.new) → ¬ Rose (K.faults out.old) (K.faults out.new) → (is_done result ≡ true) ⊎ (result ≡ Status.NoMemory) }
+    ensures complete_trace { IsGivenTrace words.now (S.left source.old) → ¬ Rose (S.faults source.old) (S.faults source.new) → ¬ Rose (K.faults out.old) (K.faults out.new) → (is_done result ≡ true) ⊎ (result ≡ Status.NoMemory) }
 
     // When each other status comes.
     ensures usage { result ≡ Status.Usage → choice words.now ≡ None }
     ensures taken_words { result ≢ Status.Usage → result ≢ Status.NoMemory → is_some (choice words.now) ≡ true }
     ensures script { (line : ℕ) (cause : Cause) → result ≡ Status.Script line cause → IsFaulty (record { line = line; cause = cause }) words.now (S.left source.old) (S.left source.new) }
     ensures trace { (line : ℕ) (cause : TraceCause) → result ≡ Status.Trace line cause → IsFaultyTrace (record { line = line; cause = cause }) words.now (S.left source.old) (S.left source.new) }
+    ensures too_long_reads { result ≡ Status.TooLong → asks_for_demo words.now ≡ false }
     ensures too_long { result ≡ Status.TooLong → ConsumesMore (limit_for words.now) CHUNK (S.left source.old) (S.left source.new) }
     ensures within_limit { result ≢ Status.TooLong → ConsumesAtMost (limit_for words.now) (S.left source.old) (S.left source.new) }
     ensures read_fault { result ≡ Status.ReadFault → Rose (S.faults source.old) (S.faults source.new) }
@@ -143,8 +154,7 @@ pub fn run<R: Threads + Wait + Sync, S: Source, K: Sink, E: Sink, G: Gate>(
     ensures usage_reads_nothing { result ≡ Status.Usage → (S.left source.new ≡ S.left source.old) × (S.faults source.new ≡ S.faults source.old) }
     ensures demo_reads_nothing { asks_for_demo words.now ≡ true → (S.left source.new ≡ S.left source.old) × (S.faults source.new ≡ S.faults source.old) }
 
-    // What the sinks took.
-    ensures begun { result ≡ Status.WriteFault → IsAnswered (IsBegun (K.taken out.old) (K.taken out.new)) words.now (S.left source.old) (S.left source.new) }
+    // What the sinks took otherwise.
     ensures nothing { may_write result ≡ false → Keeps (K.taken out.old) (K.taken out.new) }
     ensures quiet { is_done result ≡ true → Keeps (E.taken err.old) (E.taken err.new) }
     ensures told { is_done result ≡ false → AppendsPrefix (E.taken err.old) (E.taken err.new) (told_by result) }

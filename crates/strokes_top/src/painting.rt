@@ -3,11 +3,12 @@
 ghost use Rattle.std.specs.Prelude.{◌≡◌, ◌≤◌, ◌++◌, length, true, Some, None, IfOk};
 ghost use Rattle.script_text.specs.Text.{text};
 ghost use Rattle.script_text.specs.Reading.{script as script_in};
-ghost use Rattle.machine_model.specs.State.{IsSettled};
+ghost use Rattle.machine_model.specs.Settled.{IsSettled};
 ghost use Rattle.script_text.specs.Script.{Contents, meaning_of};
 ghost use Rattle.crew_run.specs.Shows.{Shows};
-ghost use Rattle.strokes_top.specs.Output.{ShowsFor};
-ghost use Rattle.strokes_top.specs.Run.{IsDrawn, IsWhole, lead, output};
+ghost use Rattle.strokes_top.specs.Room.{ShowsFor};
+ghost use Rattle.strokes_top.specs.Output.{output};
+ghost use Rattle.strokes_top.specs.Run.{IsDrawn, IsWhole, lead};
 ghost use Rattle.trace_out.specs.Traces.{IsTraceOf};
 ghost use Rattle.strokes_top.specs.Choice.{is_fit};
 
@@ -38,8 +39,8 @@ pub(crate) struct Painting {
     pub(crate) shown: Shown,
 }
 
-/// How many workers are to paint the script beside the caller: none where its jobs are small, since the
-/// caller alone is quicker then.
+/// How many workers are to paint the script beside the caller: as many as are asked for, or none where its jobs
+/// are many and small, since the caller alone is quicker then.
 fn workers_for(script: &Script, asked: u8) -> u8
     requires { asked ≤ 16 }
     ensures { result ≤ 16 }

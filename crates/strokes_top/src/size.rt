@@ -4,11 +4,14 @@ use doc_model::{Change, Command, Job, Track};
 use geom_core::Rect;
 use script_text::Script;
 
+/// How many jobs are few: the holds of a lock that they take are soon over.
+const FEW: u64 = 64;
+
 /// With how many points to paint and to compose each job has to come, on average, so that several threads are
 /// quicker than one.
 const POINTS: u64 = 8_000;
 
-/// Whether several threads are probably quicker than one. Nothing but speed hangs on it.
+/// Whether several threads are to paint: there are few jobs, or several threads are probably quicker than one.
 pub(crate) fn is_for_many(script: &Script) -> bool {
     let mut jobs = 0u64;
     let mut points = 0u64;
@@ -24,7 +27,7 @@ pub(crate) fn is_for_many(script: &Script) -> bool {
             _ => {}
         }
     }
-    points >= jobs.saturating_mul(POINTS)
+    jobs <= FEW || points >= jobs.saturating_mul(POINTS)
 }
 
 /// How many points a job writes, or some more.

@@ -1,11 +1,13 @@
 //! Taking the script: what the source spells, as a script or as a trace, or a generated one.
 
-ghost use Rattle.std.specs.Prelude.{◌≡◌, ◌≢◌, ◌≤◌, ◌+◌, ℕ, true, false, Err, IfOk, IfErr, IsErrOf, is_some, length};
+ghost use Rattle.std.specs.Prelude.{◌≡◌, ◌≢◌, ◌≤◌, ◌+◌, ℕ, true, false, None, Err, IfOk, IfErr, IsErrOf, is_some, length};
 ghost use Rattle.io_edge.specs.Told.{Rose};
 ghost use Rattle.script_lines.specs.declared.cause.Cause.{Cause};
 ghost use Rattle.trace_forms.specs.declared.line.TraceCause.{TraceCause};
-ghost use Rattle.strokes_top.specs.Run.{WasRead, Gives, IsOf, limit_of, ConsumesMore, ConsumesAtMost};
-ghost use Rattle.strokes_top.specs.Parts.{IsGood, HasFault, HasTraceFault, IsRefused, IsRefusedTrace};
+ghost use Rattle.strokes_top.specs.Reading.{WasRead, Spells, limit_of, ConsumesMore, ConsumesAtMost};
+ghost use Rattle.strokes_top.specs.Traces.{Replays};
+ghost use Rattle.strokes_top.specs.Run.{Gives, IsOf};
+ghost use Rattle.strokes_top.specs.Parts.{HasFault, HasTraceFault, IsRefused, IsRefusedTrace};
 ghost use Rattle.strokes_top.specs.Ends.{is_of_read, is_of_script, is_of_replay, is_of_trace, is_of_taking};
 
 use crate::choice::Choice;
@@ -26,7 +28,7 @@ use trace_core::replay;
 /// The status of a run that has no script.
 fn read_script<S: Source>(alloc: Global, source: &mut S, chunk: &mut [u8]) -> Result<Script, Status>
     requires { length chunk.old ≡ CHUNK }
-    ensures ok { IfOk result (λ s. WasRead (S.left source.old) (S.left source.new) (IsGood (λ t. t ≡ s))) }
+    ensures ok { IfOk result (λ s. WasRead (S.left source.old) (S.left source.new) (Spells (λ t. t ≡ s))) }
     ensures script { (line : ℕ) (cause : Cause) → IsErrOf result (Status.Script line cause) → WasRead (S.left source.old) (S.left source.new) (HasFault (record { line = line; cause = cause })) }
     ensures too_long { IsErrOf result Status.TooLong → ConsumesMore LIMIT CHUNK (S.left source.old) (S.left source.new) }
     ensures within_limit { result ≢ Err Status.TooLong → ConsumesAtMost LIMIT (S.left source.old) (S.left source.new) }
@@ -61,7 +63,7 @@ fn read_script<S: Source>(alloc: Global, source: &mut S, chunk: &mut [u8]) -> Re
 /// # Errors
 /// The status of a run that has no script.
 fn read_source<S: Source>(alloc: Global, source: &mut S) -> Result<Script, Status>
-    ensures ok { IfOk result (λ s. WasRead (S.left source.old) (S.left source.new) (IsGood (λ t. t ≡ s))) }
+    ensures ok { IfOk result (λ s. WasRead (S.left source.old) (S.left source.new) (Spells (λ t. t ≡ s))) }
     ensures script { (line : ℕ) (cause : Cause) → IsErrOf result (Status.Script line cause) → WasRead (S.left source.old) (S.left source.new) (HasFault (record { line = line; cause = cause })) }
     ensures too_long { IsErrOf result Status.TooLong → ConsumesMore LIMIT CHUNK (S.left source.old) (S.left source.new) }
     ensures within_limit { result ≢ Err Status.TooLong → ConsumesAtMost LIMIT (S.left source.old) (S.left source.new) }
@@ -108,7 +110,7 @@ fn read_all<S: Source>(alloc: Global, source: &mut S, chunk: &mut [u8]) -> Resul
 /// `Trace`, for the first line that is refused, and `NoMemory`.
 fn replayed(alloc: Global, bytes: &[u8]) -> Result<Script, Status>
     requires { length bytes.now ≤ TRACE_LIMIT }
-    ensures ok { IfOk result (λ s. Gives true (λ t. t ≡ s) bytes.now) }
+    ensures ok { IfOk result (λ s. Replays (λ t. t ≡ s) bytes.now) }
     ensures trace { (line : ℕ) (cause : TraceCause) → IsErrOf result (Status.Trace line cause) → HasTraceFault (record { line = line; cause = cause }) bytes.now }
     ensures statuses { IfErr result (λ status. is_of_replay status ≡ true) }
 {
@@ -121,7 +123,7 @@ fn replayed(alloc: Global, bytes: &[u8]) -> Result<Script, Status>
 /// # Errors
 /// The status of a run that has no script.
 fn read_trace<S: Source>(alloc: Global, source: &mut S) -> Result<Script, Status>
-    ensures ok { IfOk result (λ s. WasRead (S.left source.old) (S.left source.new) (Gives true (λ t. t ≡ s))) }
+    ensures ok { IfOk result (λ s. WasRead (S.left source.old) (S.left source.new) (Replays (λ t. t ≡ s))) }
     ensures trace { (line : ℕ) (cause : TraceCause) → IsErrOf result (Status.Trace line cause) → WasRead (S.left source.old) (S.left source.new) (HasTraceFault (record { line = line; cause = cause })) }
     ensures too_long { IsErrOf result Status.TooLong → ConsumesMore TRACE_LIMIT CHUNK (S.left source.old) (S.left source.new) }
     ensures within_limit { result ≢ Err Status.TooLong → ConsumesAtMost TRACE_LIMIT (S.left source.old) (S.left source.new) }
@@ -170,6 +172,7 @@ pub(crate) fn take_script<S: Source>(
     ensures ok { IfOk result (λ s. IsOf (λ t. t ≡ s) choice.now.demo choice.now.replay (S.left source.old) (S.left source.new)) }
     ensures script { (line : ℕ) (cause : Cause) → IsErrOf result (Status.Script line cause) → IsRefused (record { line = line; cause = cause }) choice.now.demo choice.now.replay (S.left source.old) (S.left source.new) }
     ensures trace { (line : ℕ) (cause : TraceCause) → IsErrOf result (Status.Trace line cause) → IsRefusedTrace (record { line = line; cause = cause }) choice.now.replay (S.left source.old) (S.left source.new) }
+    ensures too_long_reads { IsErrOf result Status.TooLong → choice.now.demo ≡ None }
     ensures too_long { IsErrOf result Status.TooLong → ConsumesMore (limit_of choice.now.replay) CHUNK (S.left source.old) (S.left source.new) }
     ensures within_limit { result ≢ Err Status.TooLong → ConsumesAtMost (limit_of choice.now.replay) (S.left source.old) (S.left source.new) }
     ensures read_fault { IsErrOf result Status.ReadFault → Rose (S.faults source.old) (S.faults source.new) }

@@ -3,7 +3,7 @@
 ghost use Rattle.std.specs.Prelude.{◌≡◌, ◌≢◌, ◌+◌, ◌-◌, ◌≤◌, length, take, Ok, Err, IfOk, OnOk, IsErrOf};
 ghost use Rattle.std.specs.Io.KnownBytes.{Consumes, IsAtEnd};
 ghost use Rattle.io_edge.specs.Told.{Rose};
-ghost use Rattle.strokes_top.specs.Run.{ConsumesMore, ConsumesAtMost};
+ghost use Rattle.strokes_top.specs.Reading.{ConsumesMore, ConsumesAtMost};
 
 use io_edge::{Failed, Source};
 

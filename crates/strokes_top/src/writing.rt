@@ -4,8 +4,8 @@ ghost use Rattle.std.specs.Prelude.{◌≡◌, ◌≤◌, ◌++◌, IfOk, OnOk, 
 ghost use Rattle.std.specs.Io.KnownBytes.{Appends};
 ghost use Rattle.io_edge.specs.Told.{AppendsPrefix};
 ghost use Rattle.io_edge.specs.Faults.{HasCause};
-ghost use Rattle.strokes_top.specs.Output.{HasRoom, ShowsFor, rows_at_once as said_rows};
-ghost use Rattle.strokes_top.specs.Run.{output};
+ghost use Rattle.strokes_top.specs.Room.{HasRoom, ShowsFor, rows_at_once as said_rows};
+ghost use Rattle.strokes_top.specs.Output.{output};
 
 use crate::choice::Emit;
 use crate::painting::Painting;
@@ -13,7 +13,7 @@ use crew_run::Shown;
 use doc_model::Canvas;
 use io_edge::{Failed, Sink, write_all};
 use log_out::{write_log, write_sum};
-use ppm_out::{write_frame, write_frames};
+use ppm_out::{write_frame_by, write_frames_by};
 use script_text::Script;
 use std::alloc::{AllocError, Global};
 use std::thread::Threads;
@@ -71,8 +71,8 @@ fn write_output<R: Threads + Sync, K: Sink>(
 {
     match emit {
         Emit::Picture | Emit::Live => match shown.film.frames() {
-            [frame] => write_frame(rt, threads, frame, room, out),
-            _ => write_frames(rt, threads, &shown.film, room, out),
+            [frame] => write_frame_by(rt, threads, frame, room, out),
+            _ => write_frames_by(rt, threads, &shown.film, room, out),
         },
         Emit::Log => write_log(script, &shown.outcomes, out),
         Emit::Sum => write_sum(shown.film.frames(), &shown.outcomes, out),

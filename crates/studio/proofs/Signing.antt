@@ -1,9 +1,10 @@
 -- A legal history's commands are lawful.
-use Rattle.std.proofs.Common.{◌≡◌, ℕ, Bool, true, false, ◌&&◌, List, [], ◌∷◌, ◌++◌, length, refl, sym, ap, subst, append_assoc, append-nil, arith}
+use Rattle.std.proofs.Common.{◌≡◌, ℕ, zero, suc, Bool, true, false, ◌&&◌, List, [], ◌∷◌, ◌++◌, length, refl, sym, ap, subst, append_assoc, append-nil, arith}
 use Rattle.std.proofs.lemmas.List.{map-append}
-use Rattle.std.specs.Prelude.{Result, Ok, Err}
+use Rattle.std.specs.Prelude.{Result, Ok, Err, Some, None, slice_get}
 use Rattle.doc_model.specs.declared.command.Command.{Command}
-use Rattle.doc_model.specs.Lawful.{lawful, may_follow}
+use Rattle.doc_model.specs.Lawful.{may_follow}
+use Rattle.doc_model.specs.Feeding.{lawful}
 use Rattle.doc_model.specs.Strokes.{entries}
 use Rattle.doc_model.proofs.Feeding.{lawful_last}
 use Rattle.turn_lock.specs.declared.sent.Sent.{Sent}
@@ -30,6 +31,25 @@ all_length [] [] e = refl
 all_length [] (d ∷ cs) e = absurd (omega arith)
 all_length (j ∷ ks) [] e = absurd (omega arith)
 all_length (j ∷ ks) (d ∷ cs) e = let h = all_length ks cs (omega (arith, e)) in omega (arith, h)
+
+-- at a place stand the number and the command of that place, signed, or nothing where one of them is missing
+pub signed_at : (ks : List ℕ) (cs : List Command) (i k : ℕ) (c : Command) → slice_get ks i ≡ Some k → slice_get cs i ≡ Some c → Some (signed k c) ≡ slice_get (signed_all ks cs) i
+signed_at [] cs i k c at there = cc
+signed_at (j ∷ ks) [] i k c at there = cc
+signed_at (j ∷ ks) (d ∷ cs) zero k c at there = cc
+signed_at (j ∷ ks) (d ∷ cs) (suc i) k c at there = signed_at ks cs i k c at there
+
+pub without_number : (ks : List ℕ) (cs : List Command) (i : ℕ) → slice_get ks i ≡ None → None ≡ slice_get (signed_all ks cs) i
+without_number [] cs i e = refl
+without_number (j ∷ ks) [] i e = refl
+without_number (j ∷ ks) (d ∷ cs) zero e = cc
+without_number (j ∷ ks) (d ∷ cs) (suc i) e = without_number ks cs i e
+
+pub without_command : (ks : List ℕ) (cs : List Command) (i : ℕ) → slice_get cs i ≡ None → None ≡ slice_get (signed_all ks cs) i
+without_command [] cs i e = refl
+without_command (j ∷ ks) [] i e = refl
+without_command (j ∷ ks) (d ∷ cs) zero e = cc
+without_command (j ∷ ks) (d ∷ cs) (suc i) e = without_command ks cs i e
 
 -- what may follow the history may follow the desk's commands
 pub next_of : (ks : List ℕ) (cs : List Command) (s : Signed) → length ks ≡ length cs → may_be_next (signed_all ks cs) s ≡ may_follow (entries cs) s.command

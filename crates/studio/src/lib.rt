@@ -8,3 +8,4 @@ mod studio;
 pub use signed::Signed;
 pub use stage::Stage;
 pub use studio::{Closed, Pass, Studio};
+pub use turn_lock::Sent;

@@ -1,7 +1,7 @@
 //! The studio and its passes.
-ghost use Rattle.std.specs.Prelude.{◌≡◌, ◌<◌, ◌≤◌, ℕ, length, true, IfOk};
+ghost use Rattle.std.specs.Prelude.{◌≡◌, ◌<◌, ◌≤◌, ℕ, length, slice_get, true, IfOk};
 ghost use Rattle.doc_model.specs.Canvases.{IsOfLimits};
-ghost use Rattle.doc_model.specs.Lawful.{lawful};
+ghost use Rattle.doc_model.specs.Feeding.{lawful};
 ghost use Rattle.turn_lock.specs.History.{made_by};
 ghost use Rattle.turn_lock.specs.Answers.{added};
 ghost use Rattle.turn_lock.specs.Passes.{all_fresh, called, joined, own, HasTurn};
@@ -42,6 +42,18 @@ impl Model for Studio {
 pub struct Closed {
     pub desk: Desk,
     pub signers: Vec<u32>,
+}
+
+impl Closed {
+    /// The command at place `i` of the history, from 0 on, and the number of the artist who sent it. None
+    /// exactly where the history has no such place.
+    pub fn signed(&self, i: usize) -> Option<Signed>
+        ensures { result ≡ slice_get (signed_all self.now.signers.items self.now.desk.fed) i }
+    {
+        let artist = *self.signers.get(i)?;
+        let command = *self.desk.commands().get(i)?;
+        Some(Signed { artist, command })
+    }
 }
 
 impl Studio {
@@ -109,6 +121,7 @@ impl Studio {
         requires studio { pass.lock ≡ self.id }
         requires all { length pass.numbers ≡ self.artists }
         ensures seen { signed_all result.signers.items result.desk.fed ≡ pass.seen }
+        ensures each { length result.signers.items ≡ length result.desk.fed }
         ensures fed { result.desk.fed ≡ commands_of pass.seen }
         ensures made { (k : ℕ) → made_by signer k pass.seen ≡ made_by signer k pass.made }
         ensures canvas { result.desk.canvas ≡ self.canvas }

@@ -8,7 +8,8 @@ use Rattle.std.proofs.lemmas.List.{take_all, get_or-replicate, get_or_past, leng
 use Rattle.std.proofs.lemmas.Option.{slice_get_within, get_or_from_slice_get}
 use borrow.Author.Differences.{ints}
 use Rattle.geom_core.specs.Areas.{Area, area, right, bottom, meets, lies_in, point}
-use Rattle.geom_core.specs.Overlaps.{bound, common, clipped, IsWithin, length_between}
+use Rattle.geom_core.specs.Overlaps.{bound, common, clipped, length_between}
+use Rattle.geom_core.specs.Rects.{IsWithin}
 use Rattle.geom_core.specs.Grid.{Key, key, same_key, tile, keys_of, floor_by, how_many}
 use Rattle.geom_core.proofs.Tests.{and_left, and_right, both_true, taken}
 use Rattle.geom_core.proofs.Tiles.{own_tile, key_same, key_is}

@@ -5,7 +5,8 @@ use Rattle.std.specs.FinMap as map
 use Rattle.std.proofs.lemmas.Bool.Decides.{nat_tests}
 use Rattle.std.proofs.lemmas.Option.{slice_get_within}
 use Rattle.geom_core.specs.Areas.{point}
-use Rattle.geom_core.specs.Grid.{Key, key, key_of, key_cmp_total, same_key}
+use Rattle.geom_core.specs.Grid.{Key, key, key_of, same_key}
+use Rattle.geom_core.specs.Keys.{key_cmp_total}
 use Rattle.pixel_core.specs.Rgba.{clear}
 use Rattle.tile_core.specs.Pixels.{Pixels, pixel_or}
 use Rattle.tile_core.specs.Marks.{Grid, has_mark, on_canvas}

@@ -1,31 +1,29 @@
 -- A tile laid over the pixels of a rectangle.
 use Rattle.std.proofs.Common.{◌≡◌, ℕ, ◌+◌, ◌-◌, ◌*◌, ◌%◌, ◌≤◌, ◌<◌, Bool, true, false, ◌&&◌, cond, List, length, get_or, refl, sym, ap, ◌∙◌, arith, ltb, leb, inl, inr, subst}
-use Rattle.std.specs.Prelude.{ℤ, pos, negsuc, ◌+ℤ◌, ◌-ℤ◌, ◌*ℤ◌, int_le, int_lt, nat_abs, ◌≤ℤ◌}
+use Rattle.std.specs.Prelude.{ℤ, pos, negsuc, ◌+ℤ◌, ◌-ℤ◌, ◌*ℤ◌, int_le, int_lt, nat_abs, ◌≤ℤ◌, slice_get}
 use borrow.Author.Differences.{ints}
 use Rattle.std.proofs.lemmas.Bool.Decides.{nat_tests}
 use Rattle.pixel_core.specs.Rgba.{Rgba, clear}
 use Rattle.geom_core.specs.Areas.{Area, holds, Point}
-use Rattle.geom_core.specs.Overlaps.{place_in, IsShared}
-use Rattle.geom_core.specs.Grid.{Key, key_of, same_key, tile, IsWorldKey}
+use Rattle.geom_core.specs.Rects.{place_in, IsShared}
+use Rattle.geom_core.specs.Grid.{Key, key_of, same_key, tile, keys_of}
+use Rattle.geom_core.specs.Keys.{IsWorldKey}
 use Rattle.geom_core.specs.Place.{across, IsOffset}
 use Rattle.geom_core.proofs.Tests.{and_left, and_right, true_or_false, taken, kept}
 use Rattle.geom_core.proofs.Spots.{le_shifted, lt_end_shifted, nat_abs-back, from_edge}
 use Rattle.geom_core.proofs.Tiles.{own_tile, key_of_holder, key_same, key_is}
-use Rattle.tile_core.specs.Pixels.{Pixels, pixel_of, pixel_at}
+use Rattle.tile_core.specs.Pixels.{Pixels, pixel_of, pixel_at, pixel_or, HasPixels}
 use Rattle.tile_core.specs.Parts.{in_part, LaysTile}
 use Rattle.std.proofs.Common.{take, ◌++◌, ◌∷◌, [], ◌||◌, Some, None, replicate}
 use Rattle.std.specs.FinMap as map
 use Rattle.std.specs.List.{list_any}
-use Rattle.std.specs.Prelude.{slice_get}
 use Rattle.std.proofs.lemmas.List.{take_more}
 use Rattle.std.proofs.lemmas.List.Folds.{list_any-append}
 use Rattle.std.proofs.lemmas.Option.{get_or_from_slice_get, slice_get_within}
 use Rattle.std.proofs.Math.Seq.{take-length}
-use Rattle.geom_core.specs.Grid.{keys_of}
 use Rattle.geom_core.proofs.Keys.{key_of_held}
 use Rattle.tile_core.proofs.Taken.{plain_pixels}
 use Rattle.tile_core.specs.Shots.{Sight, sight_at, LaysKey, ReadsKeys}
-use Rattle.tile_core.specs.Pixels.{pixel_or, HasPixels}
 
 -- along one axis: a rectangle begins at r of the world, its part in a tile at a, and x is one of the rectangle's
 pub record Along (rx ax x : ℤ) (r a m : ℕ) : Type 0 where

@@ -19,3 +19,4 @@ pub mod Films
 pub mod SameParts
 pub mod SameSights
 pub mod WholeTiles
+pub mod Copied

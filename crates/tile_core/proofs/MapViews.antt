@@ -5,7 +5,8 @@ use Rattle.std.specs.FinMap.{find}
 use Rattle.std.specs.BTreeMap as tree
 use Rattle.std.specs.BTreeMap.{BTreeMap, is_at}
 use Rattle.std.specs.Map.{lookup}
-use Rattle.geom_core.specs.Grid.{Key, key_cmp, same_key, key_cmp_total, key_cmp-IsAntisymmetric}
+use Rattle.geom_core.specs.Grid.{Key, key_cmp, same_key}
+use Rattle.geom_core.specs.Keys.{key_cmp_total, key_cmp-IsAntisymmetric}
 use Rattle.pixel_core.specs.Rgba.{Rgba}
 use Rattle.geom_core.specs.Areas.{Point}
 use Rattle.tile_core.specs.Pixels.{Pixels, pixel_or}

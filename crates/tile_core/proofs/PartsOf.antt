@@ -3,8 +3,9 @@ use Rattle.std.proofs.Common.{◌≡◌, ◌+◌, ◌%◌, ◌≤◌, List}
 use Rattle.std.specs.Prelude.{pos, ◌+ℤ◌, nat_abs}
 use Rattle.pixel_core.specs.Rgba.{Rgba}
 use Rattle.geom_core.specs.Areas.{Area}
-use Rattle.geom_core.specs.Overlaps.{IsWithin}
-use Rattle.geom_core.specs.Grid.{Key, tile, IsWorldKey}
+use Rattle.geom_core.specs.Rects.{IsWithin}
+use Rattle.geom_core.specs.Grid.{Key, tile}
+use Rattle.geom_core.specs.Keys.{IsWorldKey}
 use Rattle.tile_core.specs.declared.rows.Part.{Part}
 use Rattle.tile_core.specs.Pixels.{Pixels, pixel_at, HasPixels}
 use Rattle.tile_core.specs.Parts.{IsPartOf, LaysPart, TakesPart}

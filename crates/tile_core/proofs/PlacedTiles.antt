@@ -5,7 +5,8 @@ use Rattle.std.specs.Prelude.{ℤ, pos, nat_abs, ◌≤ℤ◌, ◌<ℤ◌}
 use borrow.Author.Differences.{ints}
 use Rattle.std.specs.FinMap as map
 use Rattle.geom_core.specs.Areas.{point}
-use Rattle.geom_core.specs.Grid.{Key, key, key_of, key_cmp, same_key, key_cmp_total, key_cmp-IsAntisymmetric}
+use Rattle.geom_core.specs.Grid.{Key, key, key_of, key_cmp, same_key}
+use Rattle.geom_core.specs.Keys.{key_cmp_total, key_cmp-IsAntisymmetric}
 use Rattle.geom_core.proofs.Tiles.{key_same, key_is}
 use Rattle.tile_core.specs.Pixels.{Pixels}
 use Rattle.tile_core.specs.Placed.{key_at, tiles_from}

@@ -5,8 +5,9 @@ use Rattle.std.specs.Prelude.{ℤ, pos, ◌+ℤ◌, ◌-ℤ◌, int_le, int_lt, 
 use Rattle.std.specs.Ordering.{int_eq}
 use borrow.Author.Differences.{ints}
 use Rattle.pixel_core.specs.Rgba.{Rgba, clear}
-use Rattle.geom_core.specs.Areas.{Area, holds, Point, point, same_point}
-use Rattle.geom_core.specs.Overlaps.{place_in}
+use Rattle.geom_core.specs.Areas.{Area, holds, Point, point}
+use Rattle.geom_core.specs.Same.{same_point}
+use Rattle.geom_core.specs.Rects.{place_in}
 use Rattle.std.proofs.lemmas.List.{get_or-set_same, get_or-set_other}
 use Rattle.std.proofs.Common.{subst}
 use Rattle.tile_core.specs.Blocks.{Piece, piece, IsPiece, SetsAt}

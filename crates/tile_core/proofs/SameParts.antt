@@ -4,8 +4,9 @@ use Rattle.std.specs.Prelude.{ℤ, pos, negsuc, ◌+ℤ◌, ◌-ℤ◌, ◌*ℤ�
 use borrow.Author.Differences.{ints}
 use Rattle.pixel_core.specs.Rgba.{Rgba, clear}
 use Rattle.geom_core.specs.Areas.{Area, holds, Point, point}
-use Rattle.geom_core.specs.Overlaps.{IsWithin}
-use Rattle.geom_core.specs.Grid.{Key, tile, IsWorldKey}
+use Rattle.geom_core.specs.Rects.{IsWithin}
+use Rattle.geom_core.specs.Grid.{Key, tile}
+use Rattle.geom_core.specs.Keys.{IsWorldKey}
 use Rattle.geom_core.specs.Place.{IsOffset, across, down}
 use Rattle.geom_core.proofs.Tests.{and_left, and_right, both_true}
 use Rattle.tile_core.specs.declared.rows.Part.{Part}

@@ -9,7 +9,7 @@ use Rattle.std.proofs.Math.Seq.{take-length}
 use Rattle.std.proofs.lemmas.List.Folds.{list_any-append}
 use Rattle.std.proofs.lemmas.Option.{get_or_from_slice_get, slice_get_within}
 use Rattle.geom_core.specs.Areas.{Area, holds, Point, point}
-use Rattle.geom_core.specs.Overlaps.{IsWithin, IsShared, any_holds}
+use Rattle.geom_core.specs.Rects.{IsWithin, IsShared, any_holds}
 use Rattle.geom_core.specs.Grid.{Key, key_of, same_key, tile, keys_of}
 use Rattle.geom_core.proofs.Tests.{and_left, and_right, both_true, or_cases}
 use Rattle.geom_core.proofs.Tiles.{key_of_holder, key_same, key_is, holder}

@@ -6,17 +6,17 @@ use Rattle.std.proofs.lemmas.Bool.Decides.{nat_tests}
 use Rattle.std.proofs.lemmas.List.{get_or-replicate}
 use Rattle.pixel_core.specs.Rgba.{Rgba, clear}
 use Rattle.geom_core.specs.Areas.{Area, holds, Point}
-use Rattle.geom_core.specs.Grid.{Key, key_of, tile, IsWorldKey}
+use Rattle.geom_core.specs.Grid.{Key, key_of, tile}
+use Rattle.geom_core.specs.Keys.{IsWorldKey}
 use Rattle.geom_core.specs.Place.{IsOffset}
 use Rattle.geom_core.proofs.Tests.{and_left, and_right, both_true}
 use Rattle.geom_core.proofs.Spots.{TileSpot, tile_spot}
-use Rattle.tile_core.specs.Pixels.{Pixels, pixel_of, pixel_at}
+use Rattle.tile_core.specs.Pixels.{Pixels, pixel_of, pixel_at, pixel_or, HasPixels}
 use Rattle.tile_core.specs.Parts.{TakesPart}
-use Rattle.geom_core.specs.Overlaps.{IsWithin, place_in}
+use Rattle.geom_core.specs.Rects.{IsWithin, place_in}
 use Rattle.std.specs.FinMap as map
 use Rattle.geom_core.proofs.Tiles.{key_of_holder}
 use Rattle.tile_core.specs.Shots.{Sight, sight_at}
-use Rattle.tile_core.specs.Pixels.{pixel_or, HasPixels}
 use Rattle.tile_core.proofs.LaidBlocks.{Axis, axis, rest_of}
 use Rattle.tile_core.proofs.LaidRows.{next_fits}
 

@@ -7,7 +7,8 @@ use Rattle.std.proofs.lemmas.List.{ext_get_or}
 use Rattle.pixel_core.specs.Rgba.{Rgba, clear}
 use Rattle.pixel_core.specs.Compose.{on_paper}
 use Rattle.geom_core.specs.Areas.{holds, Point, point}
-use Rattle.geom_core.specs.Grid.{key_of, same_key, key_cmp_total}
+use Rattle.geom_core.specs.Grid.{key_of, same_key}
+use Rattle.geom_core.specs.Keys.{key_cmp_total}
 use Rattle.geom_core.proofs.Tests.{both_true}
 use Rattle.tile_core.specs.Pixels.{Pixels, pixel_at, pixel_or, whole_tile}
 use Rattle.tile_core.specs.Laws.{FixedByPoints, SeenAfterPut, ShownAfterPut, PaperWhereNothing}

@@ -5,8 +5,9 @@ use Rattle.std.specs.List.{list_any}
 use borrow.Author.Differences.{ints}
 use Rattle.pixel_core.specs.Rgba.{clear}
 use Rattle.geom_core.specs.Areas.{Area, area, holds, right, bottom, Point, point}
-use Rattle.geom_core.specs.Overlaps.{IsWithin, place_in}
-use Rattle.geom_core.specs.Grid.{Key, key_of, same_key, keys_of, tile, IsWorldKey}
+use Rattle.geom_core.specs.Rects.{IsWithin, place_in}
+use Rattle.geom_core.specs.Grid.{Key, key_of, same_key, keys_of, tile}
+use Rattle.geom_core.specs.Keys.{IsWorldKey}
 use Rattle.geom_core.specs.Place.{across, down}
 use Rattle.geom_core.proofs.Keys.{key_of_held}
 use Rattle.geom_core.proofs.Spots.{TileSpot, tile_spot}

@@ -1,10 +1,11 @@
 -- A block as contracts see it: pixels on a rectangle inside one tile.
-use Rattle.std.specs.Prelude.{◌≡◌, ◌*◌, List, slice_index_or, length, replicate, cond}
-use Rattle.std.specs.Prelude.{true}
-use Rattle.geom_core.specs.Areas.{Area, holds, Point, same_point}
-use Rattle.geom_core.specs.Overlaps.{IsWithin, place_in}
+use Rattle.std.specs.Prelude.{◌≡◌, ◌*◌, List, slice_index_or, length, replicate, cond, true}
+use Rattle.geom_core.specs.Areas.{Area, holds, Point}
+use Rattle.geom_core.specs.Same.{same_point}
+use Rattle.geom_core.specs.Rects.{IsWithin, place_in}
 use Rattle.tile_core.specs.Pixels.{Pixels, pixel_at}
-use Rattle.geom_core.specs.Grid.{Key, tile, IsWorldKey}
+use Rattle.geom_core.specs.Grid.{Key, tile}
+use Rattle.geom_core.specs.Keys.{IsWorldKey}
 use Rattle.pixel_core.specs.Rgba.{Rgba, clear}
 
 -- a block's key, its rectangle, and the rectangle's pixels in row order

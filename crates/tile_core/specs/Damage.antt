@@ -1,7 +1,8 @@
 -- Damaged parts of the tiles of a canvas.
 use Rattle.std.specs.Prelude.{◌≡◌, ℕ, Bool, false, Option, Some, None, List, slice_index_or, replicate}
 use Rattle.geom_core.specs.Areas.{Area, holds, lies_in, Point}
-use Rattle.geom_core.specs.Overlaps.{bound, IsWithin}
+use Rattle.geom_core.specs.Overlaps.{bound}
+use Rattle.geom_core.specs.Rects.{IsWithin}
 use Rattle.geom_core.specs.Grid.{Key, key_of, tile}
 use Rattle.tile_core.specs.Marks.{place_at}
 

@@ -8,7 +8,8 @@ use Rattle.pixel_core.specs.Rgba.{Rgba, clear}
 use Rattle.pixel_core.specs.Words.{pixel_code}
 use Rattle.pixel_core.specs.Compose.{on_paper}
 use Rattle.geom_core.specs.Areas.{row, rows, area, points_of, Point}
-use Rattle.geom_core.specs.Grid.{Key, key_cmp, key_of, key_code}
+use Rattle.geom_core.specs.Grid.{Key, key_cmp, key_of}
+use Rattle.geom_core.specs.Keys.{key_code}
 use Rattle.tile_core.specs.Pixels.{Pixels, pixel_or}
 
 -- a frame's sides, its paper, and what was put

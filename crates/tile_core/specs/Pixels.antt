@@ -1,7 +1,7 @@
 -- A tile as contracts see it: its 4,096 pixels in row order.
 use Rattle.std.specs.Prelude.{◌≡◌, ℕ, ◌+◌, ◌*◌, ◌%◌, pos, true, List, Option, Some, None, slice_index_or}
 use Rattle.geom_core.specs.Areas.{Area, area, holds, Point}
-use Rattle.geom_core.specs.Overlaps.{place_in}
+use Rattle.geom_core.specs.Rects.{place_in}
 use Rattle.geom_core.specs.Place.{across, down}
 use Rattle.pixel_core.specs.Rgba.{Rgba, clear}
 

@@ -7,8 +7,9 @@ use Rattle.std.specs.Coded.{Coded, code_by, coded×, coded_list}
 use Rattle.pixel_core.specs.Rgba.{Rgba, clear}
 use Rattle.pixel_core.specs.Words.{pixel_code}
 use Rattle.geom_core.specs.Areas.{Area, holds, Point}
-use Rattle.geom_core.specs.Overlaps.{any_holds, place_in, area_code}
-use Rattle.geom_core.specs.Grid.{Key, key_cmp, key_of, same_key, key_code}
+use Rattle.geom_core.specs.Rects.{any_holds, place_in, area_code}
+use Rattle.geom_core.specs.Grid.{Key, key_cmp, key_of, same_key}
+use Rattle.geom_core.specs.Keys.{key_code}
 use Rattle.tile_core.specs.Pixels.{Pixels, pixel_at, pixel_or}
 
 -- a shot's rectangles, its tiles under keys, and the pixel that it has wherever no tile stands

@@ -1,8 +1,9 @@
 //! The pixels that a job leaves in one tile.
 
 ghost use Rattle.std.specs.Prelude.{vec_len, ◌*◌, ◌≡◌, ℕ, true, IfOk};
-ghost use Rattle.geom_core.specs.Grid.{IsWorldKey, tile};
-ghost use Rattle.geom_core.specs.Overlaps.{IsWithin};
+ghost use Rattle.geom_core.specs.Grid.{tile};
+ghost use Rattle.geom_core.specs.Keys.{IsWorldKey};
+ghost use Rattle.geom_core.specs.Rects.{IsWithin};
 ghost use Rattle.geom_core.specs.Areas.{point, holds};
 ghost use Rattle.pixel_core.specs.Rgba.{clear};
 ghost use Rattle.tile_core.specs.Blocks.{Piece, IsPiece, piece, piece_at, plain_piece, SetsAt};

@@ -2,8 +2,10 @@
 
 ghost use Rattle.std.specs.Prelude.{◌≡◌, ◌&&◌, pos, if◌then◌else◌, Some, None, IfSome};
 ghost use Rattle.geom_core.specs.Areas.{area};
-ghost use Rattle.geom_core.specs.Overlaps.{clipped, IsWithin};
-ghost use Rattle.geom_core.specs.Grid.{Key, same_key, tile, IsWorldKey};
+ghost use Rattle.geom_core.specs.Overlaps.{clipped};
+ghost use Rattle.geom_core.specs.Rects.{IsWithin};
+ghost use Rattle.geom_core.specs.Grid.{Key, same_key, tile};
+ghost use Rattle.geom_core.specs.Keys.{IsWorldKey};
 ghost use Rattle.tile_core.specs.Marks.{on_canvas};
 ghost use Rattle.tile_core.specs.Damage.{part_at, grown, has_all, intact};
 

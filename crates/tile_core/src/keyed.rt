@@ -1,16 +1,17 @@
 //! Tiles under keys.
 
-ghost use Rattle.std.specs.Prelude.{◌≡◌, OnOk, OnErr, true};
+ghost use Rattle.std.specs.Prelude.{◌≡◌, IfOk, OnOk, OnErr, true};
 ghost use Rattle.std.specs.BTreeMap as tree;
 ghost use Rattle.std.specs.Option.{option_copied};
 ghost use Rattle.geom_core.specs.Areas.{holds, world, point};
-ghost use Rattle.geom_core.specs.Grid.{key_cmp, key_of};
+ghost use Rattle.geom_core.specs.Grid.{Key, key_cmp, key_of};
 ghost use Rattle.tile_core.specs.Maps.{PutsUnder};
 ghost use Rattle.tile_core.specs.Pixels.{pixel_or};
 
 use crate::Tile;
 use geom_core::{NoMemory, TileKey, tile_of};
 use pixel_core::Pixel;
+use std::alloc::Global;
 use std::collections::BTreeMap;
 
 /// The tile goes under the key.
@@ -24,6 +25,20 @@ pub fn put_under(
 {
     tiles.insert(key, tile)?;
     Ok(())
+}
+
+/// The same tiles under the same keys once more, each shared.
+pub fn shared_tiles(
+    alloc: Global,
+    tiles: &BTreeMap<TileKey, Tile>,
+) -> Result<BTreeMap<TileKey, Tile>, NoMemory>
+    ensures { IfOk result (λ m. (q : Key) → tree.get key_cmp m q ≡ tree.get key_cmp tiles.now q) }
+{
+    let mut shared = BTreeMap::new(alloc);
+    for (key, tile) in tiles {
+        put_under(&mut shared, *key, tile.share()?)?;
+    }
+    Ok(shared)
 }
 
 /// The tile under the key.

@@ -4,14 +4,15 @@ ghost use Rattle.std.specs.Prelude.{List, [], ◌∷◌, ◌++◌, length, repli
 ghost use Rattle.std.specs.List.{list_any};
 ghost use Rattle.std.specs.Option.{option_copied};
 ghost use Rattle.std.specs.FinMap as map;
-ghost use Rattle.geom_core.specs.Overlaps.{IsWithin, IsShared};
-ghost use Rattle.geom_core.specs.Grid.{Key, IsWorldKey, tile as tile_area};
+ghost use Rattle.geom_core.specs.Rects.{IsWithin, IsShared};
+ghost use Rattle.geom_core.specs.Grid.{Key, key_cmp, tile as tile_area};
+ghost use Rattle.geom_core.specs.Keys.{IsWorldKey};
 ghost use Rattle.geom_core.specs.Areas.{point, holds, lies_in, world};
 ghost use Rattle.tile_core.specs.Pixels.{HasPixels, pixel_at};
 ghost use Rattle.tile_core.specs.Shots.{sight, sight_at, with_seen, LaysKey, ReadsKeys, ShowsOn, SameInTile, SameShots};
 
 use crate::Tile;
-use crate::keyed::{pixel_under, put_under, tile_under};
+use crate::keyed::{pixel_under, put_under, shared_tiles, tile_under};
 use crate::rows::{Part, lay_tile_rows};
 use geom_core::{NoMemory, Rect, TileKey};
 use pixel_core::Pixel;
@@ -21,9 +22,10 @@ use std::marker::Model;
 use std::sync::Arc;
 
 /// Rectangles, shared tiles under keys, and one pixel, the ground, wherever no tile stands.
-/// To take one copies no pixel. It may be shared in turn, and then it takes no further tile.
+/// To take one copies no pixel. It may be shared in turn.
 #[derive(Drop)]
 pub struct Shot {
+    alloc: Global,
     ground: Pixel,
     seen: Arc<Seen>,
 }
@@ -56,6 +58,7 @@ impl Shot {
             tiles: BTreeMap::new(alloc),
         };
         Ok(Shot {
+            alloc,
             ground: default_pixel,
             seen: Arc::new(alloc, seen)?,
         })
@@ -68,17 +71,27 @@ impl Shot {
         self.ground
     }
 
-    /// The points of the key become the tile's pixels, which are shared and not copied. `NoMemory`
-    /// also where somebody shares the shot.
+    /// The points of the key become the tile's pixels, which are shared and not copied. Those who share
+    /// the shot keep what they have.
     pub fn put(&mut self, key: TileKey, tile: &Tile) -> Result<(), NoMemory>
         ensures ok { OnOk result (self.new ≡ with_seen self.old key tile.now) }
         ensures err { OnErr result (self.new ≡ self.old) }
     {
         let tile = tile.share()?;
-        let Some(seen) = Arc::get_mut(&mut self.seen) else {
-            return Err(NoMemory);
-        };
-        put_under(&mut seen.tiles, key, tile)
+        match Arc::get_mut(&mut self.seen) {
+            Some(seen) => put_under(&mut seen.tiles, key, tile),
+            None => self.put_apart(key, tile),
+        }
+    }
+
+    /// The same where somebody shares the shot: it gets rectangles and tiles of its own.
+    fn put_apart(&mut self, key: TileKey, tile: Tile) -> Result<(), NoMemory>
+        ensures ok { OnOk result (self.new ≡ with_seen self.old key tile) }
+        ensures err { OnErr result (self.new ≡ self.old) }
+    {
+        let seen = seen_with(self.alloc, &self.seen, key, tile)?;
+        self.seen = Arc::new(self.alloc, seen)?;
+        Ok(())
     }
 
     /// The same shot once more. `NoMemory` only where the count of references is full.
@@ -86,6 +99,7 @@ impl Shot {
         ensures { IfOk result (λ s. s ≡ self.now) }
     {
         Ok(Shot {
+            alloc: self.alloc,
             ground: self.ground,
             seen: Arc::try_clone(&self.seen)?,
         })
@@ -244,6 +258,17 @@ impl Shot {
             None => {}
         }
     }
+}
+
+/// The same rectangles and tiles once more, with that tile under the key. Tiles are shared.
+fn seen_with(alloc: Global, seen: &Seen, key: TileKey, tile: Tile) -> Result<Seen, NoMemory>
+    ensures rects { IfOk result (λ s. s.rects.items ≡ seen.now.rects.items) }
+    ensures tiles { IfOk result (λ s. map.from_entries s.tiles.entries ≡ map.insert (map.from_entries {R = key_cmp} seen.now.tiles.entries) key tile) }
+{
+    let rects = Vec::from_slice(alloc, &seen.rects)?;
+    let mut tiles = shared_tiles(alloc, &seen.tiles)?;
+    put_under(&mut tiles, key, tile)?;
+    Ok(Seen { rects, tiles })
 }
 
 /// The tile that has all points of the rectangle. None where there is no such one.

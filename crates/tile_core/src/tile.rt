@@ -3,9 +3,10 @@
 ghost use Rattle.std.specs.Prelude.{vec_len, ◌≡◌, ℕ, ◌+◌, ◌*◌, ◌<◌, ◌↔◌, IsTrue, length, IfOk, replicate, true, false, negsuc, pos, ◌≤ℤ◌, ◌+ℤ◌, ◌%◌, nat_abs};
 ghost use Rattle.tile_core.specs.Pixels.{Pixels, pixel_of, pixel_at, HasPixels, SameOn, IsPlainOn};
 ghost use Rattle.tile_core.specs.Parts.{IsPartOf};
-ghost use Rattle.geom_core.specs.Grid.{IsWorldKey, tile};
+ghost use Rattle.geom_core.specs.Grid.{tile};
+ghost use Rattle.geom_core.specs.Keys.{IsWorldKey};
 ghost use Rattle.tile_core.specs.Blocks.{LaysBlock};
-ghost use Rattle.geom_core.specs.Overlaps.{IsWithin};
+ghost use Rattle.geom_core.specs.Rects.{IsWithin};
 ghost use Rattle.geom_core.specs.Areas.{point, holds, world};
 ghost use Rattle.pixel_core.specs.Rgba.{clear};
 
@@ -131,7 +132,7 @@ impl Tile {
     }
 
     /// Whether every pixel on a rectangle inside the key's tile is `p`.
-    pub fn is_plain_in(&self, p: Pixel, key: TileKey, rect: &Rect) -> bool
+    pub(crate) fn is_plain_in(&self, p: Pixel, key: TileKey, rect: &Rect) -> bool
         requires key { IsWorldKey key }
         requires inside { IsWithin rect.now (tile key) }
         ensures { IsTrue result ↔ IsPlainOn rect.now self.now p }

@@ -2,7 +2,7 @@
 use Rattle.std.proofs.Common.{◌≡◌, ℕ, ◌+◌, suc, Bool, true, false, cond, List, [], ◌∷◌, Option, Some, None, Result, Ok, Err, length, refl, sym, ap, ◌∙◌, subst, arith, IfOk, IfErr}
 use Rattle.std.specs.Option.{option_map}
 use Rattle.doc_model.specs.declared.canvas.Canvas.{Canvas}
-use Rattle.doc_model.specs.Lawful.{lawful}
+use Rattle.doc_model.specs.Feeding.{lawful}
 use Rattle.script_lines.specs.declared.cause.Cause.{Cause}
 use Rattle.script_forms.specs.Jobs.{Fields}
 use Rattle.script_forms.specs.Ranges.{in_limits}

@@ -5,7 +5,8 @@ use Rattle.std.specs.List.{list_any, list_all}
 use Rattle.std.specs.FinSet as set
 use Rattle.std.proofs.lemmas.Bool.Decides.{nat_tests}
 use Rattle.geom_core.specs.Areas.{Area}
-use Rattle.geom_core.specs.Grid.{Key, key_cmp, key_cmp_total, same_key, keys_of, all_keys_of}
+use Rattle.geom_core.specs.Grid.{Key, key_cmp, same_key, keys_of, all_keys_of}
+use Rattle.geom_core.specs.Keys.{key_cmp_total}
 use Rattle.doc_model.specs.declared.job.Kind.{Kind}
 use Rattle.doc_model.specs.Strokes.{Jobs}
 use Rattle.doc_model.specs.Jobs.{writes}

@@ -5,7 +5,7 @@ use Rattle.geom_core.specs.Areas.{Area}
 use Rattle.geom_core.specs.Grid.{Key}
 use Rattle.geom_core.specs.Touches.{bound_of}
 use Rattle.doc_model.specs.declared.command.Command.{Command}
-use Rattle.doc_model.specs.Adjusting.{each}
+use Rattle.doc_model.specs.Each.{each}
 use Rattle.doc_model.specs.Picture.{Doc, canvas_area}
 use Rattle.entry_queue.specs.declared.entry.Entry.{Entry}
 use Rattle.entry_queue.specs.Pushed.{queued}

@@ -2,7 +2,7 @@
 
 ghost use Rattle.std.specs.Prelude.{◌≡◌, ◌<◌, ◌+◌, length};
 ghost use Rattle.script_lines.specs.Fronts.{pointed, lines_behind};
-ghost use Rattle.trace_forms.specs.Forms.{Fits};
+ghost use Rattle.trace_forms.specs.Fits.{Fits};
 ghost use Rattle.trace_core.specs.Parts.{parts};
 ghost use Rattle.trace_core.specs.Moves.{Follows};
 ghost use Rattle.trace_core.specs.Following.{happens, line_follows, follow, LeadsTo, Counts};

@@ -8,7 +8,7 @@ use std::alloc::AllocError;
 use trace_forms::TraceCause;
 
 /// Why a trace wasn't followed to its end.
-#[derive(Drop)]
+#[derive(Clone, Copy, Debug, PartialEq, Eq)]
 pub enum ReplayRefusal {
     /// The first line that is refused, from 1 on, and why.
     Fault { line: u32, cause: TraceCause },

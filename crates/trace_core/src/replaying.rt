@@ -2,7 +2,7 @@
 
 ghost use Rattle.std.specs.Prelude.{◌≡◌, ◌<◌, length, true, IfOk, IfErr};
 ghost use Rattle.script_lines.specs.Fronts.{lines_behind};
-ghost use Rattle.doc_model.specs.Lawful.{lawful};
+ghost use Rattle.doc_model.specs.Feeding.{lawful};
 ghost use Rattle.script_forms.specs.Ranges.{in_limits};
 ghost use Rattle.script_text.specs.Script.{contents};
 ghost use Rattle.script_text.specs.Closed.{all_closed};
@@ -40,6 +40,13 @@ impl Model for Replayed {
 
 impl Replayed {
     /// The canvas and the commands that were fed.
+    pub fn script(&self) -> &Script
+        ensures { result.now ≡ self.now }
+    {
+        &self.script
+    }
+
+    /// The same, given away.
     pub fn into_script(self) -> Script
         ensures { result ≡ self }
     {

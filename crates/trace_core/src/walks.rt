@@ -1,7 +1,7 @@
 //! Walks at work.
 
 ghost use Rattle.std.specs.Prelude.{◌≡◌, ◌<◌, length, IfSome, IfNone};
-ghost use Rattle.geom_core.specs.Grid.{IsWorldKey};
+ghost use Rattle.geom_core.specs.Keys.{IsWorldKey};
 ghost use Rattle.trace_model.specs.Next.{same_area, same_patch, place_of};
 ghost use Rattle.trace_core.specs.Parts.{parts};
 ghost use Rattle.trace_core.specs.Moves.{Follows, is_exclusive, may_walk, walk_started, composed};

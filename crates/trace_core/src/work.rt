@@ -1,7 +1,7 @@
 //! Jobs at work.
 
 ghost use Rattle.std.specs.Prelude.{◌≡◌, ◌||◌, ◌&&◌, Ok};
-ghost use Rattle.geom_core.specs.Grid.{IsWorldKey};
+ghost use Rattle.geom_core.specs.Keys.{IsWorldKey};
 ghost use Rattle.machine_model.specs.Guards.{is_bar};
 ghost use Rattle.machine_model.specs.Effects.{updates_with_all};
 ghost use Rattle.update_queue.specs.Waiting.{waiting};

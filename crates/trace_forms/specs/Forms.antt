@@ -1,8 +1,7 @@
 -- What each line of a trace says by itself.
-use Rattle.std.specs.Prelude.{◌≡◌, ℕ, true, codes, if◌then◌else◌, Option, Some, None, List, [], ◌∷◌, Result, Ok, Err}
+use Rattle.std.specs.Prelude.{ℕ, codes, if◌then◌else◌, Option, Some, None, List, [], ◌∷◌, Result, Ok, Err}
 use Rattle.std.specs.Str.{bytes_eq}
 use Rattle.geom_core.specs.Areas.{Area, lies_in, world}
-use Rattle.geom_core.specs.Grid.{IsWorldKey}
 use Rattle.doc_model.specs.declared.canvas.Canvas.{Canvas}
 use Rattle.doc_model.specs.declared.canvas.Walk.{Walk}
 use Rattle.doc_model.specs.declared.canvas.Walk.TheVariants as walk
@@ -13,7 +12,6 @@ use Rattle.script_lines.specs.declared.cause.Cause.TheVariants.{UnknownWord, Fie
 use Rattle.script_lines.specs.Values.{◌>>=◌, natural}
 use Rattle.script_forms.specs.declared.words.Word.{Word}
 use Rattle.script_forms.specs.Forms.{word_of, canvas_text, command_of, canvas}
-use Rattle.script_forms.specs.Ranges.{in_range, is_sound}
 use Rattle.script_forms.specs.Jobs.{Fields, outline, area_of, cell_at}
 use Rattle.trace_forms.specs.declared.line.Line.{Line}
 use Rattle.trace_forms.specs.declared.line.Line.TheVariants.{Feed, Outside, Step, Start, Publish, End, Walk as WalkLine, Put}
@@ -133,10 +131,3 @@ canvas_line [] = Err UnknownWord
 canvas_line (name ∷ others) = do
   t ← word canvas_text name
   canvas others
-
--- a command's numbers are in their ranges and its job meets the limits, and a tile is one of the world
-abbrev pub Fits : Line → Type 0
-Fits (Feed c) = (in_range c ≡ true) × (is_sound c ≡ true)
-Fits (Publish p k) = IsWorldKey k
-Fits (Put p g k) = IsWorldKey k
-Fits line = Unit {0}

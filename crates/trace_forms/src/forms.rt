@@ -2,10 +2,11 @@
 
 ghost use Rattle.std.specs.Prelude.{◌≡◌, ◌≤◌, ℕ, true, codes, IfOk, Ok, Err, Result, ◌&&◌, if◌then◌else◌};
 ghost use Rattle.geom_core.specs.Areas.{lies_in, world};
-ghost use Rattle.geom_core.specs.Grid.{IsWorldKey};
+ghost use Rattle.geom_core.specs.Keys.{IsWorldKey};
 ghost use Rattle.script_lines.specs.Fronts.{pointed};
 ghost use Rattle.script_forms.specs.Ranges.{in_limits};
-ghost use Rattle.trace_forms.specs.Forms.{feed as told_feed, step as told_step, start as told_start, publish as told_publish, publish_at as told_publish_at, put_at as told_put_at, end as told_end, word as told_word, walk_of as told_walk, walk_up as told_up, walk_all as told_all, walks as told_walks, put as told_put, line_by as told_by, line_of as told_line, slots as told_slots, canvas_line as told_canvas, place as told_place, Fits};
+ghost use Rattle.trace_forms.specs.Forms.{feed as told_feed, step as told_step, start as told_start, publish as told_publish, publish_at as told_publish_at, put_at as told_put_at, end as told_end, word as told_word, walk_of as told_walk, walk_up as told_up, walk_all as told_all, walks as told_walks, put as told_put, line_by as told_by, line_of as told_line, slots as told_slots, canvas_line as told_canvas, place as told_place};
+ghost use Rattle.trace_forms.specs.Fits.{Fits};
 ghost use Rattle.script_forms.specs.Jobs.{cell_at as told_cell, area_of};
 
 use crate::line::Line;

@@ -37,6 +37,7 @@ pub enum TraceCause {
 }
 
 /// The first line that is refused, and why.
+#[derive(Clone, Copy, Debug, PartialEq, Eq)]
 pub struct TraceFault {
     /// The line's number, from 1 on.
     pub line: u32,

@@ -20,7 +20,8 @@ use Rattle.doc_model.specs.declared.command.Outcome.{Outcome}
 use Rattle.doc_model.specs.declared.command.Outcome.TheVariants.{Done}
 use Rattle.doc_model.specs.Layers.{Layer, plain}
 use Rattle.doc_model.specs.Forest.{none, paint, group, or_else}
-use Rattle.doc_model.specs.Adjusting.{adjusted, each}
+use Rattle.doc_model.specs.Adjusting.{adjusted}
+use Rattle.doc_model.specs.Each.{each}
 use Rattle.doc_model.specs.Readers.{path, order}
 use Rattle.doc_model.specs.Jobs.{writes}
 use Rattle.doc_model.specs.Shots.{published}

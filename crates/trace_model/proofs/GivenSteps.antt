@@ -9,7 +9,7 @@ use Rattle.doc_model.specs.declared.job.Job.{Job}
 use Rattle.doc_model.specs.declared.job.Kind.{Kind}
 use Rattle.doc_model.specs.declared.canvas.Patch.{Patch}
 use Rattle.doc_model.specs.Jobs.{writes}
-use Rattle.doc_model.specs.Updates.{all_unlike}
+use Rattle.doc_model.specs.Queues.{all_unlike}
 use Rattle.doc_model.specs.Lawful.{may_follow}
 use Rattle.doc_model.specs.Strokes.{is_export, Stroke, Entry, Strokes, Changes, Undoes, Redoes, Purges, Exports, entries}
 use Rattle.machine_model.specs.State.{Slot, Free, Paints, Walks, State, head, head_stroke}

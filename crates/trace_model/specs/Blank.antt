@@ -4,7 +4,7 @@ use Rattle.std.specs.FinMap as map
 use Rattle.pixel_core.specs.Rgba.{clear}
 use Rattle.doc_model.specs.declared.command.Outcome.TheVariants.{Done}
 use Rattle.doc_model.specs.Layers.{plain}
-use Rattle.doc_model.specs.Adjusting.{each}
+use Rattle.doc_model.specs.Each.{each}
 use Rattle.doc_model.specs.Picture.{Doc}
 use Rattle.machine_model.specs.State.{Reach, Child, Slot, Free, Paints, Walks, State}
 

@@ -6,7 +6,8 @@ use Rattle.std.proofs.lemmas.List.{length-take-le, take_all, take_more}
 use Rattle.script_lines.proofs.FieldLemmas.{first, second}
 use Rattle.doc_model.specs.declared.command.Command.{Command}
 use Rattle.doc_model.specs.Strokes.{Entry, fed, all_fed, entries}
-use Rattle.doc_model.specs.Lawful.{is_closed_entry, lawful, lawful_after, may_follow}
+use Rattle.doc_model.specs.Lawful.{may_follow}
+use Rattle.doc_model.specs.Feeding.{is_closed_entry, lawful, lawful_after}
 use Rattle.script_forms.specs.Ranges.{in_limits, in_range}
 use Rattle.script_text.specs.Script.{Contents}
 use Rattle.script_text.specs.Closed.{is_script, all_closed}

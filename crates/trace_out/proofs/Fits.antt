@@ -7,12 +7,13 @@ use Rattle.std.proofs.lemmas.Bool.Decides.{nat_tests}
 use Rattle.std.proofs.lemmas.Option.{slice_get_within}
 use Rattle.script_lines.proofs.FieldLemmas.{first, second, both}
 use Rattle.geom_core.specs.Areas.{Area, lies_in, world, right, bottom}
-use Rattle.geom_core.specs.Grid.{Key, IsWorldKey, cell, cell_of}
+use Rattle.geom_core.specs.Grid.{Key, cell, cell_of}
+use Rattle.geom_core.specs.Keys.{IsWorldKey}
 use Rattle.doc_model.specs.declared.canvas.Canvas.{Canvas}
 use Rattle.doc_model.specs.declared.canvas.Patch.{Patch}
 use Rattle.doc_model.specs.Canvases.{IsOfLimits}
 use Rattle.doc_model.specs.Picture.{canvas_area}
-use Rattle.doc_model.specs.Updates.{in_place}
+use Rattle.doc_model.specs.Queues.{in_place}
 use Rattle.machine_model.specs.State.{State, Slot}
 use Rattle.machine_model.specs.Sound.{IsOrderly}
 use Rattle.machine_model.proofs.Lists.{each_get}

@@ -1,9 +1,10 @@
 -- Where nothing may be done any more, nothing is left to do.
 use Rattle.std.proofs.Common.{◌≡◌, Bool, true, false, refl}
 use Rattle.std.specs.List.{list_all}
-use Rattle.doc_model.specs.Lawful.{is_closed_entry}
+use Rattle.doc_model.specs.Feeding.{is_closed_entry}
 use Rattle.doc_model.specs.Strokes.{entries}
-use Rattle.machine_model.specs.State.{State, IsSettled}
+use Rattle.machine_model.specs.State.{State}
+use Rattle.machine_model.specs.Settled.{IsSettled}
 use Rattle.machine_model.specs.Sound.{IsOrderly}
 use Rattle.desk_parts.proofs.SettlingRuns.{never_idle}
 use Rattle.trace_model.specs.Replays.{is_settled}

@@ -3,7 +3,8 @@ use Rattle.std.proofs.Common.{◌≡◌, ℕ, ◌<◌, ◌^◌, Bool, true, ◌&
 use Rattle.std.specs.Prelude.{slice_get, slice_set}
 use Rattle.std.proofs.lemmas.Bool.Decides.{nat_tests}
 use Rattle.script_lines.proofs.FieldLemmas.{both}
-use Rattle.geom_core.specs.Grid.{Key, IsWorldKey}
+use Rattle.geom_core.specs.Grid.{Key}
+use Rattle.geom_core.specs.Keys.{IsWorldKey}
 use Rattle.machine_model.specs.State.{State}
 use Rattle.machine_model.specs.Event as event
 use Rattle.machine_model.specs.Step.{Step}

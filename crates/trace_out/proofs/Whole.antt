@@ -10,8 +10,9 @@ use Rattle.script_lines.proofs.FieldLemmas.{first, second}
 use Rattle.script_forms.specs.Ranges.{in_limits, in_range}
 use Rattle.script_text.specs.Script.{Contents, contents}
 use Rattle.script_text.specs.Closed.{is_script, all_closed}
-use Rattle.doc_model.specs.Lawful.{lawful}
-use Rattle.machine_model.specs.State.{State, new_state, IsSettled}
+use Rattle.doc_model.specs.Feeding.{lawful}
+use Rattle.machine_model.specs.State.{State, new_state}
+use Rattle.machine_model.specs.Settled.{IsSettled}
 use Rattle.trace_model.proofs.Turns.{settled_tells}
 use Rattle.trace_forms.specs.Replay.{replay, slots_in}
 use Rattle.trace_text.specs.Texts.{head_text, line_text, trace_text}

@@ -1,7 +1,8 @@
 -- What a scribe does.
 use Rattle.std.specs.Prelude.{◌≡◌, ℕ, true, List}
 use Rattle.std.specs.List.{list_all}
-use Rattle.machine_model.specs.State.{State, IsSettled, is_free}
+use Rattle.machine_model.specs.State.{State, is_free}
+use Rattle.machine_model.specs.Settled.{IsSettled}
 use Rattle.desk_parts.specs.Choices.{IsIdle}
 use Rattle.desk_parts.specs.Settles.{Settles, GoesOn}
 use Rattle.trace_out.specs.declared.scribe.Scribe.{Scribe}

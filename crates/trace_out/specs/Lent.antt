@@ -1,7 +1,8 @@
 -- Work that was taken out of its place, to be put back changed.
 use Rattle.std.specs.Prelude.{◌≡◌, ℕ, ◌-◌, true, false, Option, Some, None, List, [], slice_get, slice_set}
 use Rattle.std.specs.List.{list_any, list_all}
-use Rattle.geom_core.specs.Grid.{Key, IsWorldKey, same_key, keys_of, all_keys_of}
+use Rattle.geom_core.specs.Grid.{Key, same_key, keys_of, all_keys_of}
+use Rattle.geom_core.specs.Keys.{IsWorldKey}
 use Rattle.doc_model.specs.Jobs.{writes}
 use Rattle.machine_model.specs.State.{State}
 use Rattle.machine_model.specs.Groups.{on}

@@ -2,7 +2,7 @@
 
 ghost use Rattle.std.specs.Prelude.{◌≡◌, ◌≤◌, ◌++◌, true, OnOk, Ok};
 ghost use Rattle.geom_core.specs.Areas.{lies_in, world};
-ghost use Rattle.machine_model.specs.State.{IsSettled};
+ghost use Rattle.machine_model.specs.Settled.{IsSettled};
 ghost use Rattle.desk_parts.specs.Choices.{IsIdle};
 ghost use Rattle.desk_parts.specs.After.{busy_painter, busy_walker};
 ghost use Rattle.trace_forms.specs.declared.line.Line.TheVariants.{Start as StartLine, Walk as WalkLine};

@@ -2,11 +2,12 @@
 
 ghost use Rattle.std.specs.Prelude.{◌≡◌, ◌≤◌, ◌<◌, ◌-◌, ◌^◌, [], true, false, IfOk, OnOk, Ok, length, slice_get, IsSomeAnd};
 ghost use Rattle.std.specs.List.{list_all};
-ghost use Rattle.doc_model.specs.Lawful.{is_closed_entry};
+ghost use Rattle.doc_model.specs.Feeding.{is_closed_entry};
 ghost use Rattle.doc_model.specs.Strokes.{entries};
 ghost use Rattle.doc_model.specs.Meaning.{meaning};
 ghost use Rattle.script_text.specs.Script.{meaning_of};
-ghost use Rattle.machine_model.specs.State.{IsSettled, is_free};
+ghost use Rattle.machine_model.specs.State.{is_free};
+ghost use Rattle.machine_model.specs.Settled.{IsSettled};
 ghost use Rattle.trace_out.specs.Writing.{IsTied, Writes};
 ghost use Rattle.trace_out.specs.Goes.{GoesOnWriting, SettlesWriting, MayRest};
 ghost use Rattle.trace_out.specs.Traces.{IsTraceOf};

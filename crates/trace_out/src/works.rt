@@ -2,7 +2,8 @@
 
 ghost use Rattle.std.specs.Prelude.{◌≡◌, ◌∷◌, [], true, false, Some, slice_get, IsSomeAnd, OnOk};
 ghost use Rattle.std.specs.List.{list_any};
-ghost use Rattle.geom_core.specs.Grid.{IsWorldKey, same_key, keys_of};
+ghost use Rattle.geom_core.specs.Grid.{same_key, keys_of};
+ghost use Rattle.geom_core.specs.Keys.{IsWorldKey};
 ghost use Rattle.machine_model.specs.State.{is_free};
 ghost use Rattle.machine_model.specs.Event.{Publish as PublishEvent};
 ghost use Rattle.machine_model.specs.Step.{Step};

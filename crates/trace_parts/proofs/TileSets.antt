@@ -8,8 +8,8 @@ use Rattle.std.proofs.lemmas.List.{append_assoc}
 use Rattle.std.proofs.lemmas.List.Folds.{list_all-append, list_any-append}
 use Rattle.geom_core.specs.Areas.{Area}
 use Rattle.geom_core.specs.Grid.{Key, key_cmp, same_key, keys_of, all_keys_of, tile}
-use Rattle.memento_core.specs.KeySets.{widened}
-use Rattle.memento_core.proofs.Sets.{IsRound, RoundSoFar, none_round, one_round, all_round, set_round}
+use Rattle.geom_core.specs.Exchanged.{widened}
+use Rattle.geom_core.proofs.Rounds.{IsRound, RoundSoFar, none_round, one_round, all_round, set_round}
 use Rattle.doc_model.specs.declared.job.Kind.{Kind}
 use Rattle.doc_model.specs.declared.job.Job.{Job}
 use Rattle.doc_model.specs.Jobs.{writes}

@@ -4,7 +4,8 @@ use Rattle.std.specs.List.{list_any}
 use Rattle.std.specs.FinSet as set
 use Rattle.std.specs.FinSet.{FinSet}
 use Rattle.std.specs.Coded.{Coded, code_by, coded×, coded_ℕ}
-use Rattle.geom_core.specs.Grid.{Key, key_cmp, key_code, same_key, all_keys_of}
+use Rattle.geom_core.specs.Grid.{Key, key_cmp, same_key, all_keys_of}
+use Rattle.geom_core.specs.Keys.{key_code}
 use Rattle.doc_model.specs.declared.job.Job.{Job}
 use Rattle.doc_model.specs.contracts.job.Job as job_row
 use Rattle.doc_model.specs.Jobs.{writes}

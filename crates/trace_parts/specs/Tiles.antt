@@ -6,7 +6,7 @@ use Rattle.std.specs.FinSet.{FinSet}
 use Rattle.geom_core.specs.Areas.{Area}
 use Rattle.geom_core.specs.Grid.{Key, key_cmp, key_set, tile}
 use Rattle.geom_core.specs.Touches.{bound_of}
-use Rattle.memento_core.specs.KeySets.{widened}
+use Rattle.geom_core.specs.Exchanged.{widened}
 use Rattle.doc_model.specs.Strokes.{Jobs}
 use Rattle.machine_model.specs.Effects.{writes_of}
 

@@ -4,7 +4,8 @@ use Rattle.std.specs.List.{list_any, list_all}
 use Rattle.std.specs.FinSet as set
 use Rattle.std.specs.FinSet.{FinSet}
 use Rattle.std.specs.Coded.{Coded, code_by, coded×, coded_ℕ, coded_list}
-use Rattle.geom_core.specs.Grid.{Key, key_cmp, key_code, same_key, keys_of}
+use Rattle.geom_core.specs.Grid.{Key, key_cmp, same_key, keys_of}
+use Rattle.geom_core.specs.Keys.{key_code}
 use Rattle.doc_model.specs.declared.canvas.Patch.{Patch}
 use Rattle.doc_model.specs.contracts.canvas.Patch as patch_row
 use Rattle.trace_parts.specs.declared.composed.Composed.{Composed}

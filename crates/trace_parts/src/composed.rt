@@ -1,7 +1,8 @@
 //! A group of a walk, and its tiles.
 
 ghost use Rattle.std.specs.Prelude.{◌≡◌, OnOk, IfOk};
-ghost use Rattle.geom_core.specs.Grid.{IsWorldKey, keys_of};
+ghost use Rattle.geom_core.specs.Grid.{keys_of};
+ghost use Rattle.geom_core.specs.Keys.{IsWorldKey};
 ghost use Rattle.trace_parts.specs.Tiles.{has_all};
 ghost use Rattle.trace_parts.specs.Walking.{noted, lacks};
 

@@ -3,7 +3,7 @@
 ghost use Rattle.std.specs.Prelude.{◌≡◌, slice_set};
 ghost use Rattle.std.specs.List.{list_any, list_all};
 ghost use Rattle.machine_model.specs.Guards.{excludes as guard_excludes, kind_at};
-ghost use Rattle.geom_core.specs.Grid.{IsWorldKey};
+ghost use Rattle.geom_core.specs.Keys.{IsWorldKey};
 ghost use Rattle.trace_parts.specs.Slots.{is_free, is_painter, is_walker, meets_walker, blocks, published_in, composed_in, SlotFollows};
 
 use crate::painter::Painter;

@@ -2,9 +2,10 @@
 
 ghost use Rattle.std.specs.Prelude.{◌≡◌, Some, true, All};
 ghost use Rattle.std.specs.List.{list_any, list_all};
-ghost use Rattle.geom_core.specs.Grid.{IsWorldKey, same_key, keys_of, all_keys_of};
+ghost use Rattle.geom_core.specs.Grid.{same_key, keys_of, all_keys_of};
+ghost use Rattle.geom_core.specs.Keys.{IsWorldKey};
 ghost use Rattle.doc_model.specs.Jobs.{checks, writes};
-ghost use Rattle.memento_core.specs.KeySets.{widened};
+ghost use Rattle.geom_core.specs.Exchanged.{widened};
 ghost use Rattle.trace_parts.specs.Tiles.{has_all, rounded, round};
 
 use doc_model::{Job, Kind};

@@ -3,7 +3,8 @@
 ghost use Rattle.std.specs.Prelude.{◌≡◌, true, false, IfOk, Ok, OnOk, map};
 ghost use Rattle.std.specs.List.{list_any, list_all};
 ghost use Rattle.trace_parts.specs.Tiles.{has_all};
-ghost use Rattle.geom_core.specs.Grid.{IsWorldKey, keys_of};
+ghost use Rattle.geom_core.specs.Grid.{keys_of};
+ghost use Rattle.geom_core.specs.Keys.{IsWorldKey};
 ghost use Rattle.trace_parts.specs.Walking.{fresh, lacks, noted, lacks_pair, with_pair, is_composed};
 
 use crate::composed::Composed;

@@ -7,7 +7,7 @@ use Rattle.doc_model.specs.Forest.{none, paint, group, has, is_group, or_else}
 use Rattle.doc_model.specs.Flat.{Row, flat}
 use Rattle.tree_core.specs.declared.node.Node.{Node}
 use Rattle.tree_core.specs.Nodes.{Tree, row_of, content_of, tree_of, IsKept}
-use Rattle.doc_model.specs.Readers.{look_in}
+use Rattle.doc_model.specs.Children.{look_in}
 use Rattle.tree_core.proofs.Choices.{turned, none_only}
 use Rattle.tree_core.proofs.Kept.{Rows}
 use Rattle.tree_core.proofs.Passes.{first_with}

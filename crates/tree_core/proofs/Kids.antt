@@ -6,7 +6,7 @@ use Rattle.doc_model.specs.Flat.{read, read-flat}
 use Rattle.doc_model.specs.Changes.{takes, child_count}
 use Rattle.tree_core.specs.declared.node.Node.{Node}
 use Rattle.tree_core.specs.Nodes.{Tree, rows_of, tree_of, IsKept}
-use Rattle.doc_model.specs.Readers.{side_at, child_in}
+use Rattle.doc_model.specs.Children.{side_at, child_in}
 use Rattle.tree_core.proofs.Passes.{nodes_after}
 use Rattle.tree_core.proofs.Between.{Between, between}
 

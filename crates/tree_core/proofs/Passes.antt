@@ -10,7 +10,7 @@ use Rattle.doc_model.specs.Forest.{none, width}
 use Rattle.doc_model.specs.Flat.{read, node}
 use Rattle.tree_core.specs.declared.node.Node.{Node}
 use Rattle.tree_core.specs.Nodes.{Tree, rows_of, content_of, start_in}
-use Rattle.doc_model.specs.Readers.{side_at}
+use Rattle.doc_model.specs.Children.{side_at}
 use Rattle.tree_core.proofs.Choices.{same_choice}
 
 -- the first node with the id q

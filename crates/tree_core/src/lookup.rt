@@ -5,7 +5,8 @@ ghost use Rattle.std.specs.List.{find, list_any, take_while, remove_range};
 ghost use Rattle.doc_model.specs.Changes.{takes};
 ghost use Rattle.doc_model.specs.Flat.{flat, read};
 ghost use Rattle.doc_model.specs.Forest.{has, width, depth, only, without};
-ghost use Rattle.doc_model.specs.Readers.{side_at, parent};
+ghost use Rattle.doc_model.specs.Readers.{parent};
+ghost use Rattle.doc_model.specs.Children.{side_at};
 ghost use Rattle.tree_core.specs.Nodes.{rows_of, tree_of, start_in, nodes_before, last_low, greatest_depth, levels, IsKept};
 
 use crate::node::Node;

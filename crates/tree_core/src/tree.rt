@@ -8,7 +8,8 @@ ghost use Rattle.doc_model.specs.declared.tree.Change.TheVariants as change;
 ghost use Rattle.tree_core.specs.Exchanges.{Leads, led};
 ghost use Rattle.tree_core.specs.Nodes.{content_of};
 ghost use Rattle.doc_model.specs.Laws.{IsDocument};
-ghost use Rattle.doc_model.specs.Readers.{look_in, child_in, order, parent};
+ghost use Rattle.doc_model.specs.Readers.{order, parent};
+ghost use Rattle.doc_model.specs.Children.{look_in, child_in};
 
 use crate::edits::{move_along, push_all, set_look, take_out};
 use crate::exchange::{Exchange, between, exchange_nodes};

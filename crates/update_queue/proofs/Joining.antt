@@ -15,7 +15,8 @@ use Rattle.geom_core.specs.Grid.{cell, cell_of, parts, same_key}
 use Rattle.doc_model.specs.declared.canvas.Walk.{Walk}
 use Rattle.doc_model.specs.declared.canvas.Walk.TheVariants.{Up, All}
 use Rattle.doc_model.specs.declared.canvas.Patch.{Patch}
-use Rattle.doc_model.specs.Updates.{same_walk, one_cell, patch, merged, merge_all, new_parts, has_place, alike, all_unlike, bound_all, in_place}
+use Rattle.doc_model.specs.Updates.{same_walk, one_cell, patch, merged, merge_all, new_parts, has_place, bound_all}
+use Rattle.doc_model.specs.Queues.{alike, all_unlike, in_place}
 use Rattle.doc_model.proofs.Patches.{cells_differ, merged_place, merged_unlike, unlike-append, length_merge, length_append, parts_right, parts_apart}
 use Rattle.update_queue.proofs.Bounded.{bound_all-merged, bound_all-placed}
 use Rattle.update_queue.proofs.Elements.{drop_here, all_at, at_place, position_any, position-Some}

@@ -9,7 +9,8 @@ use Rattle.geom_core.proofs.Tests.{and_left, and_right, both_true}
 use Rattle.geom_core.proofs.Lying.{common_lies_left, lies_trans}
 use Rattle.doc_model.specs.declared.canvas.Walk.{Walk}
 use Rattle.doc_model.specs.declared.canvas.Patch.{Patch}
-use Rattle.doc_model.specs.Updates.{IsQueue, alike, all_unlike, bound_all, added, replaced, queued, queued_part, refreshed, refreshed_part, in_place}
+use Rattle.doc_model.specs.Updates.{bound_all, added, replaced, queued, queued_part, refreshed, refreshed_part}
+use Rattle.doc_model.specs.Queues.{IsQueue, alike, all_unlike, in_place}
 use Rattle.doc_model.proofs.Patches.{queued_right, refreshed_right, bound_all_lies}
 use Rattle.update_queue.specs.Waiting.{Waiting, waiting, avoids, largest}
 use Rattle.update_queue.proofs.Elements.{all-remove, length-remove}

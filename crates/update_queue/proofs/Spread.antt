@@ -10,7 +10,8 @@ use Rattle.geom_core.specs.Areas.{Area, holds, lies_in, Point, point}
 use Rattle.geom_core.specs.Grid.{parts}
 use Rattle.doc_model.specs.declared.canvas.Walk.TheVariants.{Up, All}
 use Rattle.doc_model.specs.declared.canvas.Patch.{Patch}
-use Rattle.doc_model.specs.Updates.{patch, merge_all, new_parts, has_place, bound_all, replaced, added, in_place}
+use Rattle.doc_model.specs.Updates.{patch, merge_all, new_parts, has_place, bound_all, replaced, added}
+use Rattle.doc_model.specs.Queues.{in_place}
 use Rattle.doc_model.proofs.Patches.{parts_right, bound_all_lies, length_map}
 use Rattle.doc_model.proofs.QueueLaws.{in_grid, parts_hold, bound_all_patch, map_patch}
 use Rattle.update_queue.specs.Waiting.{IsSpread, largest}

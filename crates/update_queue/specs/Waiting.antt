@@ -3,7 +3,7 @@ use Rattle.std.specs.Prelude.{◌≡◌, pos, not, Bool, true, List, map, length
 use Rattle.std.specs.List.{list_any}
 use Rattle.std.specs.Coded.{Coded, code_by, coded×, coded_list}
 use Rattle.geom_core.specs.Areas.{Area, area, meets, lies_in}
-use Rattle.geom_core.specs.Overlaps.{area_code}
+use Rattle.geom_core.specs.Rects.{area_code}
 use Rattle.geom_core.specs.Grid.{parts}
 use Rattle.doc_model.specs.declared.canvas.Patch.{Patch}
 use Rattle.doc_model.specs.declared.canvas.Walk.TheVariants.{All}

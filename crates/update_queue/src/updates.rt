@@ -4,7 +4,8 @@ ghost use Rattle.std.specs.Prelude.{◌≡◌, ◌≤◌, ◌<◌, true, [], len
 ghost use Rattle.std.specs.Bool.{OnTrue};
 ghost use Rattle.std.specs.List.{find, position_or_len};
 ghost use Rattle.geom_core.specs.Areas.{lies_in};
-ghost use Rattle.doc_model.specs.Updates.{queued, refreshed, added, replaced, IsQueue};
+ghost use Rattle.doc_model.specs.Updates.{queued, refreshed, added, replaced};
+ghost use Rattle.doc_model.specs.Queues.{IsQueue};
 ghost use Rattle.doc_model.specs.declared.canvas.Walk.TheVariants as walks;
 ghost use Rattle.update_queue.specs.Waiting.{waiting, avoids, largest};
 
@@ -31,7 +32,7 @@ pub struct Updates {
 impl Model for Updates {
     ghost use Rattle.std.specs.Prelude.{◌≡◌, true, IfSome};
     ghost use Rattle.geom_core.specs.Areas.{lies_in};
-    ghost use Rattle.doc_model.specs.Updates.{IsQueue};
+    ghost use Rattle.doc_model.specs.Queues.{IsQueue};
     ghost use Rattle.update_queue.specs.Waiting.{Waiting, waiting, waiting_code, largest, IsSpread};
 
     ghost Value = { Waiting };

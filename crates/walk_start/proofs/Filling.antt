@@ -14,7 +14,7 @@ use Rattle.pixel_core.specs.Rgba.{clear}
 use Rattle.doc_model.specs.declared.tree.Look.{Look}
 use Rattle.doc_model.specs.Layers.{Layer, plain}
 use Rattle.doc_model.specs.Forest.{content, upper}
-use Rattle.doc_model.specs.Readers.{look_in, child_in}
+use Rattle.doc_model.specs.Children.{look_in, child_in}
 use Rattle.doc_model.specs.Changes.{takes}
 use Rattle.doc_model.specs.Ids.{IsTree}
 use Rattle.doc_model.specs.Picture.{Doc}

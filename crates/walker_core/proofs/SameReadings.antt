@@ -4,7 +4,7 @@ use Rattle.std.proofs.lemmas.Bool.Decides.{nat_tests}
 use Rattle.std.proofs.lemmas.List.{drop_all}
 use Rattle.pixel_core.specs.Rgba.{Rgba, clear}
 use Rattle.geom_core.specs.Areas.{Area, holds, Point, point}
-use Rattle.geom_core.specs.Overlaps.{IsShared}
+use Rattle.geom_core.specs.Rects.{IsShared}
 use Rattle.geom_core.specs.Grid.{Key, key_of, tile}
 use Rattle.geom_core.proofs.Tests.{and_left, and_right}
 use Rattle.geom_core.proofs.Tiles.{key_same, key_is, key_of_holder, holder}

@@ -1,7 +1,7 @@
 -- What inputs show.
 use Rattle.std.proofs.Common.{◌≡◌, ℕ, Bool, true, false, ◌||◌, ◌&&◌, cond, List, [], ◌∷◌, ◌++◌, refl, sym, ap, subst, ◌∙◌, eqb}
 use Rattle.geom_core.specs.Areas.{Area, holds, Point}
-use Rattle.geom_core.specs.Overlaps.{any_holds}
+use Rattle.geom_core.specs.Rects.{any_holds}
 use Rattle.geom_core.proofs.Tests.{taken}
 use Rattle.tile_core.specs.Shots.{Sight, sight_at}
 use Rattle.doc_model.specs.Layers.{at, painted, plain}

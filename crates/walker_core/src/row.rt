@@ -4,7 +4,7 @@ ghost use Rattle.std.specs.Prelude.{◌≡◌, ◌<◌, true, [], length, take, 
 ghost use Rattle.std.specs.Option.{option_copied};
 ghost use Rattle.pixel_core.specs.Rgba.{clear};
 ghost use Rattle.geom_core.specs.Areas.{holds, Point};
-ghost use Rattle.geom_core.specs.Grid.{IsWorldKey};
+ghost use Rattle.geom_core.specs.Keys.{IsWorldKey};
 ghost use Rattle.doc_model.specs.Shots.{in_tile};
 ghost use Rattle.doc_model.specs.Picture.{with_look};
 ghost use Rattle.machine_model.specs.Walks.{value_in, walk_folded, walk_values};

@@ -2,7 +2,7 @@
 
 ghost use Rattle.std.specs.Prelude.{◌≡◌, ◌≤◌, ◌<◌, ◌∷◌, ◌↔◌, [], IsTrue, length, drop, IfSome, IfNone};
 ghost use Rattle.geom_core.specs.Areas.{Area};
-ghost use Rattle.geom_core.specs.Grid.{IsWorldKey};
+ghost use Rattle.geom_core.specs.Keys.{IsWorldKey};
 ghost use Rattle.walker_core.specs.Alike.{HasPointIn, AlikeChild, AlikeChildren, AlikeGroups};
 ghost use Rattle.walker_core.specs.Sameness.{SameValues};
 ghost use Rattle.walker_core.specs.Steps.{StepsOn, StopsAt, IsNext};

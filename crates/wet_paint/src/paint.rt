@@ -1,15 +1,16 @@
 //! Painting, with a screen beside it.
 
-ghost use Rattle.std.specs.Prelude.{◌≤◌, ◌-◌, ◌^◌, length};
+ghost use Rattle.std.specs.Prelude.{◌≡◌, ◌≤◌, ◌-◌, ◌^◌, length};
 
 use crate::screen::watch;
 use geom_core::NoMemory;
 use io_edge::{Failed, NoGate};
 use live_run::{live_frame, paint_live};
-use live_view::{LiveReader, LiveWriter, open_live};
+use live_view::{LiveOpened, LiveReader, LiveWriter, Naming, open_live};
 use script_text::Script;
 use std::alloc::{AllocError, Global};
 use std::io;
+use std::marker::Brand;
 use std::sync::Wait;
 use std::sync::atomic::{AtomicU64, Ordering};
 use std::thread::{Threads, join};
@@ -50,11 +51,11 @@ impl From<Failed> for WetError {
 }
 
 /// Paints the script, and gives the settled picture, as a new reader sees it.
-fn paint<R: Threads + Wait + Sync>(
+fn paint<K: Naming + Send + Sync, R: Threads + Wait + Sync>(
     rt: &R,
     alloc: Global,
     script: &Script,
-    live: &mut LiveWriter,
+    live: &mut LiveWriter<K>,
 ) -> Result<Frame, NoMemory>
     requires { length script.now.commands ≤ 2 ^ 32 - 1 }
 {
@@ -64,12 +65,12 @@ fn paint<R: Threads + Wait + Sync>(
 }
 
 /// The same beside a screen, which has a reader of the writer and writes what it sees.
-fn paint_watched<R: Threads + Wait + Print + Sync>(
+fn paint_watched<K: Naming + Send + Sync, R: Threads + Wait + Print + Sync>(
     rt: &R,
     alloc: Global,
     script: &Script,
-    live: &mut LiveWriter,
-    reader: LiveReader,
+    live: &mut LiveWriter<K>,
+    reader: LiveReader<K>,
     every: u64,
 ) -> Result<Frame, WetError>
     requires { length script.now.commands ≤ 2 ^ 32 - 1 }
@@ -98,10 +99,23 @@ pub(crate) fn picture_of<R: Threads + Wait + Print + Sync>(
     script: &Script,
     every: Option<u64>,
 ) -> Result<Frame, WetError> {
+    named_picture::<Brand, R>(rt, alloc, script, every, open_live())
+}
+
+/// The same, with the live view under a name.
+fn named_picture<K: Naming + Send + Sync, R: Threads + Wait + Print + Sync>(
+    rt: &R,
+    alloc: Global,
+    script: &Script,
+    every: Option<u64>,
+    opened: LiveOpened,
+) -> Result<Frame, WetError>
+    requires { opened ≡ K.book }
+{
     if script.len() > MOST {
         return Err(WetError::NoMemory);
     }
-    let mut live = open_live(alloc, 2)?;
+    let mut live: LiveWriter<K> = opened.named(alloc, 2)?;
     let picture = match (live.reader(), every) {
         (Ok(reader), Some(every)) => {
             paint_watched(rt, alloc, script, &mut live, reader, every.max(1))

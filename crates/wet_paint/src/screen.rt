@@ -7,7 +7,7 @@ ghost use Rattle.tile_core.specs.Frames.{IsTileOf};
 use crate::paint::WetError;
 use geom_core::{NoMemory, TileKey};
 use io_edge::StdSink;
-use live_view::LiveReader;
+use live_view::{LiveReader, Naming};
 use ppm_out::write_frame;
 use script_text::Script;
 use std::alloc::Global;
@@ -53,7 +53,11 @@ fn lies_in(tile: i16, points: u16) -> bool
 }
 
 /// Puts the tile that the reader sees into the frame, if there is one.
-fn put_seen(reader: &mut LiveReader, key: TileKey, frame: &mut Frame) -> Result<(), NoMemory>
+fn put_seen<K: Naming>(
+    reader: &mut LiveReader<K>,
+    key: TileKey,
+    frame: &mut Frame,
+) -> Result<(), NoMemory>
     requires key { IsOnCanvas key }
     requires inside { IsTileOf frame.old key }
 {
@@ -66,7 +70,11 @@ fn put_seen(reader: &mut LiveReader, key: TileKey, frame: &mut Frame) -> Result<
 }
 
 /// The picture that the reader sees. Where a look is refused the paper shows.
-fn picture(alloc: Global, reader: &mut LiveReader, script: &Script) -> Result<Frame, NoMemory> {
+fn picture<K: Naming>(
+    alloc: Global,
+    reader: &mut LiveReader<K>,
+    script: &Script,
+) -> Result<Frame, NoMemory> {
     let mut frame = bare(alloc, script)?;
     for place in 0..TILES {
         let key = key_at(place);
@@ -78,7 +86,7 @@ fn picture(alloc: Global, reader: &mut LiveReader, script: &Script) -> Result<Fr
 }
 
 /// How many updates the reader sees.
-fn version(reader: &mut LiveReader) -> u64 {
+fn version<K: Naming>(reader: &mut LiveReader<K>) -> u64 {
     match reader.look(key_at(0)) {
         Ok(shown) => shown.version,
         Err(_) => 0,
@@ -86,10 +94,10 @@ fn version(reader: &mut LiveReader) -> u64 {
 }
 
 /// Writes a picture each time that so many further tiles were published, until the painting is over.
-pub(crate) fn watch<R: Threads + Wait + Print + Sync>(
+pub(crate) fn watch<K: Naming, R: Threads + Wait + Print + Sync>(
     rt: &R,
     alloc: Global,
-    reader: LiveReader,
+    reader: LiveReader<K>,
     script: &Script,
     every: u64,
     is_over: &AtomicU64,
@@ -112,12 +120,12 @@ pub(crate) fn watch<R: Threads + Wait + Print + Sync>(
 }
 
 /// Writes a picture as a pixmap.
-pub(crate) fn write_picture<R: Print + Threads + Sync>(
+pub(crate) fn write_picture<R: Print>(
     rt: &R,
     alloc: Global,
     picture: &Frame,
 ) -> Result<(), WetError> {
     let mut row = vec![in alloc; 0; 3 * picture.width() as usize]?;
-    write_frame(rt, 1, picture, &mut row, &mut StdSink::new(io::writer(rt)))?;
+    write_frame(picture, &mut row, &mut StdSink::new(io::writer(rt)))?;
     Ok(())
 }

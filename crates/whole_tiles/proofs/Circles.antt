@@ -5,7 +5,8 @@ use Rattle.std.proofs.lemmas.List.{get_or-replicate}
 use Rattle.std.proofs.Math.Nat.{mul-le-mul_left, mul-le-mul_right}
 use Rattle.std.proofs.lemmas.Bool.Decides.{nat_tests}
 use borrow.Author.Differences.{ints}
-use Rattle.pixel_core.specs.Rgba.{Rgba, clear, IsCanonical}
+use Rattle.pixel_core.specs.Rgba.{Rgba, clear}
+use Rattle.pixel_core.specs.Canonical.{IsCanonical}
 use Rattle.pixel_core.specs.Compose.{compose, mul}
 use Rattle.pixel_core.specs.declared.blending.Op.{Op}
 use Rattle.pixel_core.proofs.Rounding.{laws_of_mul}
@@ -13,7 +14,7 @@ use Rattle.pixel_core.proofs.ComposeLaws.{unseen_leaves}
 use Rattle.brush_mask.specs.Mask.{mask, distance2}
 use Rattle.brush_mask.proofs.MaskLaws.{laws_of_the_circle}
 use Rattle.geom_core.specs.Areas.{Area, holds, Point}
-use Rattle.geom_core.specs.Overlaps.{any_holds}
+use Rattle.geom_core.specs.Rects.{any_holds}
 use Rattle.geom_core.specs.Grid.{Key, tile}
 use Rattle.geom_core.specs.Place.{IsOffset, across, down}
 use Rattle.geom_core.proofs.Tests.{and_left, and_right}

@@ -2,17 +2,17 @@
 use Rattle.std.proofs.Common.{◌≡◌, ℕ, ◌+◌, ◌*◌, Bool, true, false, ◌&&◌, cond, [], ◌∷◌, refl, sym, ap, subst, ◌∙◌, arith}
 use Rattle.std.specs.Prelude.{ℤ, pos, ◌+ℤ◌, ◌-ℤ◌, ◌≤ℤ◌, int_le, int_lt}
 use borrow.Author.Differences.{ints}
-use Rattle.pixel_core.specs.Rgba.{Rgba}
+use Rattle.pixel_core.specs.Rgba.{Rgba, clear}
 use Rattle.pixel_core.specs.Compose.{compose, mul}
 use Rattle.brush_mask.specs.Mask.{mask}
-use Rattle.geom_core.specs.Areas.{Area, holds, moved, Point, point}
-use Rattle.geom_core.specs.Overlaps.{any_holds, IsWithin, IsShared}
-use Rattle.geom_core.specs.Grid.{Key, tile}
+use Rattle.geom_core.specs.Areas.{Area, holds, moved, Point, point, meets}
+use Rattle.geom_core.specs.Rects.{any_holds, IsWithin, IsShared}
+use Rattle.geom_core.specs.Grid.{Key, tile, same_key, all_keys_of}
 use Rattle.geom_core.proofs.Tests.{and_left, and_right, both_true, or_left, taken}
 use Rattle.doc_model.specs.declared.job.Job.{Job}
 use Rattle.doc_model.specs.declared.job.Job.TheVariants.{Fill, Dab, Move, Blur, Track}
 use Rattle.doc_model.specs.Layers.{Layer, at}
-use Rattle.doc_model.specs.Jobs.{reads, writes, value, apply, grown, all_stamped}
+use Rattle.doc_model.specs.Jobs.{reads, writes, value, apply, grown, all_stamped, checks, square}
 use Rattle.doc_model.specs.Trails.{centres}
 use Rattle.doc_model.specs.Shots.{in_tile}
 use Rattle.doc_model.proofs.JobLaws.{at-apply, laws_of_jobs}
@@ -24,11 +24,8 @@ use Rattle.job_core.proofs.Keys.{due_key, square_met}
 use Rattle.job_core.proofs.BlurValues.{blur_around}
 use Rattle.std.specs.List.{list_any}
 use Rattle.std.specs.FinMap as map
-use Rattle.pixel_core.specs.Rgba.{clear}
-use Rattle.geom_core.specs.Areas.{meets}
-use Rattle.geom_core.specs.Grid.{same_key, all_keys_of, IsWorldKey}
+use Rattle.geom_core.specs.Keys.{IsWorldKey}
 use Rattle.tile_core.specs.Shots.{sight}
-use Rattle.doc_model.specs.Jobs.{checks, square}
 use Rattle.doc_model.specs.Lawful.{within_limits, of_limits}
 use Rattle.whole_tiles.specs.Enough.{IsEnough}
 use Rattle.whole_tiles.proofs.Seen.{own_seen}

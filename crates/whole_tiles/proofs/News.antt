@@ -7,8 +7,9 @@ use Rattle.std.proofs.lemmas.List.{get_or-replicate}
 use Rattle.std.proofs.Math.Seq.{take-length}
 use Rattle.pixel_core.specs.Rgba.{Rgba, clear}
 use Rattle.geom_core.specs.Areas.{Area, holds, Point}
-use Rattle.geom_core.specs.Overlaps.{any_holds}
-use Rattle.geom_core.specs.Grid.{Key, key_of, tile, IsWorldKey}
+use Rattle.geom_core.specs.Rects.{any_holds}
+use Rattle.geom_core.specs.Grid.{Key, key_of, tile}
+use Rattle.geom_core.specs.Keys.{IsWorldKey}
 use Rattle.geom_core.specs.Place.{across, down}
 use Rattle.geom_core.proofs.Tests.{taken, kept}
 use Rattle.geom_core.proofs.Tiles.{own_tile, key_same}

@@ -5,7 +5,7 @@ use Rattle.std.specs.List.{list_any, list_all}
 use borrow.Author.Differences.{ints}
 use Rattle.geom_core.proofs.Tests.{and_left, and_right, both_true, or_left, or_right, or_cases}
 use Rattle.geom_core.specs.Areas.{Area, holds, lies_in, Point}
-use Rattle.geom_core.specs.Overlaps.{any_holds}
+use Rattle.geom_core.specs.Rects.{any_holds}
 use Rattle.tile_core.specs.Shots.{Sight, sight_at}
 use Rattle.doc_model.specs.Layers.{at, plain}
 use Rattle.doc_model.proofs.LayerLaws.{default-painted}

@@ -1,6 +1,6 @@
 -- Tiles that the circle of a dab doesn't reach.
 use Rattle.std.specs.Prelude.{◌≡◌, ℕ, ◌+◌, ◌*◌, ◌<◌, ◌≤◌, ℤ, pos, ◌-ℤ◌, nat_abs, true}
-use Rattle.pixel_core.specs.Rgba.{IsCanonical}
+use Rattle.pixel_core.specs.Canonical.{IsCanonical}
 use Rattle.brush_mask.specs.Mask.{distance2}
 use Rattle.geom_core.specs.Areas.{Point}
 use Rattle.geom_core.specs.Grid.{Key}

@@ -1,7 +1,7 @@
 -- On which pixels it hangs what a job leaves in one tile.
 use Rattle.std.specs.Prelude.{◌≡◌, true, [], ◌∷◌}
 use Rattle.geom_core.specs.Areas.{Area, holds, Point}
-use Rattle.geom_core.specs.Overlaps.{any_holds}
+use Rattle.geom_core.specs.Rects.{any_holds}
 use Rattle.geom_core.specs.Grid.{Key}
 use Rattle.doc_model.specs.declared.job.Job.{Job}
 use Rattle.doc_model.specs.Layers.{Layer, at}

@@ -4,8 +4,9 @@ use Rattle.std.specs.Coded.{Coded, code_by, coded×, coded_list}
 use Rattle.pixel_core.specs.Rgba.{Rgba}
 use Rattle.pixel_core.specs.Words.{pixel_code}
 use Rattle.geom_core.specs.Areas.{Area, holds, Point}
-use Rattle.geom_core.specs.Overlaps.{any_holds, area_code}
-use Rattle.geom_core.specs.Grid.{Key, key_code, IsWorldKey}
+use Rattle.geom_core.specs.Rects.{any_holds, area_code}
+use Rattle.geom_core.specs.Grid.{Key}
+use Rattle.geom_core.specs.Keys.{key_code, IsWorldKey}
 use Rattle.tile_core.specs.Pixels.{Pixels, pixel_at}
 use Rattle.tile_core.specs.Shots.{Sight, sight_at, sight_code}
 use Rattle.doc_model.specs.contracts.job.Job as job

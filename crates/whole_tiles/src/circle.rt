@@ -1,7 +1,7 @@
 //! Which tiles of its square the circle of a dab reaches.
 
 ghost use Rattle.std.specs.Prelude.{◌≡◌, ◌≤◌, ◌*◌, ◌≤ℤ◌, pos, negsuc, true, false};
-ghost use Rattle.geom_core.specs.Grid.{IsWorldKey};
+ghost use Rattle.geom_core.specs.Keys.{IsWorldKey};
 ghost use Rattle.geom_core.specs.Place.{IsOffset};
 ghost use Rattle.doc_model.specs.Jobs.{checks};
 ghost use Rattle.whole_tiles.specs.Circles.{LeavesTile, LieApart, LiesOutside};

@@ -3,8 +3,9 @@
 ghost use Rattle.std.specs.Prelude.{◌≡◌, ◌<◌, ◌-ℤ◌, pos, true, false, length, slice_get, Some};
 ghost use Rattle.std.specs.List.{list_any};
 ghost use Rattle.geom_core.specs.Areas.{lies_in, meets, moved as moved_area, world};
-ghost use Rattle.geom_core.specs.Overlaps.{IsShared};
-ghost use Rattle.geom_core.specs.Grid.{IsWorldKey, same_key, all_keys_of, tile};
+ghost use Rattle.geom_core.specs.Rects.{IsShared};
+ghost use Rattle.geom_core.specs.Grid.{same_key, all_keys_of, tile};
+ghost use Rattle.geom_core.specs.Keys.{IsWorldKey};
 ghost use Rattle.doc_model.specs.declared.job.Job.TheVariants.{Move, Blur};
 ghost use Rattle.doc_model.specs.Lawful.{within_limits};
 ghost use Rattle.doc_model.specs.Jobs.{checks, writes, grown};

@@ -3,7 +3,8 @@
 ghost use Rattle.std.specs.Prelude.{◌≡◌, ◌<◌, ◌++◌, [], ◌∷◌, true, Some, length, slice_get, IfOk, OnOk};
 ghost use Rattle.std.specs.List.{list_any, filter};
 ghost use Rattle.geom_core.specs.Areas.{meets, Point};
-ghost use Rattle.geom_core.specs.Grid.{IsWorldKey, keys_of, tile};
+ghost use Rattle.geom_core.specs.Grid.{keys_of, tile};
+ghost use Rattle.geom_core.specs.Keys.{IsWorldKey};
 ghost use Rattle.doc_model.specs.Jobs.{checks, reads};
 ghost use Rattle.doc_model.specs.Lawful.{within_limits};
 ghost use Rattle.doc_model.specs.Shots.{in_tile};

@@ -3,7 +3,7 @@ use Rattle.std.proofs.lemmas.Bool.Decides.{nat_tests}
 use Rattle.std.proofs.lemmas.List.{length-map}
 use borrow.Author.Differences.{ints}
 use Rattle.pixel_core.specs.Rgba.{clear}
-use Rattle.geom_core.specs.Overlaps.{any_holds}
+use Rattle.geom_core.specs.Rects.{any_holds}
 use Rattle.std.specs.Prelude.{◌-ℤ◌}
 use Rattle.geom_core.specs.Areas.{point, holds, moved, points_of}
 use Rattle.geom_core.proofs.Tests.{taken}

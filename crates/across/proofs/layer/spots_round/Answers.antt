@@ -2,7 +2,7 @@ use Rattle.std.proofs.Common.{◌≡◌, ℕ, ◌+◌, ◌*◌, ◌∙◌, sym, 
 use Rattle.std.specs.Prelude.{ℤ, pos, ◌-ℤ◌, IfOk}
 use borrow.Author.Differences.{ints}
 use Rattle.geom_core.specs.Areas.{Area, area, points_of, point}
-use Rattle.geom_core.specs.Overlaps.{IsInWorld}
+use Rattle.geom_core.specs.Rects.{IsInWorld}
 use Rattle.doc_model.specs.Jobs.{square}
 use Rattle.across.specs.Steps.{point_of}
 use Rattle.across.proofs.Layered.{round_in_world}

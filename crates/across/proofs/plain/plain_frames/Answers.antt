@@ -1,7 +1,7 @@
 use Rattle.std.proofs.Common.{◌≡◌, List, ℕ, [], refl, sym, ap, ◌∙◌, subst}
 use Rattle.std.specs.Global.{Vec}
 use Rattle.doc_model.specs.Canvases.{IsOfLimits}
-use Rattle.doc_model.specs.Lawful.{lawful}
+use Rattle.doc_model.specs.Feeding.{lawful}
 use Rattle.script_text.proofs.Scripts.{HoldsOfScript, script_holds}
 use Rattle.across.specs.Tellings.{Ends, HasCome, IsReady, Tells}
 use Rattle.across.proofs.Entries.{come_further, come_none, come_tells, next_ready}

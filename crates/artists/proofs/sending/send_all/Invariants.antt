@@ -1,6 +1,6 @@
 use Rattle.std.proofs.Common.{◌≡◌, take}
 use Rattle.turn_lock.specs.Passes.{own}
-use Rattle.artists.specs.Shares.{share}
+use Rattle.artists.specs.SignedShares.{share}
 use Rattle.artists.proofs.sending.send_all.Given as goal
 
 -- its commands among the first ones were sent

@@ -2,7 +2,7 @@ use Rattle.std.proofs.Common.{◌≡◌, ℕ, ℤ, pos, negsuc, ◌<◌, ◌-ℤ
 use Rattle.std.specs.Prelude.{◌≤ℤ◌}
 use borrow.Author.Differences.{ints}
 use Rattle.geom_core.specs.Areas.{Area, area, lies_in, world}
-use Rattle.geom_core.specs.Overlaps.{IsInWorld}
+use Rattle.geom_core.specs.Rects.{IsInWorld}
 use Rattle.doc_model.specs.Jobs.{grown}
 use Rattle.doc_model.proofs.InWorld.{outside}
 use Rattle.blur_core.proofs.blur.grown.Goals as goal

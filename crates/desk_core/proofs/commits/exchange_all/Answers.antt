@@ -1,9 +1,9 @@
-use Rattle.std.proofs.Common.{◌≡◌, Some, length, take, refl, sym, subst, arith}
+use Rattle.std.proofs.Common.{◌≡◌, Some, length, refl, sym, subst, arith}
 use Rattle.std.specs.Prelude.{slice_get}
 use Rattle.std.proofs.lemmas.Option.{slice_get_read}
-use Rattle.machine_model.specs.Step.{Run}
+use Rattle.desk_machine.specs.Commits.{RunsFront}
 use Rattle.desk_core.specs.Commits.{commit_events}
-use Rattle.desk_core.proofs.Committing.{takes_first, at_index, commits_rest, next_run, whole_run, none_left, prior_at, prior_stays}
+use Rattle.desk_core.proofs.Committing.{tiles_front, takes_first, at_index, commits_rest, next_run, whole_run, none_left, prior_at, prior_stays}
 use Rattle.desk_core.proofs.commits.exchange_all.Goals as goal
 
 pub exchange_one-requires-clause-takes : goal.exchange_one-requires-clause-takes
@@ -17,7 +17,8 @@ exchange_one-requires-clause-prior c n e =
     prior_at c.loop-whole.machine c.args.slot.place c.args.slot.serial n c.loop-whole.whole-index c.whole-item.result c.args.tiles.now _ at c.loop-whole.invariant.1 (c.loop-whole.invariant.2 n e)
 
 pub returns-in_err-exchange_one-clause-front : goal.returns-in_err-exchange_one-clause-front
-returns-in_err-exchange_one-clause-front c = record { count = c.loop-whole.whole-index; run = subst (λ s. Run c.args.machine.now (take c.loop-whole.whole-index (commit_events c.args.slot.place c.args.tiles.now)) s) (sym c.in_err-exchange_one.ensures.err) c.loop-whole.invariant.0 }
+returns-in_err-exchange_one-clause-front c = subst (RunsFront c.args.machine.now (commit_events c.args.slot.place c.args.tiles.now)) (sym c.in_err-exchange_one.ensures.err)
+    (tiles_front c.args.slot.place c.args.tiles.now c.loop-whole.whole-index c.args.machine.now c.loop-whole.machine (omega (arith, c.loop-whole-test.true)) c.loop-whole.invariant.0)
 
 pub loop-whole-preserved : goal.loop-whole-preserved
 loop-whole-preserved c =
@@ -28,7 +29,7 @@ loop-whole-preserved c =
     )
 
 pub returns-clause-front : goal.returns-clause-front
-returns-clause-front c = record { count = c.loop-whole.whole-index; run = c.loop-whole.invariant.0 }
+returns-clause-front c = tiles_front c.args.slot.place c.args.tiles.now c.loop-whole.whole-index c.args.machine.now c.loop-whole.machine c.loop-whole.auto.whole-index-end c.loop-whole.invariant.0
 
 pub returns-clause-all : goal.returns-clause-all
 returns-clause-all c new step =

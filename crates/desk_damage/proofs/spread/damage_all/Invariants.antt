@@ -1,7 +1,7 @@
 use Rattle.std.proofs.Common.{◌≡◌, take, true, false}
 use Rattle.geom_core.specs.Areas.{Point}
 use Rattle.geom_core.specs.Grid.{key_of}
-use Rattle.geom_core.specs.Overlaps.{any_holds}
+use Rattle.geom_core.specs.Rects.{any_holds}
 use Rattle.tile_core.specs.Marks.{on_canvas}
 use Rattle.tile_core.specs.Damage.{is_damaged}
 use Rattle.desk_damage.proofs.spread.damage_all.Given as goal

@@ -1,6 +1,6 @@
 use Rattle.std.proofs.Common.{subst}
 use Rattle.machine_model.specs.MeaningLaws.{HasMeaning}
-use Rattle.machine_model.specs.State.{IsSettled}
+use Rattle.machine_model.specs.Settled.{IsSettled}
 use Rattle.machine_model.proofs.RunsOrderly.{settled_has_meaning}
 use Rattle.desk_machine.proofs.laws.settled_has_meaning.Goals as goal
 

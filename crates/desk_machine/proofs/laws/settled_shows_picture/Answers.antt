@@ -1,7 +1,8 @@
 use Rattle.std.proofs.Common.{◌≡◌, true, false, List, [], ◌∷◌, refl, subst}
 use Rattle.std.specs.Prelude.{not}
 use Rattle.std.specs.List.{list_all, list_any}
-use Rattle.machine_model.specs.State.{State, Slot, Free, Paints, Walks, is_free, IsSettled}
+use Rattle.machine_model.specs.State.{State, Slot, Free, Paints, Walks, is_free}
+use Rattle.machine_model.specs.Settled.{IsSettled}
 use Rattle.machine_model.specs.Slots.{is_painter, is_walker}
 use Rattle.machine_model.specs.Sound.{IsSound}
 use Rattle.machine_model.proofs.RootPicture.{clean_is_picture, still_is_clean}

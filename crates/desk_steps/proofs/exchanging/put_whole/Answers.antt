@@ -1,6 +1,6 @@
 use Rattle.std.proofs.Common.{Some, sym, ap, subst, ◌∙◌}
 use Rattle.std.specs.FinSet as set
-use Rattle.geom_core.specs.Grid.{IsWorldKey}
+use Rattle.geom_core.specs.Keys.{IsWorldKey}
 use Rattle.memento_core.specs.Revisions.{keys_in}
 use Rattle.paint_device.specs.Sheets.{with_under}
 use Rattle.paint_device.specs.Seen.{layer_of}

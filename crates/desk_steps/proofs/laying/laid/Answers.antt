@@ -10,5 +10,5 @@ loop-i-preserved c = one_laid c.args.made.now c.args.device.now c.loop-i.tile c.
 
 pub returns : goal.returns
 returns c =
-    let all : c.loop-i.i ≡ length c.args.made.now.blocks = omega (arith, c.loop-i-test.false, c.loop-i.auto.i-end, c.block_count-i-end.ensures) in
+    let all : c.loop-i.i ≡ length c.args.made.now.blocks = omega (arith, c.loop-i-test.false, c.loop-i.auto.i-end, c.block_count-i-end.ensures.value) in
     all_laid c.args.made.now c.args.device.now c.loop-i.tile c.loop-i.i all c.loop-i.invariant

@@ -11,7 +11,7 @@ use Rattle.desk_steps.proofs.laying.laid_in_place.Goals as goal
 
 pub returns-then-block_count-eq1-clause-laid : goal.returns-then-block_count-eq1-clause-laid
 returns-then-block_count-eq1-clause-laid c w m laid =
-    let one : length c.args.made.now.blocks ≡ 1 = grind (arith, nat_tests, c.block_count.ensures, c.if-block_count-eq1.true) in
+    let one : length c.args.made.now.blocks ≡ 1 = grind (arith, nat_tests, c.block_count.ensures.value, c.if-block_count-eq1.true) in
     let key : c.key.result ≡ w.key = c.key.ensures.value ∙ key_made w c.args.made.now m in
     let job = w.job in
     let shot = paints.layer_of w.shot in

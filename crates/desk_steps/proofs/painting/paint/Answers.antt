@@ -1,6 +1,6 @@
 use Rattle.std.proofs.Common.{◌≡◌, Some, sym, subst, ap, ◌∙◌}
 use Rattle.std.specs.FinMap as map
-use Rattle.geom_core.specs.Grid.{IsWorldKey}
+use Rattle.geom_core.specs.Keys.{IsWorldKey}
 use Rattle.job_core.specs.Points.{LaysPoints, all_painted_in}
 use Rattle.paint_device.specs.InPlace.{LaysUnder}
 use Rattle.paint_device.specs.Seen.{layer_of}

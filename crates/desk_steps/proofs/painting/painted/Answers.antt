@@ -1,6 +1,6 @@
 use Rattle.std.proofs.Common.{◌≡◌, sym, subst, replicate}
 use Rattle.std.proofs.lemmas.Result.{IfOk-weaker}
-use Rattle.geom_core.specs.Grid.{IsWorldKey}
+use Rattle.geom_core.specs.Keys.{IsWorldKey}
 use Rattle.memento_core.specs.Planes.{tile_under}
 use Rattle.paint_device.specs.Sheets.{tile_or}
 use Rattle.desk_steps.specs.Tiles.{IsPaintedOn}

@@ -1,6 +1,6 @@
 use Rattle.std.proofs.Common.{false, Some, None, refl, sym, ap, ◌∙◌}
 use Rattle.geom_core.specs.Areas.{point, holds}
-use Rattle.geom_core.specs.Overlaps.{any_holds}
+use Rattle.geom_core.specs.Rects.{any_holds}
 use Rattle.doc_model.specs.Jobs.{writes}
 use Rattle.desk_parts.specs.declared.work.Work.TheVariants.{Paint, Walk}
 use Rattle.desk_work.proofs.SlotPoints.{point_read, work_works, checked_at}

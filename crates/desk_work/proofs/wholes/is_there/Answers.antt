@@ -1,6 +1,7 @@
 use Rattle.std.proofs.Common.{sym, ap, ◌∙◌, ◌||◌}
 use Rattle.std.specs.FinSet as set
-use Rattle.geom_core.specs.Grid.{key_cmp, key_cmp_total}
+use Rattle.geom_core.specs.Grid.{key_cmp}
+use Rattle.geom_core.specs.Keys.{key_cmp_total}
 use Rattle.desk_work.proofs.wholes.is_there.Goals as goal
 
 pub returns-then-has_key : goal.returns-then-has_key

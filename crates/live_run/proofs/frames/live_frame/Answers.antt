@@ -1,4 +1,4 @@
-use Rattle.std.proofs.Common.{◌≡◌, Some, length, refl, sym, ap, ◌∙◌, subst, arith}
+use Rattle.std.proofs.Common.{◌≡◌, length, refl, sym, ap, ◌∙◌, subst, arith}
 use Rattle.std.specs.Prelude.{slice_get}
 use Rattle.std.specs.FinMap as map
 use Rattle.geom_core.specs.Areas.{Area}
@@ -15,36 +15,36 @@ use Rattle.live_run.proofs.RootTiles.{key_on_canvas, one_shown}
 use Rattle.live_run.proofs.frames.live_frame.Goals as goal
 
 pub rect-shown-requires : goal.rect-shown-requires
-rect-shown-requires c = subst IsOfLimits (sym c.canvas-canvas.ensures) c.requires.limits
+rect-shown-requires g c = subst IsOfLimits (sym c.canvas-canvas.ensures) c.requires.limits
 
 pub loop-i-init : goal.loop-i-init
-loop-i-init c = record {
+loop-i-init g c = record {
   drawn = drawn_none c.args.desk.now.caches c.args.desk.now.canvas c.in_ok-frame.frame (c.in_ok-frame.ensures ∙ ap (λ (k : Canvas). scene k.w k.h k.paper map.empty) c.canvas-canvas.ensures);
   kept = refl;
 }
 
 pub put_seen-requires-clause-key : goal.put_seen-requires-clause-key
-put_seen-requires-clause-key c =
+put_seen-requires-clause-key g c =
     let area_is : c.rect-shown.result ≡ canvas_area c.args.desk.now.canvas = c.rect-shown.ensures ∙ ap canvas_area c.canvas-canvas.ensures in
     key_on_canvas c.args.desk.now.canvas c.loop-i.i c.tile_at.result c.requires.limits (ap (λ (a : Area). slice_get (keys_of a) c.loop-i.i) (sym area_is) ∙ c.tile_at.ensures.value)
 
 pub put_seen-requires-clause-inside : goal.put_seen-requires-clause-inside
-put_seen-requires-clause-inside c =
+put_seen-requires-clause-inside g c =
     let area_is : c.rect-shown.result ≡ canvas_area c.args.desk.now.canvas = c.rect-shown.ensures ∙ ap canvas_area c.canvas-canvas.ensures in
     drawn_inside c.args.desk.now.caches c.args.desk.now.canvas c.loop-i.i c.tile_at.result c.loop-i.frame c.requires.limits (ap (λ (a : Area). slice_get (keys_of a) c.loop-i.i) (sym area_is) ∙ c.tile_at.ensures.value) c.loop-i.invariant.drawn
 
 pub put_seen-requires-clause-none : goal.put_seen-requires-clause-none
-put_seen-requires-clause-none c = ap (λ (f : Feed). pending f) c.loop-i.invariant.kept ∙ c.requires.none
+put_seen-requires-clause-none g c = ap (λ (f : Feed). pending f) c.loop-i.invariant.kept ∙ c.requires.none
 
 pub put_seen-requires-clause-shows : goal.put_seen-requires-clause-shows
-put_seen-requires-clause-shows c =
+put_seen-requires-clause-shows g c =
     let area_is : c.rect-shown.result ≡ canvas_area c.args.desk.now.canvas = c.rect-shown.ensures ∙ ap canvas_area c.canvas-canvas.ensures in
     one_shown (updates_of (published c.loop-i.live)) c.args.desk.now (keys_of (canvas_area c.args.desk.now.canvas)) c.loop-i.i c.tile_at.result
     (ap (λ (a : Area). slice_get (keys_of a) c.loop-i.i) (sym area_is) ∙ c.tile_at.ensures.value)
     (subst (λ (f : Feed). ShowsRoot (updates_of (published f)) c.args.desk.now) (sym c.loop-i.invariant.kept) c.requires.root)
 
 pub loop-i-preserved : goal.loop-i-preserved
-loop-i-preserved c =
+loop-i-preserved g c =
     let area_is : c.rect-shown.result ≡ canvas_area c.args.desk.now.canvas = c.rect-shown.ensures ∙ ap canvas_area c.canvas-canvas.ensures in
     record {
       drawn = drawn_more c.args.desk.now.caches c.args.desk.now.canvas c.loop-i.i c.tile_at.result c.loop-i.frame c.put_seen.new.frame c.requires.limits
@@ -53,7 +53,7 @@ loop-i-preserved c =
     }
 
 pub returns-clause-cache : goal.returns-clause-cache
-returns-clause-cache c =
+returns-clause-cache g c =
     let area_is : c.rect-shown.result ≡ canvas_area c.args.desk.now.canvas = c.rect-shown.ensures ∙ ap canvas_area c.canvas-canvas.ensures in
     let count : c.tile_count-i-end.result ≡ length (keys_of (canvas_area c.args.desk.now.canvas)) = c.tile_count-i-end.ensures.value ∙ ap (λ (a : Area). length (keys_of a)) area_is in
     drawn_all c.args.desk.now.caches c.args.desk.now.canvas c.loop-i.i c.loop-i.frame (omega arith) c.loop-i.invariant.drawn

@@ -6,4 +6,4 @@ use Rattle.live_run.proofs.screen.put_root.Given as goal
 
 -- the tiles so far are shown
 abbrev pub invariant-loop-i : goal.invariant-loop-i
-invariant-loop-i l = ShowsTiles (all_updates l.live) l.desk (take l.i (keys_of l.rect))
+invariant-loop-i g l = ShowsTiles (all_updates l.live) l.desk (take l.i (keys_of l.rect))

@@ -8,4 +8,4 @@ use Rattle.live_run.proofs.screen.show.Goals as goal
 
 pub returns-clause-shows : goal.returns-clause-shows
 returns-clause-shows g c =
-    on_ok_weaker c.put_root-put.result (subst (λ (us : List Update). ShowsTiles us c.args.desk.now (keys_of c.args.rect.now)) (published_all c.put_root-put.new.live c.publish.new.self c.publish.ensures.published)) c.put_root-put.ensures
+    on_ok_weaker c.publish.result (λ e. subst (λ (us : List Update). ShowsTiles us c.args.desk.now (keys_of c.args.rect.now)) (published_all c.put_root.new.live c.publish.new.self e) c.in_ok-put_root.ensures) c.publish.ensures.published

@@ -2,8 +2,8 @@ use Rattle.std.proofs.Common.{rules, subst, sym}
 use Rattle.std.specs.Map.Iter.{deref}
 use Rattle.std.proofs.lemmas.Map.Iter.{rest_more, rest_all}
 use Rattle.std.proofs.lemmas.Map.Views.{All-turn}
-use Rattle.geom_core.specs.Grid.{IsWorldKey}
-use Rattle.memento_core.proofs.Sets.{RoundSoFar, none_round, one_round, all_round, set_round}
+use Rattle.geom_core.specs.Keys.{IsWorldKey}
+use Rattle.geom_core.proofs.Rounds.{RoundSoFar, none_round, one_round, all_round, set_round}
 use Rattle.memento_core.proofs.keys.bound_of.Goals as goal
 
 pub loop-key-init : goal.loop-key-init

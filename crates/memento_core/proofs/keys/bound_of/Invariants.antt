@@ -1,4 +1,4 @@
-use Rattle.memento_core.proofs.Sets.{RoundSoFar}
+use Rattle.geom_core.proofs.Rounds.{RoundSoFar}
 use Rattle.memento_core.proofs.keys.bound_of.Given as goal
 
 -- the rectangle so far, and the tiles that are left

@@ -1,7 +1,7 @@
 use Rattle.std.proofs.Common.{◌≡◌, None, rules, subst, sym, ap, is_some}
 use Rattle.std.specs.Map.Iter.{deref_pair}
 use Rattle.std.proofs.lemmas.Map.Iter.{btree_map_turn, rest_more, rest_all}
-use Rattle.geom_core.specs.Grid.{key_cmp_total}
+use Rattle.geom_core.specs.Keys.{key_cmp_total}
 use Rattle.paint_device.proofs.Extents.{SpannedSoFar, none_spanned, one_spanned, spanned, spans_none}
 use Rattle.paint_device.proofs.keyed.extent_of.Goals as goal
 

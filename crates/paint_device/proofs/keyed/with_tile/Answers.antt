@@ -1,7 +1,7 @@
 use Rattle.std.proofs.Common.{◌&&◌, sym, ap, ◌∙◌}
 use Rattle.geom_core.specs.Areas.{lies_in}
-use Rattle.memento_core.specs.KeySets.{lies_if}
-use Rattle.memento_core.proofs.Sets.{bound_in}
+use Rattle.geom_core.specs.Exchanged.{lies_if}
+use Rattle.geom_core.proofs.Rounds.{bound_in}
 use Rattle.paint_device.proofs.keyed.with_tile.Goals as goal
 
 pub returns-in-Some : goal.returns-in-Some

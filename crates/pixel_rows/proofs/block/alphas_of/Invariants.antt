@@ -1,5 +1,6 @@
 use Rattle.std.proofs.Common.{◌<◌, ◌≤◌, ℕ, get_or}
-use Rattle.pixel_core.specs.Rgba.{clear, IsCanonical}
+use Rattle.pixel_core.specs.Rgba.{clear}
+use Rattle.pixel_core.specs.Canonical.{IsCanonical}
 use Rattle.pixel_core.specs.Words.{word_of}
 use Rattle.pixel_rows.proofs.block.alphas_of.Given as goal
 

@@ -1,5 +1,6 @@
 use Rattle.std.proofs.Common.{ℕ, ◌<◌, get_or}
-use Rattle.pixel_core.specs.Rgba.{clear, IsCanonical}
+use Rattle.pixel_core.specs.Rgba.{clear}
+use Rattle.pixel_core.specs.Canonical.{IsCanonical}
 use Rattle.pixel_rows.proofs.block.tell_canonical.Given as goal
 
 -- the pixels so far are

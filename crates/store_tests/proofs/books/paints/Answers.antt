@@ -29,5 +29,10 @@ returns-clause-redo c =
     let first = c.in_ok-note.ensures.ok map.empty (ap (λ (b : Pages Pixels). b.index) c.in_ok-begin.ensures.ok) in
     ap (λ (b : Pages Pixels). b.redo) (c.in_ok-note-2.ensures.ok (noted_under map.empty (key (pos 0) (pos 0)) None) (ap (λ (b : Pages Pixels). b.index) first)) ∙ ap (λ (b : Pages Pixels). b.redo) first ∙ ap (λ (b : Pages Pixels). b.redo) c.in_ok-begin.ensures.ok
 
+pub returns-clause-past : goal.returns-clause-past
+returns-clause-past c =
+    let first = c.in_ok-note.ensures.ok map.empty (ap (λ (b : Pages Pixels). b.index) c.in_ok-begin.ensures.ok) in
+    ap (λ (b : Pages Pixels). b.past) (c.in_ok-note-2.ensures.ok (noted_under map.empty (key (pos 0) (pos 0)) None) (ap (λ (b : Pages Pixels). b.index) first)) ∙ ap (λ (b : Pages Pixels). b.past) first ∙ ap (λ (b : Pages Pixels). b.past) c.in_ok-begin.ensures.ok
+
 pub returns-clause-keys : goal.returns-clause-keys
 returns-clause-keys c = write_keeps c.args.device.now c.write_region.new.self c.args.block.now c.in_ok-write_region.ensures.ok

@@ -1,6 +1,7 @@
 use Rattle.std.proofs.Common.{sym, subst, true, false}
 use Rattle.std.specs.Option.{option_map_or}
-use Rattle.strokes_top.specs.Run.{limit_of, ConsumesAtMost, IsOutput, IsBegun}
+use Rattle.strokes_top.specs.Reading.{limit_of, ConsumesAtMost}
+use Rattle.strokes_top.specs.Run.{IsOutput, IsBegun}
 use Rattle.strokes_top.proofs.Givings.{answered}
 use Rattle.strokes_top.proofs.command.answer.Goals as goal
 

@@ -1,5 +1,5 @@
 use Rattle.std.proofs.Common.{IfOk, subst, sym}
-use Rattle.strokes_top.specs.Output.{ShowsFor}
+use Rattle.strokes_top.specs.Room.{ShowsFor}
 use Rattle.strokes_top.proofs.painting.shown_by_crew.Goals as goal
 
 -- the live view is that of a reader

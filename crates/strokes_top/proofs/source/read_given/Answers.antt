@@ -1,5 +1,5 @@
 use Rattle.std.proofs.Common.{subst, sym}
-use Rattle.strokes_top.specs.Run.{limit_of, ConsumesAtMost}
+use Rattle.strokes_top.specs.Reading.{limit_of, ConsumesAtMost}
 use Rattle.strokes_top.proofs.source.read_given.Goals as goal
 
 pub returns-then-replays-clause-within_limit : goal.returns-then-replays-clause-within_limit

@@ -1,7 +1,7 @@
 use Rattle.std.proofs.Common.{rules, ◌≡◌, ◌∙◌, Err, ap, true}
 use Rattle.std.proofs.lemmas.Result.{IfOk-weaker, IfErr-weaker}
 use Rattle.strokes_top.specs.declared.status.Status.TheVariants.{TooLong}
-use Rattle.strokes_top.specs.Run.{Gives}
+use Rattle.strokes_top.specs.Traces.{Replays}
 use Rattle.strokes_top.proofs.Takings.{read_of_trace, replay_of_trace, read_gives}
 use Rattle.strokes_top.proofs.source.read_trace.Goals as goal
 
@@ -22,7 +22,7 @@ returns-in_err-bytes-clause-statuses g c =
     rw told (read_of_trace c.in_err-bytes.field-0.0 c.in_err-bytes.ensures.statuses)
 
 pub returns-clause-ok : goal.returns-clause-ok
-returns-clause-ok g c = IfOk-weaker c.replayed.result _ _ (λ s h. read_gives _ _ c.in_ok-bytes.bytes.items (Gives true (λ t. t ≡ s)) c.in_ok-bytes.ensures.ok h) (rw (← c.deref.ensures.value) c.replayed.ensures.ok)
+returns-clause-ok g c = IfOk-weaker c.replayed.result _ _ (λ s h. read_gives _ _ c.in_ok-bytes.bytes.items (Replays (λ t. t ≡ s)) c.in_ok-bytes.ensures.ok h) (rw (← c.deref.ensures.value) c.replayed.ensures.ok)
 
 pub returns-clause-statuses : goal.returns-clause-statuses
 returns-clause-statuses g c = IfErr-weaker c.replayed.result _ _ (λ s h. replay_of_trace s h) c.replayed.ensures.statuses

@@ -2,8 +2,8 @@ use Rattle.std.proofs.Common.{◌≡◌, ◌≢◌, ◌∙◌, length, [], ◌�
 use Rattle.io_edge.proofs.Written.{prefix_is}
 use Rattle.log_out.specs.Summary.{sheet_of}
 use Rattle.log_out.specs.Log.{sum_text}
-use Rattle.strokes_top.specs.Output.{ShowsFor}
-use Rattle.strokes_top.specs.Run.{output}
+use Rattle.strokes_top.specs.Room.{ShowsFor}
+use Rattle.strokes_top.specs.Output.{output}
 use Rattle.strokes_top.proofs.Outputs.{one_alone, one_each, picture_is, pictures_are, room_alone, room_each, room_of, sides_of, summary_is, whole_is}
 use Rattle.strokes_top.proofs.writing.write_output.Goals as goal
 
@@ -12,32 +12,32 @@ write_log-requires g c =
     let shows = subst (λ e. ShowsFor e c.args.script.now c.args.shown.now.film c.args.shown.now.outcomes.items) c.in-Log.is c.requires.shows in
     record { each = rw c.deref.ensures.value (one_each _ _ _ shows) }
 
-pub write_frame-requires : goal.write_frame-requires
-write_frame-requires g c =
+pub write_frame_by-requires : goal.write_frame_by-requires
+write_frame_by-requires g c =
     let only : c.args.shown.now.film ≡ c.frame-item.result ∷ [] = sym c.frames.ensures ∙ one_alone c.frames.result.now c.frame-item.result (omega (arith, c.in-len1.len_at_least, c.in-len1.len_below)) c.frame-item.is in
     (search rules, room_alone c.args.script.now.canvas _ _ c.frame-item.result only (room_of c.args.emit _ _ _ c.in-Picture.is c.requires.room) (sides_of c.args.emit _ _ _ c.in-Picture.is c.requires.shows))
 
 pub returns-in-len1-clause-ok : goal.returns-in-len1-clause-ok
 returns-in-len1-clause-ok g c =
     let only : c.args.shown.now.film ≡ c.frame-item.result ∷ [] = sym c.frames.ensures ∙ one_alone c.frames.result.now c.frame-item.result (omega (arith, c.in-len1.len_at_least, c.in-len1.len_below)) c.frame-item.is in
-    whole_is _ _ _ _ _ c.write_frame.ensures.ok (picture_is c.args.emit _ _ _ c.frame-item.result only c.in-Picture.is c.requires.shows)
+    whole_is _ _ _ _ _ c.write_frame_by.ensures.ok (picture_is c.args.emit _ _ _ c.frame-item.result only c.in-Picture.is c.requires.shows)
 
 pub returns-in-len1-clause-err : goal.returns-in-len1-clause-err
 returns-in-len1-clause-err g c =
     let only : c.args.shown.now.film ≡ c.frame-item.result ∷ [] = sym c.frames.ensures ∙ one_alone c.frames.result.now c.frame-item.result (omega (arith, c.in-len1.len_at_least, c.in-len1.len_below)) c.frame-item.is in
-    prefix_is _ _ _ _ _ c.write_frame.ensures.err (picture_is c.args.emit _ _ _ c.frame-item.result only c.in-Picture.is c.requires.shows)
+    prefix_is _ _ _ _ _ c.write_frame_by.ensures.err (picture_is c.args.emit _ _ _ c.frame-item.result only c.in-Picture.is c.requires.shows)
 
-pub write_frames-requires : goal.write_frames-requires
-write_frames-requires g c =
+pub write_frames_by-requires : goal.write_frames_by-requires
+write_frames_by-requires g c =
     let same : length c.frames.result.now ≡ length c.args.shown.now.film = ap length c.frames.ensures in
     let many : length c.args.shown.now.film ≢ 1 = grind (arith, same) in
     (search rules, room_each _ _ _ many (room_of c.args.emit _ _ _ c.in-Picture.is c.requires.room) (sides_of c.args.emit _ _ _ c.in-Picture.is c.requires.shows))
 
 pub returns-in_default-clause-ok : goal.returns-in_default-clause-ok
-returns-in_default-clause-ok g c = whole_is _ _ _ _ _ c.write_frames.ensures.ok (pictures_are c.args.emit _ _ _ c.in-Picture.is c.requires.shows)
+returns-in_default-clause-ok g c = whole_is _ _ _ _ _ c.write_frames_by.ensures.ok (pictures_are c.args.emit _ _ _ c.in-Picture.is c.requires.shows)
 
 pub returns-in_default-clause-err : goal.returns-in_default-clause-err
-returns-in_default-clause-err g c = prefix_is _ _ _ _ _ c.write_frames.ensures.err (pictures_are c.args.emit _ _ _ c.in-Picture.is c.requires.shows)
+returns-in_default-clause-err g c = prefix_is _ _ _ _ _ c.write_frames_by.ensures.err (pictures_are c.args.emit _ _ _ c.in-Picture.is c.requires.shows)
 
 pub returns-in-Sum-clause-ok : goal.returns-in-Sum-clause-ok
 returns-in-Sum-clause-ok g c =

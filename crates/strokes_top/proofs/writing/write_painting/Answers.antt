@@ -2,7 +2,7 @@ use Rattle.std.proofs.Common.{[], ◌++◌, refl}
 use Rattle.io_edge.proofs.Written.{on_err_any, prefix_behind}
 use Rattle.std.proofs.KnownBytes.{Appends-nil}
 use Rattle.ppm_out.proofs.Series.{ok_behind, err_behind}
-use Rattle.strokes_top.specs.Run.{output}
+use Rattle.strokes_top.specs.Output.{output}
 use Rattle.strokes_top.proofs.writing.write_painting.Goals as goal
 
 pub returns-in_err-write_all-clause-err : goal.returns-in_err-write_all-clause-err

@@ -1,6 +1,6 @@
 use Rattle.std.proofs.Common.{rules, ◌≡◌, true, false, sym, subst}
 use Rattle.std.specs.List.{list_all}
-use Rattle.doc_model.specs.Lawful.{lawful}
+use Rattle.doc_model.specs.Feeding.{lawful}
 use Rattle.script_forms.specs.Ranges.{in_range}
 use Rattle.script_text.specs.Script.{contents}
 use Rattle.script_text.specs.Closed.{is_script, all_closed}

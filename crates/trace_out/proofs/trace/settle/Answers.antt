@@ -1,5 +1,5 @@
 use Rattle.std.proofs.Common.{Ok, sym, ap, subst}
-use Rattle.machine_model.specs.State.{IsSettled}
+use Rattle.machine_model.specs.Settled.{IsSettled}
 use Rattle.desk_parts.proofs.SettlingRuns.{stay_closed}
 use Rattle.trace_out.specs.declared.scribe.Scribe.{Scribe}
 use Rattle.trace_out.proofs.Resting.{rests_settled}

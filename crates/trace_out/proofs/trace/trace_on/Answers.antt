@@ -1,6 +1,6 @@
 use Rattle.std.proofs.Common.{◌≡◌, sym, ap, ◌∙◌, subst}
 use Rattle.std.specs.List.{list_all}
-use Rattle.doc_model.specs.Lawful.{is_closed_entry}
+use Rattle.doc_model.specs.Feeding.{is_closed_entry}
 use Rattle.doc_model.specs.Strokes.{entries}
 use Rattle.doc_model.specs.Meaning.{meaning}
 use Rattle.machine_model.specs.State.{State, new_state}

@@ -1,5 +1,5 @@
 use Rattle.std.proofs.Common.{Ok, ap, ◌∙◌, subst}
-use Rattle.geom_core.specs.Grid.{IsWorldKey}
+use Rattle.geom_core.specs.Keys.{IsWorldKey}
 use Rattle.machine_model.specs.Event.{Publish}
 use Rattle.machine_model.specs.Step.{Step}
 use Rattle.whole_tiles.proofs.Seen.{own_seen}

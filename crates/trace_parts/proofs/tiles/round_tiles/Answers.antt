@@ -1,6 +1,6 @@
 use Rattle.std.proofs.Common.{Some, ap, ◌∙◌}
 use Rattle.geom_core.specs.Grid.{keys_of}
-use Rattle.memento_core.specs.KeySets.{widened}
+use Rattle.geom_core.specs.Exchanged.{widened}
 use Rattle.trace_parts.proofs.TileSets.{tile_round}
 use Rattle.trace_parts.proofs.tiles.round_tiles.Goals as goal
 

@@ -1,6 +1,6 @@
 use Rattle.std.proofs.Common.{◌≡◌, pos, arith, refl, sym, ap, subst, ◌∙◌, to_z, of_z, w32}
 use Rattle.geom_core.specs.Areas.{Area, holds, moved}
-use Rattle.geom_core.specs.Overlaps.{IsShared}
+use Rattle.geom_core.specs.Rects.{IsShared}
 use Rattle.std.specs.Prelude.{◌-ℤ◌}
 use borrow.Author.Differences.{ints}
 use Rattle.doc_model.specs.declared.job.Job.TheVariants.{Move}

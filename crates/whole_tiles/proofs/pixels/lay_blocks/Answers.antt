@@ -7,5 +7,5 @@ loop-i-preserved c = one_laid c.args.painted.now c.args.tile.now c.loop-i.tile c
 
 pub returns : goal.returns
 returns c =
-    let all : c.loop-i.i ≡ length c.args.painted.now.blocks = omega (arith, c.loop-i-test.false, c.loop-i.auto.i-end, c.block_count-i-end.ensures) in
+    let all : c.loop-i.i ≡ length c.args.painted.now.blocks = omega (arith, c.loop-i-test.false, c.loop-i.auto.i-end, c.block_count-i-end.ensures.value) in
     all_laid c.args.painted.now c.args.tile.now c.loop-i.tile c.loop-i.i c.key-key.ensures.known all c.loop-i.invariant

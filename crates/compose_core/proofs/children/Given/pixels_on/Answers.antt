@@ -1,6 +1,6 @@
 use Rattle.std.proofs.Common.{ap, ◌∙◌, sym, ◌*◌, get_or, replicate}
 use Rattle.pixel_core.specs.Rgba.{clear}
-use Rattle.geom_core.specs.Overlaps.{place_in}
+use Rattle.geom_core.specs.Rects.{place_in}
 use Rattle.tile_core.proofs.Taken.{plain_pixels}
 use Rattle.compose_core.specs.Spots.{given_on}
 use Rattle.compose_core.proofs.children.Given.pixels_on.Goals as goal

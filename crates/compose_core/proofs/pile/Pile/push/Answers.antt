@@ -1,5 +1,5 @@
 use Rattle.std.proofs.Common.{◌∙◌, sym, subst, arith}
-use Rattle.pixel_core.specs.Rgba.{IsCanonical}
+use Rattle.pixel_core.specs.Canonical.{IsCanonical}
 use Rattle.compose_core.specs.Piles.{laid_at}
 use Rattle.compose_core.proofs.LaidPiles.{laid_more, look_canonical}
 use Rattle.compose_core.proofs.pile.Pile.push.Goals as goal

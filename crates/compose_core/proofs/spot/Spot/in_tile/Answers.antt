@@ -1,7 +1,7 @@
 use Rattle.std.proofs.Common.{◌≡◌, ◌∙◌, ap, sym, subst, to_z, of_z, w32}
 use Rattle.std.specs.Prelude.{◌-ℤ◌}
 use Rattle.geom_core.specs.Areas.{Area, area}
-use Rattle.geom_core.specs.Overlaps.{IsWithin, IsInWorld}
+use Rattle.geom_core.specs.Rects.{IsWithin, IsInWorld}
 use Rattle.geom_core.specs.Grid.{tile}
 use Rattle.tile_core.specs.Pixels.{whole_tile}
 use Rattle.compose_core.specs.Spots.{part_in_tile}

@@ -1,5 +1,5 @@
 use Rattle.std.specs.Prelude.{All}
-use Rattle.geom_core.specs.Grid.{IsWorldKey}
+use Rattle.geom_core.specs.Keys.{IsWorldKey}
 use Rattle.crew_run.proofs.work.Rows.compose.Given as goal
 
 -- the keys so far lie in the world

@@ -1,7 +1,7 @@
 use Rattle.std.proofs.Common.{rules, ◌≡◌, sym, ◌∙◌}
 use Rattle.std.specs.Prelude.{pos}
 use Rattle.geom_core.specs.Areas.{point}
-use Rattle.machine_model.specs.Groups.{covered}
+use Rattle.machine_model.specs.Covers.{covered}
 use Rattle.desk_core.proofs.desk.Desk.look.Goals as goal
 
 pub returns-else-is_covered-clause-picture : goal.returns-else-is_covered-clause-picture

@@ -1,9 +1,10 @@
 use Rattle.std.proofs.Common.{◌≡◌, true, Ok, OnErr, sym, ap, subst}
 use Rattle.std.specs.Prelude.{IfSome}
 use Rattle.std.specs.List.{list_all}
-use Rattle.doc_model.specs.Lawful.{is_closed_entry}
+use Rattle.doc_model.specs.Feeding.{is_closed_entry}
 use Rattle.doc_model.specs.Strokes.{entries}
-use Rattle.machine_model.specs.State.{IsSettled, State, is_free}
+use Rattle.machine_model.specs.State.{State, is_free}
+use Rattle.machine_model.specs.Settled.{IsSettled}
 use Rattle.machine_model.specs.Sound.{IsOrderly}
 use Rattle.desk_parts.specs.Settles.{GoesOn}
 use Rattle.desk_machine.specs.SmallJobs.{PaintsSmall}

@@ -1,6 +1,6 @@
 use Rattle.std.proofs.Common.{◌≡◌, true}
 use Rattle.std.specs.List.{list_all}
-use Rattle.doc_model.specs.Lawful.{is_closed_entry}
+use Rattle.doc_model.specs.Feeding.{is_closed_entry}
 use Rattle.doc_model.specs.Strokes.{entries}
 use Rattle.machine_model.specs.Remaining.{left}
 use Rattle.desk_parts.specs.Settles.{Settles}

@@ -24,3 +24,6 @@ returns-in-Cancel-clause-did g c = rw (← c.self.view_is) (λ e. record { event
 
 pub returns-in_ok-act-in-Act-clause-did : goal.returns-in_ok-act-in-Act-clause-did
 returns-in_ok-act-in-Act-clause-did g c = rw (← c.self.view_is) (λ e. record { event = Act; at_once = refl; step = c.in_ok-act-in-Act.ensures.ok; counts = c.in_ok-act-in-Act.ensures.counts })
+
+pub returns-in-Wait-clause-last : goal.returns-in-Wait-clause-last
+returns-in-Wait-clause-last g c = rw (← c.self.view_is) (λ t e. c.in-Wait.ensures)

@@ -1,6 +1,6 @@
 use Rattle.std.proofs.Common.{sym, ap, ◌∙◌, subst}
 use Rattle.std.specs.Prelude.{IfSome}
-use Rattle.geom_core.specs.Overlaps.{any_holds}
+use Rattle.geom_core.specs.Rects.{any_holds}
 use Rattle.tile_core.specs.Damage.{is_damaged}
 use Rattle.desk_machine.specs.SmallJobs.{PaintsSmall}
 use Rattle.desk_damage.proofs.SmallJobs.{small_tracks}

@@ -1,6 +1,6 @@
 use Rattle.tile_core.specs.Damage.{is_damaged}
 use Rattle.std.proofs.Common.{ap, ◌∙◌}
-use Rattle.geom_core.specs.Overlaps.{any_holds}
+use Rattle.geom_core.specs.Rects.{any_holds}
 use Rattle.desk_damage.proofs.Tracking.{start_tracks}
 use Rattle.std.proofs.Common.{subst, sym}
 use Rattle.desk_parts.specs.Enabled.{Enabled}

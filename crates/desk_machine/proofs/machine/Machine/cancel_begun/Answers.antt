@@ -1,4 +1,5 @@
 use Rattle.std.proofs.Common.{◌≡◌, ◌+◌, Some, None, is_some, true, false, sym, ap, ◌∙◌, subst}
+use Rattle.geom_core.proofs.Rounds.{touched_bound}
 use Rattle.doc_model.specs.Strokes.{Stroke, conflict}
 use Rattle.machine_model.specs.State.{State, head_stroke}
 use Rattle.machine_model.specs.Event.{Cancel}
@@ -20,7 +21,7 @@ pub invariant_of-self : goal.invariant_of-self
 invariant_of-self g c = (cancel_does (parts c.self.inside.canvas c.self.inside.fed.items c.self.inside.queue c.self.inside.store c.self.inside.filmed.caches c.self.inside.updates c.self.inside.slots c.self.inside.filmed.frames c.self.inside.way c.self.inside.next) c.pop.new.self c.revert-touched.new.self c.widen.new.updates c.refusal-outcome.result c.group_of-group.result c.revert-touched.result.bound c.self.invariant (subst (λ s. Enabled s Cancel) (sym c.self.view_is) c.requires.enabled)
     (subst (λ (t : State). (s : Stroke) → head_stroke t ≡ Some s → is_closed s ≡ true → c.refusal-outcome.result ≡ cancel_outcome (conflict s.jobs)) (sym c.self.view_is) c.refusal-outcome.ensures)
     (subst (λ (t : State). (s : Stroke) → head_stroke t ≡ Some s → c.group_of-group.result ≡ parent_of s.layer t.present) (sym c.self.view_is) (λ s h. c.group_of-group.ensures ∙ ap (λ l. parent_of l c.args.self.now.present) (c.head_layer.ensures s h)))
-    (λ layer keys e. (c.revert-touched.ensures.touched layer keys e).bound)
+    (λ layer keys e. touched_bound keys c.revert-touched.result (c.revert-touched.ensures.touched layer keys e))
     (λ e. absurd (never (sym (store_under_way (parts c.self.inside.canvas c.self.inside.fed.items c.self.inside.queue c.self.inside.store c.self.inside.filmed.caches c.self.inside.updates c.self.inside.slots c.self.inside.filmed.frames c.self.inside.way c.self.inside.next) c.self.invariant (ap (λ (s : State). is_some s.way) c.self.view_is ∙ c.requires.way)) ∙ ap is_some e)))
     (record { left = c.pop.ensures.left; outcomes = c.pop.ensures.outcomes }) c.revert-touched.ensures.new c.widen.ensures).desk
 
@@ -29,7 +30,7 @@ returns-clause-step g c = subst (λ s. CancelStep s (state_of (record (parts c.s
     (cancel_does (parts c.self.inside.canvas c.self.inside.fed.items c.self.inside.queue c.self.inside.store c.self.inside.filmed.caches c.self.inside.updates c.self.inside.slots c.self.inside.filmed.frames c.self.inside.way c.self.inside.next) c.pop.new.self c.revert-touched.new.self c.widen.new.updates c.refusal-outcome.result c.group_of-group.result c.revert-touched.result.bound c.self.invariant (subst (λ s. Enabled s Cancel) (sym c.self.view_is) c.requires.enabled)
     (subst (λ (t : State). (s : Stroke) → head_stroke t ≡ Some s → is_closed s ≡ true → c.refusal-outcome.result ≡ cancel_outcome (conflict s.jobs)) (sym c.self.view_is) c.refusal-outcome.ensures)
     (subst (λ (t : State). (s : Stroke) → head_stroke t ≡ Some s → c.group_of-group.result ≡ parent_of s.layer t.present) (sym c.self.view_is) (λ s h. c.group_of-group.ensures ∙ ap (λ l. parent_of l c.args.self.now.present) (c.head_layer.ensures s h)))
-    (λ layer keys e. (c.revert-touched.ensures.touched layer keys e).bound)
+    (λ layer keys e. touched_bound keys c.revert-touched.result (c.revert-touched.ensures.touched layer keys e))
     (λ e. absurd (never (sym (store_under_way (parts c.self.inside.canvas c.self.inside.fed.items c.self.inside.queue c.self.inside.store c.self.inside.filmed.caches c.self.inside.updates c.self.inside.slots c.self.inside.filmed.frames c.self.inside.way c.self.inside.next) c.self.invariant (ap (λ (s : State). is_some s.way) c.self.view_is ∙ c.requires.way)) ∙ ap is_some e)))
     (record { left = c.pop.ensures.left; outcomes = c.pop.ensures.outcomes }) c.revert-touched.ensures.new c.widen.ensures).step
 

@@ -5,7 +5,7 @@ use Rattle.geom_core.specs.Areas.{point, holds}
 use Rattle.doc_model.specs.declared.canvas.Patch.{Patch}
 use Rattle.geom_core.proofs.Tests.{or_left}
 use Rattle.machine_model.specs.State.{State}
-use Rattle.machine_model.specs.Groups.{covered}
+use Rattle.machine_model.specs.Covers.{covered}
 use Rattle.desk_parts.specs.Choices.{works_on}
 use Rattle.desk_parts.specs.Parts.{parts, state_of, slot_of}
 use Rattle.desk_parts.proofs.Looking.{covered_root}

@@ -1,6 +1,7 @@
 use Rattle.std.proofs.Common.{◌≡◌, true, false, refl, sym, ap, ◌∙◌, subst}
 use Rattle.std.specs.Prelude.{◌&&◌}
-use Rattle.machine_model.specs.State.{State, IsSettled}
+use Rattle.machine_model.specs.State.{State}
+use Rattle.machine_model.specs.Settled.{IsSettled}
 use Rattle.machine_model.specs.Slots.{no_painter, no_walker}
 use Rattle.desk_parts.specs.Choices.{Tells, is_clean}
 use Rattle.desk_parts.specs.Parts.{parts}

@@ -1,4 +1,4 @@
-use Rattle.std.proofs.Common.{Some, None, OnOk, sym, ap, ◌∙◌, subst}
+use Rattle.std.proofs.Common.{Some, None, OnOk, OnErr, sym, ap, ◌∙◌, subst}
 use Rattle.std.specs.Prelude.{slice_get, slice_set}
 use Rattle.doc_model.specs.declared.canvas.Patch.{Patch}
 use Rattle.machine_model.specs.State.{State}
@@ -33,7 +33,7 @@ row : (c : goal.After-put) → IsRowAt (before c) (after c) c.args.slot.place c.
 row c = subst (λ frames. IsRowAt (before c) (record (after c) { frames = frames }) c.args.slot.place c.args.key c.lay_row-laid.result) (sym c.lay_row-laid.ensures.frames) (row_at (before c) c.args.slot.place c.in-Some-Walk.walker c.args.key c.lay_row-laid.new.published c.lay_row-laid.result c.lay_row-laid.new.filmed.caches c.put.new.self c.self.invariant
     (sym c.clear.ensures.work ∙ c.in-Some-Walk.is ∙ ap Some c.in-Some-Walk.field-0-is)
     (row_of (before c) c.args.slot.place c.args.slot.serial c.in-Some-Walk.walker c.args.composed.now c.args.key (sym c.clear.ensures.work ∙ c.in-Some-Walk.is ∙ ap Some c.in-Some-Walk.field-0-is) (subst (λ s. MayPublishRow s c.args.slot.place c.args.slot.serial c.args.composed.now c.args.key) (sym c.self.view_is) c.requires)).in_patch
-    c.lay_row-laid.ensures.all c.lay_row-laid.ensures.front
+    c.lay_row-laid.ensures.all c.lay_row-laid.ensures.front c.lay_row-laid.ensures.some
     (c.put.ensures ∙ ap (λ xs. slice_set xs c.args.slot.place (Some (record { work = Walk (record c.in-Some-Walk.walker { published = c.lay_row-laid.new.published }); walker = Some c.patch-rect.result.rect }))) c.clear.ensures.left
     ∙ ap (λ (q : Patch). slice_set (slice_set c.self.inside.slots c.args.slot.place None) c.args.slot.place (Some (record { work = Walk (record c.in-Some-Walk.walker { published = c.lay_row-laid.new.published }); walker = Some q.rect }))) c.patch-rect.ensures))
 
@@ -44,7 +44,7 @@ pub returns-clause-all : goal.returns-clause-all
 returns-clause-all c = subst (λ (s : State). OnOk c.lay_row-laid.result (Run s (row_events s c.args.slot.place c.args.key) (state_of (after c)))) c.self.view_is (row c).all
 
 pub returns-clause-front : goal.returns-clause-front
-returns-clause-front c = subst (λ s. RunsFront s (row_events s c.args.slot.place c.args.key) (state_of (after c))) c.self.view_is (row c).front
+returns-clause-front c = subst (λ s. OnErr c.lay_row-laid.result (RunsFront s (row_events s c.args.slot.place c.args.key) (state_of (after c)))) c.self.view_is (row c).front
 
 pub unreachable-requires : goal.unreachable-requires
 unreachable-requires c = walk_at_job (parts c.self.inside.canvas c.self.inside.fed.items c.self.inside.queue c.self.inside.store c.self.inside.filmed.caches c.self.inside.updates c.self.inside.slots c.self.inside.filmed.frames c.self.inside.way c.self.inside.next) c.args.slot.place _ c.requires.walker (sym c.clear.ensures.work ∙ c.in-Some-Paint.is ∙ ap Some c.in-Some-Paint.field-0-is) (ap (λ (s : State). slice_get s.slots c.args.slot.place) c.self.view_is ∙ c.requires.runs)

@@ -4,7 +4,8 @@ use Rattle.geom_core.specs.Areas.{point}
 use Rattle.doc_model.specs.Layers.{at}
 use Rattle.doc_model.specs.Picture.{picture}
 use Rattle.machine_model.specs.State.{State}
-use Rattle.machine_model.specs.Groups.{cache, covered}
+use Rattle.machine_model.specs.Groups.{cache}
+use Rattle.machine_model.specs.Covers.{covered}
 use Rattle.machine_model.proofs.RootPicture.{clean_is_picture}
 use Rattle.desk_parts.specs.Parts.{parts, state_of}
 use Rattle.desk_parts.proofs.Looking.{in_canvas}

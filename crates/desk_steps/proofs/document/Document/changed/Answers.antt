@@ -1,5 +1,5 @@
 use Rattle.std.proofs.Common.{◌≡◌, Ok, Err, sym, ap, ◌∙◌}
-use Rattle.doc_model.specs.Adjusting.{each}
+use Rattle.doc_model.specs.Each.{each}
 use Rattle.doc_model.specs.Changes.{changed}
 use Rattle.doc_model.proofs.Weights.{tree_distinct}
 use Rattle.machine_model.specs.Effects.{layer_in}

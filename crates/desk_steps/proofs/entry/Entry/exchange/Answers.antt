@@ -1,6 +1,6 @@
 use Rattle.std.proofs.Common.{◌≡◌, refl, true, is_some, sym, subst, ◌∙◌}
 use Rattle.doc_model.specs.Forest.{content}
-use Rattle.geom_core.specs.Touches.{HasTouched}
+use Rattle.geom_core.specs.Exchanged.{HasTouched}
 use Rattle.desk_steps.specs.Archives.{TellsReach}
 use Rattle.desk_steps.specs.Slots.{standing}
 use Rattle.desk_steps.specs.Documents.{doc_in}

@@ -1,6 +1,6 @@
 use Rattle.std.proofs.Common.{◌≡◌, sym, ◌∙◌, subst}
 use Rattle.geom_core.specs.Areas.{Area}
-use Rattle.geom_core.specs.Overlaps.{IsShared}
+use Rattle.geom_core.specs.Rects.{IsShared}
 use Rattle.geom_core.proofs.Common.{Sized, shared_common}
 use Rattle.geom_core.proofs.Shifted.{common_seen, meets_same}
 use Rattle.geom_core.proofs.rect.Rect.common_part.Goals as goal

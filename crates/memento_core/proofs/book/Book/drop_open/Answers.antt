@@ -1,6 +1,6 @@
 use Rattle.std.proofs.Common.{◌+◌, sym, ap, ◌∙◌, subst}
 use Rattle.std.specs.FinSet as set
-use Rattle.geom_core.specs.Touches.{HasTouched}
+use Rattle.geom_core.specs.Exchanged.{HasTouched}
 use Rattle.memento_core.specs.Revisions.{keys_in}
 use Rattle.memento_core.proofs.Booked.{exchange_notes, same_some, touched_of}
 use Rattle.memento_core.proofs.book.Book.drop_open.Goals as goal

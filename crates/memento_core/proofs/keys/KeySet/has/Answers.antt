@@ -1,6 +1,6 @@
 use Rattle.std.proofs.Common.{sym, ap, ◌∙◌}
 use Rattle.std.specs.FinSet as set
-use Rattle.geom_core.specs.Grid.{key_cmp_total}
+use Rattle.geom_core.specs.Keys.{key_cmp_total}
 use Rattle.memento_core.proofs.keys.KeySet.has.Goals as goal
 
 pub returns : goal.returns

@@ -2,7 +2,8 @@ use Rattle.std.proofs.Common.{◌<◌, not, length, subst, sym, ap, ◌∙◌, a
 use Rattle.std.specs.Prelude.{All, ◌^◌, ◌-◌}
 use Rattle.std.specs.FinSet as set
 use Rattle.std.proofs.lemmas.Map.Views.{All-insert_key}
-use Rattle.geom_core.specs.Grid.{IsWorldKey, key_cmp, key_cmp_total}
+use Rattle.geom_core.specs.Grid.{key_cmp}
+use Rattle.geom_core.specs.Keys.{IsWorldKey, key_cmp_total}
 use Rattle.memento_core.proofs.Sets.{inserted_is, one_fits}
 use Rattle.memento_core.proofs.keys.KeySet.insert.Goals as goal
 

@@ -1,5 +1,5 @@
 use Rattle.std.proofs.Common.{sym, ap, ◌∙◌, subst}
-use Rattle.geom_core.specs.Touches.{HasTouched}
+use Rattle.geom_core.specs.Exchanged.{HasTouched}
 use Rattle.memento_core.specs.Revisions.{keys_in}
 use Rattle.memento_core.proofs.Exchanging.{keys_in-noted}
 use Rattle.memento_core.proofs.revision.Revision.touched.Goals as goal

@@ -3,7 +3,7 @@ use Rattle.std.specs.List.{list_all}
 use Rattle.std.specs.Option.{option_map}
 use Rattle.doc_model.specs.declared.command.Command.{Command}
 use Rattle.doc_model.specs.Strokes.{entries}
-use Rattle.doc_model.specs.Lawful.{lawful}
+use Rattle.doc_model.specs.Feeding.{lawful}
 use Rattle.command_log.specs.declared.refusal.Refusal.{Refusal}
 use Rattle.command_log.specs.Misfits.{misfit_of}
 use Rattle.command_log.specs.Log.{Refuses}

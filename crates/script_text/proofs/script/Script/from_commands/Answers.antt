@@ -1,6 +1,6 @@
 use Rattle.std.proofs.Common.{rules, ◌≡◌, sym, ap, subst, ◌∙◌, false, ◌&&◌, Some, Err}
 use Rattle.std.specs.List.{list_all}
-use Rattle.doc_model.specs.Lawful.{lawful}
+use Rattle.doc_model.specs.Feeding.{lawful}
 use Rattle.script_text.specs.declared.script.MakeRefusal.TheVariants.{NotScript}
 use Rattle.script_forms.specs.Ranges.{in_range, in_limits}
 use Rattle.script_text.specs.Reading.{end_by}

@@ -1,5 +1,6 @@
 use Rattle.std.proofs.Common.{rules, ◌≡◌, ◌+◌, Some, None, true, length, [], ◌∷◌, ◌++◌, sym, ap, ◌∙◌, arith}
-use Rattle.doc_model.specs.Strokes.{first_conflicting, runs}
+use Rattle.doc_model.specs.Strokes.{runs}
+use Rattle.doc_model.specs.Searches.{first_conflicting}
 use Rattle.stroke_core.specs.Fed.{Fed, plus}
 use Rattle.stroke_core.specs.Marks.{marks_of}
 use Rattle.stroke_core.proofs.RunFacts.{first_told, first_outside, in_run, not_in_run}

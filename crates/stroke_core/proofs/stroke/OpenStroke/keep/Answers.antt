@@ -1,5 +1,6 @@
 use Rattle.std.proofs.Common.{◌≡◌, ◌<◌, None, length, [], ◌∷◌, ◌++◌, cond, sym, subst, arith, true, false, ◌∙◌}
-use Rattle.doc_model.specs.Strokes.{first_conflicting, runs}
+use Rattle.doc_model.specs.Strokes.{runs}
+use Rattle.doc_model.specs.Searches.{first_conflicting}
 use Rattle.stroke_core.specs.Fed.{Fed}
 use Rattle.stroke_core.specs.Marks.{marks_of}
 use Rattle.std.proofs.lemmas.Grind.{common_steps}

@@ -1,6 +1,6 @@
 use Rattle.std.proofs.Common.{◌≡◌, true, List, sym, ap, ◌∙◌, subst}
 use Rattle.doc_model.specs.declared.command.Command.{Command}
-use Rattle.doc_model.specs.Lawful.{lawful}
+use Rattle.doc_model.specs.Feeding.{lawful}
 use Rattle.studio.specs.Histories.{commands_of}
 use Rattle.studio.proofs.Signing.{all_commands, legal_lawful}
 use Rattle.studio.proofs.studio.Studio.close.Goals as goal
