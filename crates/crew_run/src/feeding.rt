@@ -8,8 +8,7 @@ use desk_core::Desk;
 use geom_core::NoMemory;
 use memento_core::Steps;
 use script_text::Script;
-use stamp_core::Naming;
-use stamped_desk::StampedDesk;
+use stamped_desk::{Naming, StampedDesk};
 use std::sync::ledger::Ledger;
 
 /// How many commands are fed at most.

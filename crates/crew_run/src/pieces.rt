@@ -4,8 +4,7 @@ ghost use Rattle.std.specs.Prelude.{◌≡◌, ◌≤◌, ◌<◌, nat_lt, IfOk,
 
 use crate::work::{Rows, TakenJob, Tiles};
 use geom_core::NoMemory;
-use stamp_core::Naming;
-use stamped_desk::{StampedTiles, StampedWalk};
+use stamped_desk::{Naming, StampedTiles, StampedWalk};
 use std::alloc::Global;
 use std::sync::Arc;
 

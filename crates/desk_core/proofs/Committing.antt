@@ -1,41 +1,28 @@
--- Whole jobs and walks come to the desk.
-use Rattle.std.proofs.Common.{◌≡◌, ℕ, suc, zero, ◌+◌, ◌<◌, ◌≤◌, true, false, not, Some, List, [], ◌∷◌, ◌++◌, length, take, drop, refl, sym, ap, ◌∙◌, subst, arith, Result, Ok, Err, OnOk, IsErr}
+-- Whole jobs, and tiles of walks, come to the desk.
+use Rattle.std.proofs.Common.{◌≡◌, ℕ, suc, zero, ◌+◌, ◌≤◌, true, not, Some, List, [], ◌∷◌, ◌++◌, length, take, drop, refl, sym, ap, ◌∙◌, subst, arith, Result, Ok, Err, OnOk, OnErr, IsErr}
 use Rattle.std.specs.Prelude.{slice_get}
-use Rattle.std.specs.List.{All, list_any, list_all}
+use Rattle.std.specs.List.{All, list_all}
 use Rattle.std.proofs.lemmas.List.{drop_all}
-use Rattle.geom_core.specs.Grid.{Key, same_key, all_keys_of}
+use Rattle.geom_core.specs.Grid.{Key}
 use Rattle.geom_core.proofs.Tests.{and_left, and_right, both_true}
 use Rattle.doc_model.specs.Forest.{content}
-use Rattle.doc_model.specs.Jobs.{writes}
-use Rattle.job_core.specs.Paints.{layer_of}
 use Rattle.whole_tiles.specs.Wholes.{Entire}
 use Rattle.machine_model.specs.State as state
 use Rattle.machine_model.specs.State.{State, Paints, head_stroke}
 use Rattle.machine_model.specs.Guards.{kept_jobs}
-use Rattle.machine_model.specs.Event.{Event, Publish, End, WalkEnd}
+use Rattle.machine_model.specs.Event.{Event, Publish, End}
 use Rattle.machine_model.specs.Step.{Step, PublishStep, Run}
 use Rattle.machine_model.specs.MeaningLaws.{is_feed}
 use Rattle.machine_model.proofs.Lists.{get_set}
 use Rattle.update_queue.proofs.Elements.{drop_here}
-use Rattle.slot_core.specs.Busy.{work_at}
-use Rattle.desk_parts.specs.declared.work.Painter.{Painter}
-use Rattle.desk_parts.specs.declared.work.Work.TheVariants as work
-use Rattle.desk_parts.specs.Enabled.{Enabled}
-use Rattle.desk_parts.specs.Parts.{Parts, state_of, painter_of}
 use Rattle.desk_parts.specs.Settles.{Settles}
-use Rattle.desk_parts.specs.Tied.{IsDesk}
-use Rattle.desk_parts.proofs.Ends.{job_may_end}
-use Rattle.desk_parts.proofs.Keeping.{held}
-use Rattle.desk_parts.proofs.KeyTests.{pass_all}
-use Rattle.desk_parts.proofs.Places.{IsPaintingAs, painting_as, painting_at}
-use Rattle.desk_parts.proofs.Taking.{job_is}
-use Rattle.desk_work.specs.Lacking.{IsOfJob, AreLacking}
-use Rattle.desk_machine.specs.Commits.{MayCommit, TakesWhole, RunsFront, lacking_in, lacking_at, pair_events, row_events, commit_walk_events}
+use Rattle.desk_machine.specs.Commits.{MayCommit, TakesWhole, RunsFront, lacking_at, pair_events, row_events}
 use Rattle.desk_machine.specs.Sparing.{ArePrior, IsPrior, IsPriorAt}
 use Rattle.desk_work.proofs.Lackings.{all_at}
 use Rattle.desk_core.specs.declared.answers.Published.{Published}
-use Rattle.desk_core.specs.Commits.{Brings, commit_events}
-use Rattle.desk_parts.proofs.SettlingRuns.{run_then}
+use Rattle.desk_core.specs.declared.answers.Published.TheVariants as answers
+use Rattle.desk_core.specs.Commits.{Brings, Commits, commit_events}
+use Rattle.desk_parts.proofs.SettlingRuns.{run_then, settles_none}
 
 -- ---- the events
 
@@ -48,21 +35,9 @@ all_events : (place : ℕ) (tiles : List Entire) → commit_events place tiles �
 all_events place [] = refl
 all_events place (y ∷ tiles) = ap (λ es. Publish place y.key ∷ es) (all_events place tiles)
 
-none_fed : (place : ℕ) (tiles : List Entire) (n : ℕ) → list_all (λ e. not (is_feed e)) (take n (commit_events place tiles)) ≡ true
-none_fed place tiles zero = refl
-none_fed place [] (suc zero) = refl
-none_fed place [] (suc (suc n)) = refl
-none_fed place (y ∷ tiles) (suc n) = none_fed place tiles n
-
 fed_none : (place : ℕ) (tiles : List Entire) → list_all (λ e. not (is_feed e)) (commit_events place tiles) ≡ true
 fed_none place [] = refl
 fed_none place (y ∷ tiles) = fed_none place tiles
-
-pub front_settles : (place : ℕ) (tiles : List Entire) (a b : State) → RunsFront a (commit_events place tiles) b → Settles a b
-front_settles place tiles a b front = record { events = take front.count (commit_events place tiles); no_feed = none_fed place tiles front.count; run = front.run }
-
-pub commit_settles : (place : ℕ) (tiles : List Entire) (a b : State) → Run a (commit_events place tiles) b → Settles a b
-commit_settles place tiles a b run = record { events = commit_events place tiles; no_feed = fed_none place tiles; run = run }
 
 add_one : (i : ℕ) → i + 1 ≡ suc i
 add_one i = omega arith
@@ -90,6 +65,29 @@ tiles_front place tiles i a b low run = record { count = i; short = (let n = eve
 pub brings_err : {E : Type 0} (May : Type 0) (events : List Event) (a b : State) (r : Result Published E) → IsErr r → RunsFront a events b → Brings May events a r b
 brings_err May events a b (Ok x) is front = cc
 brings_err May events a b (Err e) is front = front
+
+taken_none_fed : (es : List Event) (n : ℕ) → list_all (λ e. not (is_feed e)) es ≡ true → list_all (λ e. not (is_feed e)) (take n es) ≡ true
+taken_none_fed es zero h = refl
+taken_none_fed [] (suc n) h = refl
+taken_none_fed (e ∷ es) (suc n) h = both_true _ _ (and_left (not (is_feed e)) _ h) (taken_none_fed es n (and_right (not (is_feed e)) _ h))
+
+-- whatever the answer is, events other than feeding led to the state behind it
+brings_settles : {E : Type 0} (May : Type 0) (events : List Event) (a b : State) (r : Result Published E) → list_all (λ e. not (is_feed e)) events ≡ true → Brings May events a r b → Settles a b
+brings_settles May events a b (Ok answers.Stored) unfed brings = record { events = events; no_feed = unfed; run = brings.1 }
+brings_settles May events a b (Ok answers.Nothing) unfed brings = settles_none a b brings.1
+brings_settles May events a b (Err e) unfed front = record { events = take front.count events; no_feed = taken_none_fed events front.count unfed; run = front.run }
+
+pub commit_settles : {E : Type 0} (place serial : ℕ) (tiles : List Entire) (a b : State) (r : Result Published E) → Commits a place serial tiles r b → Settles a b
+commit_settles place serial tiles a b r commits = brings_settles (MayCommit a place serial tiles) (commit_events place tiles) a b r (fed_none place tiles) commits
+
+row_none_fed : (place : ℕ) (ps : List (ℕ × Key)) → list_all (λ e. not (is_feed e)) (pair_events place ps) ≡ true
+row_none_fed place [] = refl
+row_none_fed place (p ∷ ps) = row_none_fed place ps
+
+-- a tile of a walk
+pub row_settles : {A E : Type 0} (place : ℕ) (key : Key) (a b : State) (r : Result A E) → OnOk r (Run a (row_events a place key) b) → OnErr r (RunsFront a (row_events a place key) b) → Settles a b
+row_settles place key a b (Ok x) all front = record { events = row_events a place key; no_feed = row_none_fed place (lacking_at (slice_get a.slots place) key); run = all }
+row_settles place key a b (Err e) all front = record { events = take front.count (row_events a place key); no_feed = taken_none_fed (row_events a place key) front.count (row_none_fed place (lacking_at (slice_get a.slots place) key)); run = front.run }
 
 -- before the first tile
 pub no_tile : (place : ℕ) (tiles : List Entire) (a : State) → RunsFront a (commit_events place tiles) a
@@ -132,36 +130,3 @@ prior_stays s t place serial since key tiles step prior w runs drawn stroke at_h
 pub prior_at : (s : State) (place serial since i : ℕ) (x : Entire) (tiles left : List Entire) → slice_get tiles i ≡ Some x → MayCommit s place serial left → ArePrior s place serial since tiles → IsPriorAt s place since x
 prior_at s place serial since i x tiles left at m prior w runs stroke at_head base was =
     all_at (IsPrior (kept_jobs stroke) base since w.index w.job) tiles i x at (prior w runs (ap (λ (q : state.Painter). q.serial) (one_painter w m.painter (sym runs ∙ m.runs)) ∙ m.drawn) stroke at_head base was)
-
--- ---- a whole walk
-
-pairs_none_fed : (place : ℕ) (ps : List (ℕ × Key)) → list_all (λ e. not (is_feed e)) (pair_events place ps ++ WalkEnd place ∷ []) ≡ true
-pairs_none_fed place [] = refl
-pairs_none_fed place (p ∷ ps) = pairs_none_fed place ps
-
-taken_none_fed : (es : List Event) (n : ℕ) → list_all (λ e. not (is_feed e)) es ≡ true → list_all (λ e. not (is_feed e)) (take n es) ≡ true
-taken_none_fed es zero h = refl
-taken_none_fed [] (suc n) h = refl
-taken_none_fed (e ∷ es) (suc n) h = both_true _ _ (and_left (not (is_feed e)) _ h) (taken_none_fed es n (and_right (not (is_feed e)) _ h))
-
-pub walk_front_settles : (place : ℕ) (a b : State) → RunsFront a (commit_walk_events a place) b → Settles a b
-walk_front_settles place a b front = record { events = take front.count (commit_walk_events a place); no_feed = taken_none_fed (commit_walk_events a place) front.count (pairs_none_fed place (lacking_in (slice_get a.slots place))); run = front.run }
-
-pub walk_settles : (place : ℕ) (a b : State) → Run a (commit_walk_events a place) b → Settles a b
-walk_settles place a b run = record { events = commit_walk_events a place; no_feed = pairs_none_fed place (lacking_in (slice_get a.slots place)); run = run }
-
--- the pairs, and the end
-pub walk_run : (place : ℕ) (a b c : State) → Run a (pair_events place (lacking_in (slice_get a.slots place))) b → Step b (WalkEnd place) c → Run a (commit_walk_events a place) c
-walk_run place a b c run step = run_then (pair_events place (lacking_in (slice_get a.slots place))) (WalkEnd place ∷ []) a b c run (c, step, refl)
-
--- ---- a tile of a walk
-
-row_none_fed : (place : ℕ) (ps : List (ℕ × Key)) → list_all (λ e. not (is_feed e)) (pair_events place ps) ≡ true
-row_none_fed place [] = refl
-row_none_fed place (p ∷ ps) = row_none_fed place ps
-
-pub row_front_settles : (place : ℕ) (key : Key) (a b : State) → RunsFront a (row_events a place key) b → Settles a b
-row_front_settles place key a b front = record { events = take front.count (row_events a place key); no_feed = taken_none_fed (row_events a place key) front.count (row_none_fed place (lacking_at (slice_get a.slots place) key)); run = front.run }
-
-pub row_settles : (place : ℕ) (key : Key) (a b : State) → Run a (row_events a place key) b → Settles a b
-row_settles place key a b run = record { events = row_events a place key; no_feed = row_none_fed place (lacking_at (slice_get a.slots place) key); run = run }

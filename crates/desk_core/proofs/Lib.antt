@@ -1,3 +1,12 @@
+mod Values
+mod Steps
+mod Ripe
+mod Shots
+mod Tracking
+mod Telling
+mod Growing
+mod Forgetting
+mod SmallDamage
 mod Committing
 mod SmallJobs
 mod Painting

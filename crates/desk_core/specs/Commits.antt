@@ -6,7 +6,7 @@ use Rattle.walker_core.specs.Composing.{Composition}
 use Rattle.machine_model.specs.State.{State}
 use Rattle.machine_model.specs.Event.{Event, Publish, End}
 use Rattle.machine_model.specs.Step.{Run}
-use Rattle.desk_machine.specs.Commits.{MayCommit, MayCommitWalk, MayPublishRow, RunsFront, commit_walk_events, row_events}
+use Rattle.desk_machine.specs.Commits.{MayCommit, MayPublishRow, RunsFront, row_events}
 use Rattle.desk_core.specs.declared.answers.Published.{Published}
 use Rattle.desk_core.specs.declared.answers.Published.TheVariants as answers
 
@@ -25,10 +25,6 @@ Brings May events old (Err e) new = RunsFront old events new
 abbrev pub Commits : {E : Type 0} → State → ℕ → ℕ → List Entire → Result Published E → State → Type 0
 Commits old place serial tiles result new = Brings (MayCommit old place serial tiles) (commit_events place tiles) old result new
 
--- of all that a walk lacks, and its end
-abbrev pub CommitsWalk : {E : Type 0} → State → ℕ → ℕ → Composition → Result Published E → State → Type 0
-CommitsWalk old place serial c result new = Brings (MayCommitWalk old place serial c) (commit_walk_events old place) old result new
-
--- and of what it lacks on one tile
+-- and of what a walk lacks on one tile
 abbrev pub PublishesRow : {E : Type 0} → State → ℕ → ℕ → Composition → Key → Result Published E → State → Type 0
 PublishesRow old place serial c key result new = Brings (MayPublishRow old place serial c key) (row_events old place key) old result new

@@ -1,4 +1,4 @@
-//! Jobs that were painted outside, and walks that were composed there, come to the desk whole.
+//! Jobs that were painted outside come to the desk whole.
 
 ghost use Rattle.std.specs.Prelude.{◌≡◌, ℕ, Some, OnOk, OnErr, []};
 ghost use Rattle.machine_model.specs.State.{State};
@@ -8,14 +8,12 @@ ghost use Rattle.machine_model.specs.Step.{Step, Run};
 ghost use Rattle.desk_parts.specs.Settles.{Settles};
 ghost use Rattle.desk_machine.specs.Commits.{AreOfWork, MayCommit, RunsFront, TakesWhole};
 ghost use Rattle.desk_machine.specs.Sparing.{ArePrior, IsPriorAt};
-ghost use Rattle.desk_core.specs.Commits.{Commits, CommitsWalk, commit_events};
+ghost use Rattle.desk_core.specs.Commits.{Commits, commit_events};
 
 use crate::answers::Published;
 use crate::desk::Desk;
-use desk_damage::TrackedMachine;
 use desk_machine::SlotId;
 use geom_core::NoMemory;
-use walker_core::Composed;
 use whole_tiles::Whole;
 
 impl Desk {
@@ -77,79 +75,44 @@ impl Desk {
     ) -> Result<Published, NoMemory>
         requires of { AreOfWork self.old slot.place slot.serial tiles.now }
         requires prior { (n : ℕ) → since ≡ Some n → ArePrior self.old slot.place slot.serial n tiles.now }
-        ensures answer { Commits self.old slot.place slot.serial tiles.now result self.new }
-        ensures runs { Settles self.old self.new }
-        ensures canvas { self.new.canvas ≡ self.old.canvas }
-        ensures fed { self.new.fed ≡ self.old.fed }
+        ensures { Commits self.old slot.place slot.serial tiles.now result self.new }
     {
         let commits = self.machine.may_commit(slot, tiles)?;
         if !commits {
             return Ok(Published::Nothing);
         }
-        exchange_all(&mut self.machine, slot, since, tiles)?;
+        self.exchange_all(slot, since, tiles)?;
         self.machine.tell_ends(slot);
         self.machine.end_job(slot.place);
         Ok(Published::Stored)
     }
 
-    /// Publishes all pairs of a group and a tile that the walk in a slot lacks, tile by tile, and ends it. Where
-    /// a whole tile is laid, no pixel is copied. `Nothing` exactly where the slot hasn't that work, or not all its
-    /// groups were composed on all tiles of its patch, of the same as the walk reads.
-    ///
-    /// # Errors
-    /// `NoMemory`; of the pairs some, from the first on, are published, or none, and the walk hasn't ended.
-    pub fn commit_walk(
+    /// Publishes the tiles of the job in a slot, one after another.
+    fn exchange_all(
         &mut self,
         slot: SlotId,
-        composed: &Composed<'_>,
-    ) -> Result<Published, NoMemory>
-        ensures answer { CommitsWalk self.old slot.place slot.serial composed.now result self.new }
-        ensures runs { Settles self.old self.new }
-        ensures canvas { self.new.canvas ≡ self.old.canvas }
-        ensures fed { self.new.fed ≡ self.old.fed }
+        since: Option<u32>,
+        tiles: &[Whole],
+    ) -> Result<(), NoMemory>
+        requires commits { MayCommit self.old slot.place slot.serial tiles.now }
+        requires prior { (n : ℕ) → since ≡ Some n → ArePrior self.old slot.place slot.serial n tiles.now }
+        ensures front { RunsFront self.old (commit_events slot.place tiles.now) self.new }
+        ensures all { (new : State) → OnOk result (Step self.new (End slot.place) new → Run self.old (commit_events slot.place tiles.now) new) }
+        ensures ends { OnOk result (MayCommit self.new slot.place slot.serial []) }
     {
-        if !self.machine.may_commit_walk(slot, composed) {
-            return Ok(Published::Nothing);
+        for whole in tiles {
+            self.exchange_one(slot.place, since, whole)?;
         }
-        self.machine.lay_whole_walk(slot, composed)?;
-        self.machine.end_walk(slot.place);
-        Ok(Published::Stored)
+        Ok(())
     }
-}
 
-/// Publishes the tiles of the job in a slot, one after another.
-fn exchange_all(
-    machine: &mut TrackedMachine,
-    slot: SlotId,
-    since: Option<u32>,
-    tiles: &[Whole],
-) -> Result<(), NoMemory>
-    requires commits { MayCommit machine.old slot.place slot.serial tiles.now }
-    requires prior { (n : ℕ) → since ≡ Some n → ArePrior machine.old slot.place slot.serial n tiles.now }
-    ensures front { RunsFront machine.old (commit_events slot.place tiles.now) machine.new }
-    ensures all { (new : State) → OnOk result (Step machine.new (End slot.place) new → Run machine.old (commit_events slot.place tiles.now) new) }
-    ensures ends { OnOk result (MayCommit machine.new slot.place slot.serial []) }
-{
-    for whole in tiles {
-        exchange_one(machine, slot.place, since, whole)?;
-    }
-    Ok(())
-}
-
-/// Publishes a tile of the job in a slot.
-fn exchange_one(
-    machine: &mut TrackedMachine,
-    place: u8,
-    since: Option<u32>,
-    whole: &Whole,
-) -> Result<(), NoMemory>
-    requires takes { TakesWhole machine.old place whole.now }
-    requires prior { (n : ℕ) → since ≡ Some n → IsPriorAt machine.old place n whole.now }
-    ensures ok { OnOk result (Step machine.old (Publish place whole.now.key) machine.new) }
-    ensures err { OnErr result (machine.new ≡ machine.old) }
-{
-    match since {
-        Some(since) => machine.exchange_known_at(place, since, whole),
-        None => machine.exchange_at(place, whole),
+    /// Publishes a tile of the job in a slot.
+    fn exchange_one(&mut self, place: u8, since: Option<u32>, whole: &Whole) -> Result<(), NoMemory>
+        requires takes { TakesWhole self.old place whole.now }
+        requires prior { (n : ℕ) → since ≡ Some n → IsPriorAt self.old place n whole.now }
+        ensures ok { OnOk result (Step self.old (Publish place whole.now.key) self.new) }
+        ensures err { OnErr result (self.new ≡ self.old) }
+    {
+        self.machine.publish_whole(place, whole, since)
     }
 }

@@ -5,6 +5,7 @@ ghost use Rattle.doc_model.specs.Canvases.{IsOfLimits};
 ghost use Rattle.doc_model.specs.Lawful.{may_follow};
 ghost use Rattle.doc_model.specs.Strokes.{entries};
 ghost use Rattle.machine_model.specs.State.{new_state};
+ghost use Rattle.machine_model.specs.SoundnessLaws.{IsNew};
 ghost use Rattle.machine_model.specs.Event.{Feed, Publish};
 ghost use Rattle.machine_model.specs.Step.{Step};
 ghost use Rattle.desk_core.specs.declared.answers.Published.TheVariants as answers;
@@ -13,9 +14,10 @@ ghost use Rattle.desk_parts.specs.Enabled.{Takes, IsEnd, MayEnd};
 ghost use Rattle.desk_core.specs.Painted.{HasJobsValue};
 
 use crate::answers::{Ended, Published};
+use crate::changes::begin_anew;
+use crate::spread::Spread;
 use command_log::Commands;
-use desk_damage::TrackedMachine;
-use desk_machine::SlotId;
+use desk_machine::{Machine, SlotId};
 use doc_model::{Canvas, Command};
 use geom_core::NoMemory;
 use job_core::Painted;
@@ -23,10 +25,17 @@ use std::alloc::Global;
 use std::marker::Model;
 
 /// What stands behind the one lock: the commands that were fed, the entries that wait, the document
-/// with its history, what its groups show, and what is at work.
+/// with its history, what its groups show, and what is at work. Beside these it keeps of each tile of
+/// the canvas the part at which a group's cache may be out of date. All other points are up to date, and
+/// nothing at work will change them: so a walk composes the damaged parts alone.
 #[derive(Drop)]
 pub struct Desk {
-    pub(crate) machine: TrackedMachine,
+    pub(crate) alloc: Global,
+    pub(crate) machine: Machine,
+    pub(crate) damage: Box<Spread>,
+    /// Whether it is known that no job is at work, and that none has begun since the walks at work
+    /// did.
+    pub(crate) calm: bool,
 }
 
 impl Model for Desk {
@@ -37,7 +46,11 @@ impl Model for Desk {
 
     ghost coded = { state_code };
 
+    ghost use Rattle.desk_core.specs.Tracking.{Tracks};
+
     ghost view = { λ d. d.machine };
+
+    ghost invariant = { λ d. Tracks d.machine d.damage.value d.calm };
 }
 
 impl Desk {
@@ -48,12 +61,12 @@ impl Desk {
         requires few { slots ≤ 17 }
         ensures { IfOk result (λ d. d ≡ new_state canvas slots) }
     {
-        let machine = TrackedMachine::new(alloc, canvas, slots)?;
-        Ok(Desk { machine })
+        let machine = Machine::new(alloc, canvas, slots)?;
+        Desk::of_new(alloc, machine)
     }
 
-    /// The same. As long as each command that is fed is the next one of the list, what was fed isn't
-    /// kept once more.
+    /// A desk on which nothing was fed, which follows a list: as long as each command that is fed is the
+    /// next one of it, what was fed isn't kept once more.
     pub fn following(
         alloc: Global,
         canvas: Canvas,
@@ -65,8 +78,23 @@ impl Desk {
         requires few { slots ≤ 17 }
         ensures { IfOk result (λ d. d ≡ new_state canvas slots) }
     {
-        let machine = TrackedMachine::following(alloc, canvas, slots, list)?;
-        Ok(Desk { machine })
+        let machine = Machine::following(alloc, canvas, slots, list)?;
+        Desk::of_new(alloc, machine)
+    }
+
+    /// A desk of a machine that did nothing so far.
+    fn of_new(alloc: Global, machine: Machine) -> Result<Desk, NoMemory>
+        requires { IsNew machine }
+        ensures { IfOk result (λ d. d ≡ machine) }
+    {
+        let mut damage = Box::new(alloc, Spread::none())?;
+        begin_anew(&machine, &mut damage);
+        Ok(Desk {
+            alloc,
+            machine,
+            damage,
+            calm: false,
+        })
     }
 
     /// Feeds a command that may follow those that were fed.
@@ -125,7 +153,7 @@ impl Desk {
             return Ended::Done;
         }
         if self.machine.is_walked(slot) {
-            self.machine.end_walk(slot.place);
+            self.end_walk(slot.place);
             return Ended::Done;
         }
         Ended::Nothing

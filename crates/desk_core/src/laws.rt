@@ -10,12 +10,12 @@ use crate::desk::Desk;
 pub fn settled_has_meaning(desk: &Desk)
     ensures { IsSettled desk.now → HasMeaning desk.now }
 {
-    desk_machine::settled_has_meaning(desk.machine.machine());
+    desk_machine::settled_has_meaning(&desk.machine);
 }
 
 /// Its root's cache is the picture of the document that these make, at each point of the canvas.
 pub fn settled_shows_picture(desk: &Desk)
     ensures { IsSettled desk.now → ShowsPicture desk.now }
 {
-    desk_machine::settled_shows_picture(desk.machine.machine());
+    desk_machine::settled_shows_picture(&desk.machine);
 }

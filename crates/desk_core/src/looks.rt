@@ -79,7 +79,7 @@ impl Desk {
         ensures sides { All (HasSides self.canvas) result.0 }
         ensures outcomes { result.1.items ≡ self.outcomes }
     {
-        let Desk { machine } = self;
+        let Desk { machine, .. } = self;
         machine.into_results()
     }
 

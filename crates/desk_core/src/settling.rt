@@ -12,7 +12,6 @@ ghost use Rattle.desk_parts.specs.Settles.{Settles, GoesOn};
 
 use crate::desk::Desk;
 use crate::tickets::Taken;
-use desk_damage::TrackedMachine;
 use desk_machine::Lack;
 use geom_core::NoMemory;
 use memento_core::Steps;
@@ -51,7 +50,7 @@ impl Desk {
     {
         match self.machine.busy_place() {
             Some(place) => {
-                do_own(&mut self.machine, place)?;
+                self.do_own(place)?;
                 Ok(true)
             }
             None => self.paint_or_take(steps),
@@ -91,24 +90,24 @@ impl Desk {
             Taken::Idle => unreachable!(),
         }
     }
-}
 
-/// Publishes one more tile of the work in a slot, or ends it where all are published.
-fn do_own(machine: &mut TrackedMachine, place: u8) -> Result<(), NoMemory>
-    requires { IsSomeAnd (slice_get machine.old.slots place) (λ slot. is_free slot ≡ false) }
-    ensures ok { OnOk result (GoesOn machine.old machine.new) }
-    ensures err { OnErr result (Settles machine.old machine.new) }
-{
-    match machine.lack_at(place) {
-        Lack::Tile(key) => machine.paint_at(place, key),
-        Lack::Groups(key) => machine.compose_at(place, key),
-        Lack::JobEnd => {
-            machine.end_job(place);
-            Ok(())
-        }
-        Lack::WalkEnd => {
-            machine.end_walk(place);
-            Ok(())
+    /// Publishes one more tile of the work in a slot, or ends it where all are published.
+    fn do_own(&mut self, place: u8) -> Result<(), NoMemory>
+        requires { IsSomeAnd (slice_get self.old.slots place) (λ slot. is_free slot ≡ false) }
+        ensures ok { OnOk result (GoesOn self.old self.new) }
+        ensures err { OnErr result (Settles self.old self.new) }
+    {
+        match self.machine.lack_at(place) {
+            Lack::Tile(key) => self.machine.paint_at(place, key),
+            Lack::Groups(key) => self.machine.compose_at(place, key),
+            Lack::JobEnd => {
+                self.machine.end_job(place);
+                Ok(())
+            }
+            Lack::WalkEnd => {
+                self.end_walk(place);
+                Ok(())
+            }
         }
     }
 }

@@ -6,6 +6,7 @@ ghost use Rattle.desk_parts.specs.Settles.{Settles};
 
 use crate::desk::Desk;
 use geom_core::{NoMemory, Rect};
+use std::slice;
 
 impl Desk {
     /// Paints jobs of the stroke at the head in place, where no job is at work: the next one and some behind it
@@ -23,6 +24,13 @@ impl Desk {
         ensures canvas { self.new.canvas ≡ self.old.canvas }
         ensures fed { self.new.fed ≡ self.old.fed }
     {
-        self.machine.paint_small()
+        match self.machine.paint_small()? {
+            Some(bound) => {
+                self.damage.add_all(slice::from_ref(&bound));
+                self.calm = false;
+                Ok(Some(bound))
+            }
+            None => Ok(None),
+        }
     }
 }

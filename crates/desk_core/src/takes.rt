@@ -15,7 +15,6 @@ ghost use Rattle.desk_parts.specs.Choices.{IsIdle, MayWant, HeadWaits, DoesAtOnc
 
 use crate::desk::Desk;
 use crate::tickets::Taken;
-use desk_damage::TrackedMachine;
 use desk_parts::Choice;
 use geom_core::NoMemory;
 use memento_core::Steps;
@@ -49,41 +48,40 @@ impl Desk {
                 Ok(Taken::Did)
             }
             Choice::Cancel => {
-                self.machine.cancel(steps);
+                self.cancel(steps);
                 Ok(Taken::Did)
             }
             Choice::Act => {
-                self.machine.act(steps)?;
+                self.act(steps)?;
                 Ok(Taken::Did)
             }
             Choice::Init => {
                 self.machine.begin()?;
                 Ok(Taken::Did)
             }
-            Choice::Start(place) => Ok(Taken::Paint(self.machine.start(place)?)),
-            Choice::Wait => take_walk(&mut self.machine),
+            Choice::Start(place) => Ok(Taken::Paint(self.start(place)?)),
+            Choice::Wait => self.take_walk(),
         }
     }
-}
 
-/// Starts a walk, where one may start, while the entry at the head waits.
-fn take_walk(machine: &mut TrackedMachine) -> Result<Taken, NoMemory>
-    requires { HeadWaits machine.old }
-    ensures paint { (t : PaintTicket) → result ≡ Ok (taken.Paint t) → ⊥ }
-    ensures walk { (t : WalkTicket) → result ≡ Ok (taken.Walk t) → Step machine.old (WalkStart t.slot.place t.inputs.patch) machine.new × IsWalkTicket t machine.new }
-    ensures did { result ≡ Ok taken.Did → ⊥ }
-    ensures idle { result ≡ Ok taken.Idle → IsIdle machine.old × (machine.new ≡ machine.old) }
-    ensures stuck { result ≡ Ok taken.Idle → list_all is_free machine.old.slots ≡ true → waits_for_commands machine.old ≡ true }
-    ensures settled { result ≡ Ok taken.Settled → IsSettled machine.old × (machine.new ≡ machine.old) }
-    ensures err { OnErr result (MayWant machine.old × (machine.new ≡ machine.old)) }
-{
-    match machine.walk_place() {
-        Some(place) => Ok(Taken::Walk(machine.start_walk(place)?)),
-        None => {
-            machine.tell_sound();
-            if machine.is_settled() {
-                Ok(Taken::Settled)
-            } else {
+    /// Starts a walk, where one may start, while the entry at the head waits.
+    fn take_walk(&mut self) -> Result<Taken, NoMemory>
+        requires { HeadWaits self.old }
+        ensures paint { (t : PaintTicket) → result ≡ Ok (taken.Paint t) → ⊥ }
+        ensures walk { (t : WalkTicket) → result ≡ Ok (taken.Walk t) → Step self.old (WalkStart t.slot.place t.inputs.patch) self.new × IsWalkTicket t self.new }
+        ensures did { result ≡ Ok taken.Did → ⊥ }
+        ensures idle { result ≡ Ok taken.Idle → IsIdle self.old × (self.new ≡ self.old) }
+        ensures stuck { result ≡ Ok taken.Idle → list_all is_free self.old.slots ≡ true → waits_for_commands self.old ≡ true }
+        ensures settled { result ≡ Ok taken.Settled → IsSettled self.old × (self.new ≡ self.old) }
+        ensures err { OnErr result (MayWant self.old × (self.new ≡ self.old)) }
+    {
+        match self.machine.walk_place() {
+            Some(place) => Ok(Taken::Walk(self.start_walk(place)?)),
+            None => {
+                self.machine.tell_sound();
+                if self.machine.is_settled() {
+                    return Ok(Taken::Settled);
+                }
                 Ok(Taken::Idle)
             }
         }

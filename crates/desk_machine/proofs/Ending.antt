@@ -1,23 +1,24 @@
 -- Whether the work in a slot may end, both ways.
-use Rattle.std.proofs.Common.{◌≡◌, ℕ, Bool, true, false, eqb, ◌↔◌, Some, None, refl, sym, ap, ◌∙◌}
+use Rattle.std.proofs.Common.{◌≡◌, ℕ, Bool, true, false, ◌↔◌, Some, List, map, refl, sym, ap, ◌∙◌, subst}
 use Rattle.std.specs.Prelude.{IsTrue}
+use Rattle.std.specs.List.{list_any, list_all}
+use Rattle.geom_core.specs.Grid.{Key, same_key, keys_of, all_keys_of}
+use Rattle.doc_model.specs.Jobs.{writes}
 use Rattle.machine_model.specs.State as state
-use Rattle.machine_model.specs.State.{State, Paints, Walks}
+use Rattle.machine_model.specs.State.{State, Child, Paints, Walks}
 use Rattle.machine_model.specs.Event.{End, WalkEnd}
-use Rattle.slot_core.specs.Busy.{work_at}
+use Rattle.machine_model.specs.Groups.{on}
+use Rattle.machine_model.specs.Guards.{same_pair}
+use Rattle.walker_core.specs.Readings.{path_in}
 use Rattle.desk_parts.specs.declared.work.Painter.{Painter}
 use Rattle.desk_parts.specs.declared.work.Walker.{Walker}
-use Rattle.desk_parts.specs.declared.work.Work.TheVariants as work
 use Rattle.desk_parts.specs.Enabled.{MayEnd}
-use Rattle.desk_parts.specs.Parts.{Parts, state_of, painter_of, walker_of}
-use Rattle.desk_parts.specs.Tied.{IsDesk}
-use Rattle.desk_parts.proofs.Ends.{job_done, walk_done, job_may_end, job_may_not, walker_may_end, walker_may_not, ends_own, walk_ends_own, none_ends}
-use Rattle.desk_parts.proofs.Keeping.{held}
-use Rattle.desk_parts.proofs.KeyTests.{same_place}
-use Rattle.desk_parts.proofs.Places.{painting_at}
-use Rattle.desk_parts.proofs.WalkPlaces.{walking_at}
-use Rattle.desk_parts.proofs.Taking.{job_is, walk_is, job_at_walk, job_at_none, walk_at_job, walk_at_none}
+use Rattle.desk_parts.specs.Parts.{painter_of, walker_of}
+use Rattle.desk_parts.proofs.Ends.{job_done, walk_done, ends_own, walk_ends_own, none_ends}
+use Rattle.desk_parts.proofs.KeyTests.{all_pass, pass_all, all_on, on_all}
+use Rattle.desk_machine.specs.AtWork.{HasJob, HasNoJob, HasWalk, HasNoWalk}
 use Rattle.desk_machine.specs.Ends.{JobMayEnd, WalkMayEnd}
+use Rattle.desk_machine.proofs.AtWork.{same_job, same_walk}
 
 pub never : false ≡ true → ⊥
 never e = cc
@@ -28,49 +29,63 @@ refuses wrong = (λ t. absurd (never t), λ p. absurd (wrong p))
 
 -- ---- a job
 
-module _ (d : Parts) (place serial : ℕ) where
-  -- the job in the slot may end exactly where all its tiles are published
-  pub own_job_ends : (w : Painter) (b : Bool) → IsDesk d → work_at place d.slots ≡ Some (work.Paint w) → w.serial ≡ serial → b ≡ job_done w → IsTrue b ↔ JobMayEnd (state_of d) place serial
-  own_job_ends w b desk h drawn is = (
-    λ t. record { painter = painter_of w; runs = held d place _ (painting_at d.slots place w desk.slots h).there; drawn = drawn; enabled = job_may_end d place w desk h (sym is ∙ t) },
-    λ m. is ∙ by (job_done w) refl m,
+module _ (s : State) (place serial : ℕ) where
+  -- a job may end exactly where all its tiles are published
+  pub job_ends : (w : Painter) (b : Bool) → HasJob s place serial w → b ≡ job_done w → IsTrue b ↔ JobMayEnd s place serial
+  job_ends w b has is = (
+    λ t. record {
+      painter = painter_of w;
+      runs = has.runs;
+      drawn = has.drawn;
+      enabled = (
+        _,
+        record {
+          painter = painter_of w;
+          runs = has.runs;
+          all = all_pass (λ k. list_any (same_key k) w.published) (all_keys_of (writes w.job)) (sym is ∙ t);
+          stroke = has.stroke;
+          at_head = has.at_head;
+          new_is = refl;
+        },
+      );
+    },
+    λ m. is ∙ pass_all (λ k. list_any (same_key k) w.published) (all_keys_of (writes w.job))
+        (subst (λ (q : state.Painter). (key : Key) → list_any (same_key key) (all_keys_of (writes q.job)) ≡ true → list_any (same_key key) q.published ≡ true)
+        (sym (same_job s place (painter_of w) m.enabled.1.painter has.runs m.enabled.1.runs)) m.enabled.1.all),
   )
-    where
-      by : (all : Bool) → job_done w ≡ all → JobMayEnd (state_of d) place serial → job_done w ≡ true
-      by true e m = e
-      by false e m = absurd (job_may_not d place w h e m.enabled)
 
-  -- no job of another serial ends there
-  pub other_job_ends : (w : Painter) → work_at place d.slots ≡ Some (work.Paint w) → (w.serial ≡ serial → ⊥) → IsTrue (eqb w.serial serial) ↔ JobMayEnd (state_of d) place serial
-  other_job_ends w h other = (λ t. absurd (other (same_place w.serial serial t)), λ m. absurd (other (ap (λ (q : state.Painter). q.serial) (job_is d place w m.painter h m.runs) ∙ m.drawn)))
-
-  -- nor where a walk is at work, or nothing
-  pub no_job_at_walk : (w : Walker) → work_at place d.slots ≡ Some (work.Walk w) → IsTrue false ↔ JobMayEnd (state_of d) place serial
-  no_job_at_walk w h = refuses (λ m. job_at_walk d place w m.painter h m.runs)
-
-  pub no_job_at_none : work_at place d.slots ≡ None → IsTrue false ↔ JobMayEnd (state_of d) place serial
-  no_job_at_none h = refuses (λ m. job_at_none d place m.painter h m.runs)
+  pub no_job_ends : HasNoJob s place serial → IsTrue false ↔ JobMayEnd s place serial
+  no_job_ends none = refuses (λ m. none m.painter m.runs m.drawn)
 
   -- ---- a walk
 
-  pub own_walk_ends : (w : Walker) (b : Bool) → IsDesk d → work_at place d.slots ≡ Some (work.Walk w) → w.serial ≡ serial → b ≡ walk_done w → IsTrue b ↔ WalkMayEnd (state_of d) place serial
-  own_walk_ends w b desk h drawn is = (
-    λ t. record { walker = walker_of w; runs = held d place _ (walking_at d.slots place w desk.slots h); drawn = drawn; enabled = walker_may_end d place w desk h (sym is ∙ t) },
-    λ m. is ∙ by (walk_done w) refl m,
+  pub walk_ends : (w : Walker) (b : Bool) → HasWalk s place serial w → b ≡ walk_done w → IsTrue b ↔ WalkMayEnd s place serial
+  walk_ends w b has is = (
+    λ t. record {
+      walker = walker_of w;
+      runs = has.runs;
+      drawn = has.drawn;
+      enabled = (
+        _,
+        record {
+          walker = walker_of w;
+          runs = has.runs;
+          all = λ g key on_path in_patch. all_on (λ q. list_any (same_pair q key) w.published) (path_in w.inputs)
+              (all_pass (λ k. list_all (λ q. list_any (same_pair q k) w.published) (path_in w.inputs)) (keys_of w.inputs.patch.rect) (sym is ∙ t) key in_patch) g on_path;
+          new_is = refl;
+        },
+      );
+    },
+    λ m. is ∙ pass_all (λ k. list_all (λ q. list_any (same_pair q k) w.published) (path_in w.inputs)) (keys_of w.inputs.patch.rect)
+        (λ key in_patch. on_all (λ q. list_any (same_pair q key) w.published) (path_in w.inputs) (λ g on_path. every m g key on_path in_patch)),
   )
     where
-      by : (all : Bool) → walk_done w ≡ all → WalkMayEnd (state_of d) place serial → walk_done w ≡ true
-      by true e m = e
-      by false e m = absurd (walker_may_not d place w h e m.enabled)
+      every : WalkMayEnd s place serial → (g : ℕ) (key : Key) → on g (path_in w.inputs) ≡ true → list_any (same_key key) (keys_of w.inputs.patch.rect) ≡ true → list_any (same_pair g key) w.published ≡ true
+      every m = subst (λ (v : state.Walker). (g : ℕ) (key : Key) → on g (map (λ (x : ℕ × List Child). x.0) v.shot) ≡ true → list_any (same_key key) (keys_of v.patch.rect) ≡ true → list_any (same_pair g key) v.published ≡ true)
+          (sym (same_walk s place (walker_of w) m.enabled.1.walker has.runs m.enabled.1.runs)) m.enabled.1.all
 
-  pub other_walk_ends : (w : Walker) → work_at place d.slots ≡ Some (work.Walk w) → (w.serial ≡ serial → ⊥) → IsTrue (eqb w.serial serial) ↔ WalkMayEnd (state_of d) place serial
-  other_walk_ends w h other = (λ t. absurd (other (same_place w.serial serial t)), λ m. absurd (other (ap (λ (q : state.Walker). q.serial) (walk_is d place w m.walker h m.runs) ∙ m.drawn)))
-
-  pub no_walk_at_job : (w : Painter) → work_at place d.slots ≡ Some (work.Paint w) → IsTrue false ↔ WalkMayEnd (state_of d) place serial
-  no_walk_at_job w h = refuses (λ m. walk_at_job d place w m.walker h m.runs)
-
-  pub no_walk_at_none : work_at place d.slots ≡ None → IsTrue false ↔ WalkMayEnd (state_of d) place serial
-  no_walk_at_none h = refuses (λ m. walk_at_none d place m.walker h m.runs)
+  pub no_walk_ends : HasNoWalk s place serial → IsTrue false ↔ WalkMayEnd s place serial
+  no_walk_ends none = refuses (λ m. none m.walker m.runs m.drawn)
 
 -- ---- either
 

@@ -1,4 +1,5 @@
 mod SettledDesk
+mod AtWork
 mod TicketsMatch
 pub mod StepCounts
 mod ActsMove
@@ -8,7 +9,7 @@ mod PairRuns
 pub mod OwnTiles
 pub mod Untouched
 mod Committing
-mod WholeWalks
+mod WalkedRows
 pub mod Ending
 mod SmallJobs
 mod Barriers

@@ -10,7 +10,7 @@ use Rattle.doc_model.specs.Jobs.{reads, writes}
 use Rattle.doc_model.specs.Layers.{Layer}
 use Rattle.job_core.specs.Paints.{paint}
 use Rattle.machine_model.specs.State as state
-use Rattle.machine_model.specs.State.{State, Child, Slot, Free, Paints, Walks, is_free}
+use Rattle.machine_model.specs.State.{State, Child, Paints, Walks}
 use Rattle.machine_model.specs.Event.{Publish}
 use Rattle.machine_model.specs.Step.{Step}
 use Rattle.machine_model.specs.Groups.{on}
@@ -32,11 +32,12 @@ use Rattle.desk_parts.proofs.Keeping.{held, IsGoing, going_at_work}
 use Rattle.desk_parts.proofs.Places.{painting_at}
 use Rattle.desk_parts.proofs.WalkPlaces.{walking_at}
 use Rattle.desk_parts.proofs.Taking.{job_is, walk_is}
-use Rattle.desk_parts.proofs.Laying.{takes_is, IsLaidAt, laid_at}
+use Rattle.desk_parts.proofs.Laying.{IsLaidAt, laid_at}
 use Rattle.desk_work.specs.LaidTiles.{laid_as, laid_all, lacking, pairs_at, Lays, LaysFront}
 use Rattle.whole_tiles.proofs.Seen.{own_seen}
 use Rattle.desk_machine.specs.Commits.{pair_events}
 use Rattle.desk_machine.specs.OwnWork.{WalkLacks, WalksOn, is_walk_publish}
+use Rattle.desk_machine.proofs.AtWork.{has_job, job_takes}
 use Rattle.desk_machine.proofs.PairRuns.{AreNext, IsRun, next_lacking, front_next, own_at, some_lacking, none_fed, walk_run}
 use Rattle.desk_parts.proofs.SettlingRuns.{goes_on}
 
@@ -57,7 +58,7 @@ pair_may d place w group key desk h world on_path in_patch fresh =
 pub own_takes : (d : Parts) (place : ℕ) (w : Painter) (key : Key) → IsDesk d → work_at place d.slots ≡ Some (work.Paint w) → Enabled (state_of d) (Publish place key) → Takes (state_of d) place w.serial (paint w.job w.shot key [])
 own_takes d place w key desk h can =
     let same : painter_of w ≡ can.1.painter = job_is d place w can.1.painter h can.1.runs in
-    takes_is d place w.serial w (paint w.job w.shot key []) desk h refl (record {
+    job_takes (state_of d) place w.serial w (paint w.job w.shot key []) (has_job d place w.serial w desk h refl) (record {
       in_job = ap (λ (q : state.Painter). list_any (same_key key) (all_keys_of (writes q.job))) same ∙ can.1.in_job;
       fresh = ap (λ (q : state.Painter). list_any (same_key key) q.published) same ∙ can.1.fresh;
       job = refl;

@@ -4,7 +4,7 @@ use Rattle.std.specs.Prelude.{slice_get, slice_set, not}
 use Rattle.std.specs.Ordering.{nat_cmp}
 use Rattle.std.specs.List.{list_any, list_all}
 use Rattle.std.specs.FinMap.{FinMap}
-use Rattle.std.proofs.lemmas.List.Folds.{list_all-append, list_all-map}
+use Rattle.std.proofs.lemmas.List.Folds.{list_all-map}
 use Rattle.geom_core.specs.Grid.{Key, same_key, keys_of}
 use Rattle.geom_core.proofs.Tests.{and_left, and_right, both_true, or_cases}
 use Rattle.doc_model.specs.Layers.{Layer}
@@ -23,11 +23,11 @@ use Rattle.desk_parts.specs.declared.work.Work.TheVariants as work
 use Rattle.desk_parts.specs.Parts.{Parts, state_of}
 use Rattle.desk_parts.specs.Tied.{IsDesk}
 use Rattle.desk_parts.specs.After.{after_walk_publish, busy_walker}
-use Rattle.desk_parts.proofs.KeyTests.{same_place, pass_all, on_all}
+use Rattle.desk_parts.proofs.KeyTests.{same_place, on_all}
 use Rattle.desk_parts.proofs.Places.{set_twice, set_same}
 use Rattle.desk_parts.proofs.WalkPlaces.{walking_at}
 use Rattle.desk_parts.proofs.Walking.{MayWalkPublish, walk_publish_step, walk_publish_keeps}
-use Rattle.desk_work.specs.LaidTiles.{Laid, laid, laid_as, laid_all, lacking, pairs_at, pairs_on}
+use Rattle.desk_work.specs.LaidTiles.{Laid, laid, laid_as, laid_all, lacking, pairs_at}
 use Rattle.desk_machine.specs.Commits.{pair_events}
 
 -- ---- the pairs of a walk
@@ -40,18 +40,6 @@ is_pair r p = on p.0 (path_in r) && list_any (same_key p.1) (keys_of r.patch.rec
 abbrev pub AreNext : Readings → List (ℕ × Key) → List (ℕ × Key) → Type 0
 AreNext r published [] = Unit {0}
 AreNext r published (p ∷ ps) = (is_pair r p ≡ true) × (list_any (same_pair p.0 p.1) published ≡ false) × AreNext r (p ∷ published) ps
-
--- a test of all groups on all tiles
-pub all_pairs : (P : ℕ × Key → Bool) (path : List ℕ) (keys : List Key) → list_all P (pairs_on path keys) ≡ list_all (λ k. list_all (λ g. P (g, k)) path) keys
-all_pairs P path [] = refl
-all_pairs P path (k ∷ ks) =
-    list_all-append P (pairs_at path k) (pairs_on path ks)
-    ∙ (λ i. list_all-map P (λ g. (g, k)) path i && all_pairs P path ks i)
-
-pub own_on : (r : Readings) → list_all (is_pair r) (pairs_on (path_in r) (keys_of r.patch.rect)) ≡ true
-own_on r = all_pairs (is_pair r) (path_in r) (keys_of r.patch.rect)
-    ∙ pass_all (λ k. list_all (λ g. is_pair r (g, k)) (path_in r)) (keys_of r.patch.rect)
-    (λ k in_patch. on_all (λ g. is_pair r (g, k)) (path_in r) (λ g on_path. both_true _ _ on_path in_patch))
 
 pub own_at : (r : Readings) (key : Key) → list_any (same_key key) (keys_of r.patch.rect) ≡ true → list_all (is_pair r) (pairs_at (path_in r) key) ≡ true
 own_at r key in_patch = list_all-map (is_pair r) (λ g. (g, key)) (path_in r) ∙ on_all (λ g. is_pair r (g, key)) (path_in r) (λ g on_path. both_true _ _ on_path in_patch)

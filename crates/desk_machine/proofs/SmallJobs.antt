@@ -1,7 +1,7 @@
 -- Jobs that write within one tile alone: what the desk does in one hold is the machine's events.
 use borrow.Author.Differences.{ints}
 use Rattle.std.proofs.Common.{◌≡◌, ℕ, suc, zero, ◌+◌, ◌*◌, ◌<◌, ◌≤◌, Bool, true, false, ◌&&◌, ◌||◌, cond, Option, Some, None, List, [], ◌∷◌, ◌++◌, append-nil, length, take, drop, refl, sym, ap, ◌∙◌, subst, arith, eqb}
-use Rattle.std.specs.Prelude.{All, IfSome, ℤ, pos, ◌+ℤ◌, ◌*ℤ◌, int_le, int_lt, slice_get, slice_set, option_map, ◌^◌, ◌-◌}
+use Rattle.std.specs.Prelude.{All, IfSome, ℤ, pos, ◌+ℤ◌, ◌*ℤ◌, int_le, int_lt, slice_get, slice_set, ◌^◌, ◌-◌}
 use Rattle.std.proofs.lemmas.List.{length-take-le}
 use Rattle.std.proofs.lemmas.List.Elements.{All-from_recursion, recursion_from_All}
 use Rattle.std.specs.Option.{unwrap_or}
@@ -26,18 +26,17 @@ use Rattle.doc_model.specs.Lawful.{within_limits}
 use Rattle.doc_model.specs.Picture.{Doc, canvas_area}
 use Rattle.doc_model.specs.Readers.{parent}
 use Rattle.doc_model.specs.Shots.{shot_of, published}
-use Rattle.doc_model.specs.Strokes as strokes
-use Rattle.doc_model.specs.Strokes.{Jobs, Stroke, Fate, Open, Ended, Cancelled, Strokes, Changes, Undoes, Redoes, Purges, Exports}
+use Rattle.doc_model.specs.Strokes.{Jobs, Stroke}
 use Rattle.doc_model.proofs.Contents.{adjusted-with_content, content-with_content}
 use Rattle.doc_model.proofs.Shots.{shot_same}
 use Rattle.job_core.specs.Points.{is_within, painted_in, all_painted_in, spot, IsPointJob}
 use Rattle.job_core.proofs.Values.{HasPoints, one_met, some_of_limits}
 use Rattle.job_core.proofs.Keys.{square_some}
 use Rattle.update_queue.specs.Waiting.{Waiting, waiting}
-use Rattle.entry_queue.specs.Pushed.{queued}
+use Rattle.entry_queue.specs.Heads.{jobs_in}
 use Rattle.desk_steps.specs.Archives.{Archive, with_painted}
 use Rattle.doc_model.proofs.Natural.{parent_each}
-use Rattle.machine_model.specs.State.{State, Painter, Slot, Free, Paints, Walks, head, stroke_of, head_stroke}
+use Rattle.machine_model.specs.State.{State, Painter, Slot, Free, Paints, Walks, head_stroke}
 use Rattle.machine_model.specs.Event.{Start, Publish, End}
 use Rattle.machine_model.specs.Effects.{layer_in, updates_with_all, writes_of}
 use Rattle.machine_model.specs.Groups.{parent_of}
@@ -55,12 +54,12 @@ use Rattle.desk_parts.specs.Noted.{writes_in, noted}
 use Rattle.desk_parts.specs.Parts.{Parts, state_of}
 use Rattle.desk_parts.specs.Tied.{IsDesk, IsWay, IsBegun}
 use Rattle.desk_parts.proofs.Enabling.{job_fits}
-use Rattle.desk_parts.proofs.Heads.{head_queued}
+use Rattle.desk_parts.proofs.Heads.{queued_jobs}
 use Rattle.desk_parts.proofs.Noting.{written_at}
 use Rattle.desk_parts.proofs.Places.{set_twice, set_same}
 use Rattle.desk_parts.proofs.Publishing.{published_same}
 use Rattle.desk_machine.specs.declared.small_jobs.Laid.{Laid}
-use Rattle.desk_machine.specs.SmallJobs.{small_events, WritesWithin, StartsWithin, PaintsSmall, NoBarBehind, IsAlone, LaysRun, jobs_in}
+use Rattle.desk_machine.specs.SmallJobs.{small_events, WritesWithin, StartsWithin, PaintsSmall, NoBarBehind, IsAlone, LaysRun}
 use Rattle.desk_machine.proofs.Barriers.{updates_with_all-append, front_get}
 
 -- ---- the tile of a job
@@ -501,34 +500,16 @@ module _ {A : Type 0} where
   all_get_from P [] each = tt
   all_get_from P (x ∷ xs) each = (each 0 x refl, all_get_from P xs (λ i. each (suc i)))
 
--- the jobs that the queue's first entry keeps are those of the stroke at the head
-pub queued_jobs : (d : Parts) (t : Stroke) → IsDesk d → head_stroke (state_of d) ≡ Some t → jobs_in (slice_get d.queue.left 0) ≡ kept_jobs t
-queued_jobs d t desk h = ap jobs_in (head_queued d desk) ∙ go (head (state_of d)) h
-  where
-    by : (s : Stroke) (f : Fate) → jobs_in (Some (queued (Strokes (record s { fate = f })))) ≡ kept_jobs s
-    by s Open = refl
-    by s Ended = refl
-    by s Cancelled = refl
-
-    go : (o : Option strokes.Entry) → stroke_of o ≡ Some t → jobs_in (option_map queued o) ≡ kept_jobs t
-    go None e = cc
-    go (Some (Strokes s)) e = by s s.fate ∙ ap kept_jobs (stroke_same s t e)
-    go (Some (Changes change)) e = cc
-    go (Some Undoes) e = cc
-    go (Some Redoes) e = cc
-    go (Some (Purges keep)) e = cc
-    go (Some Exports) e = cc
-
 -- the next jobs, up to a barrier
 pub record AreNext (d : Parts) (n : ℕ) (jobs : Jobs) : Type 0 where
-  pub front : jobs ≡ take (length jobs) (drop n (jobs_in (slice_get d.queue.left 0)))
+  pub front : jobs ≡ take (length jobs) (drop n (jobs_in d.queue.left))
   pub clear : NoBarBehind jobs
 
 next_get : (d : Parts) (t : Stroke) (n : ℕ) (jobs : Jobs) → IsDesk d → head_stroke (state_of d) ≡ Some t → AreNext d n jobs → (i : ℕ) (j : Kind × Job) → slice_get jobs i ≡ Some j → slice_get (kept_jobs t) (n + i) ≡ Some j
 next_get d t n jobs desk h next i j e =
     ap (λ (js : Jobs). slice_get js (n + i)) (sym (queued_jobs d t desk h))
-    ∙ sym (drop_get n (jobs_in (slice_get d.queue.left 0)) i)
-    ∙ front_get (length jobs) (drop n (jobs_in (slice_get d.queue.left 0))) i j (ap (λ (js : Jobs). slice_get js i) (sym next.front) ∙ e)
+    ∙ sym (drop_get n (jobs_in d.queue.left) i)
+    ∙ front_get (length jobs) (drop n (jobs_in d.queue.left)) i j (ap (λ (js : Jobs). slice_get js i) (sym next.front) ∙ e)
 
 number_same : (a b : ℕ) → Some a ≡ Some b → a ≡ b
 number_same a b e = cc
@@ -539,11 +520,11 @@ next_fit d n jobs desk alone next = All-from_recursion (λ (j : Kind × Job). wi
     (λ i j h. job_fits d alone.enabled.1.stroke (n + i) j desk alone.enabled.1.at_head (next_get d alone.enabled.1.stroke n jobs desk alone.enabled.1.at_head next i j h)))
 
 -- there is one
-pub next_below : (d : Parts) (n : ℕ) → IsDesk d → IsAlone (state_of d) → d.way ≡ Some n → n ≤ length (jobs_in (slice_get d.queue.left 0))
+pub next_below : (d : Parts) (n : ℕ) → IsDesk d → IsAlone (state_of d) → d.way ≡ Some n → n ≤ length (jobs_in d.queue.left)
 next_below d n desk alone way =
     let above : suc alone.enabled.1.next ≤ length (kept_jobs alone.enabled.1.stroke) = length_above (kept_jobs alone.enabled.1.stroke) alone.enabled.1.next alone.enabled.1.job alone.enabled.1.is_next in
     let at : alone.enabled.1.next ≡ n = number_same _ _ (sym alone.enabled.1.begun ∙ way) in
-    let long : length (jobs_in (slice_get d.queue.left 0)) ≡ length (kept_jobs alone.enabled.1.stroke) = ap length (queued_jobs d alone.enabled.1.stroke desk alone.enabled.1.at_head) in
+    let long : length (jobs_in d.queue.left) ≡ length (kept_jobs alone.enabled.1.stroke) = ap length (queued_jobs d alone.enabled.1.stroke desk alone.enabled.1.at_head) in
     omega arith
 
 -- the desk with what was painted

@@ -1,18 +1,18 @@
--- Whole jobs and walks that come to a desk in one hold.
-use Rattle.std.specs.Prelude.{◌≡◌, ◌<◌, ℕ, All, true, false, Option, Some, List, [], ◌∷◌, ◌++◌, length, map, take, slice_get}
+-- Whole jobs, and tiles of walks of all their groups, that come to a desk in one hold.
+use Rattle.std.specs.Prelude.{◌≡◌, ◌<◌, ℕ, All, true, false, Option, Some, List, [], ◌∷◌, length, map, take, slice_get}
 use Rattle.std.specs.List.{list_any}
-use Rattle.geom_core.specs.Grid.{Key, same_key, keys_of, all_keys_of}
+use Rattle.geom_core.specs.Grid.{Key, same_key, all_keys_of}
 use Rattle.doc_model.specs.Jobs.{writes}
 use Rattle.whole_tiles.specs.Wholes.{Entire}
 use Rattle.machine_model.specs.State.{State, Child, Painter, Walker, Slot, Paints, Walks}
-use Rattle.machine_model.specs.Event.{Event, WalkPublish, WalkEnd}
+use Rattle.machine_model.specs.Event.{Event, WalkPublish}
 use Rattle.machine_model.specs.Step.{Run}
 use Rattle.walker_core.specs.Readings.{readings}
 use Rattle.walker_core.specs.Sameness.{ReadTheSame}
 use Rattle.walker_core.specs.Composing.{Composition}
 use Rattle.desk_work.specs.Lacking.{IsOfJob, AreLacking}
-use Rattle.desk_work.specs.LaidTiles.{lacking, pairs_at, pairs_on}
-use Rattle.desk_work.specs.OfWalk.{IsOfWalk, IsRowOfWalk}
+use Rattle.desk_work.specs.LaidTiles.{lacking, pairs_at}
+use Rattle.desk_work.specs.OfWalk.{IsRowOfWalk}
 
 -- if the job with that serial is at work in the slot, each of the tiles was made of it and from the pixels that it was started with
 abbrev pub AreOfWork : State → ℕ → ℕ → List Entire → Type 0
@@ -39,26 +39,10 @@ pub record RunsFront (old : State) (events : List Event) (new : State) : Type 0 
   pub short : count < length events
   pub run : Run old (take count events) new
 
--- the walk with that serial is at work in the slot, and all its groups were composed on all tiles of its patch, of the same as the walk reads there
-pub record MayCommitWalk (s : State) (place serial : ℕ) (c : Composition) : Type 0 where
-  pub walker : Walker
-  pub runs : slice_get s.slots place ≡ Some (Walks walker)
-  pub drawn : walker.serial ≡ serial
-  pub of : IsOfWalk (readings walker.patch walker.shot) c
-
--- the pairs of a group and a tile that the walk in a slot hasn't published, tile by tile in the order of its path
-abbrev pub lacking_in : Option Slot → List (ℕ × Key)
-lacking_in (Some (Walks w)) = lacking w.published (pairs_on (map (λ (e : ℕ × List Child). e.0) w.shot) (keys_of w.patch.rect))
-lacking_in slot = []
-
 -- the walk in the slot publishes these pairs, one after another
 abbrev pub pair_events : ℕ → List (ℕ × Key) → List Event
 pair_events place [] = []
 pair_events place (p ∷ ps) = WalkPublish place p.0 p.1 ∷ pair_events place ps
-
--- it publishes all pairs that it lacks, and ends
-abbrev pub commit_walk_events : State → ℕ → List Event
-commit_walk_events s place = pair_events place (lacking_in (slice_get s.slots place)) ++ WalkEnd place ∷ []
 
 -- if the walk with that serial is at work in the slot, what was composed read the same in the tile
 abbrev pub ReadsAsWork : State → ℕ → ℕ → Composition → Key → Type 0
@@ -76,6 +60,6 @@ abbrev pub lacking_at : Option Slot → Key → List (ℕ × Key)
 lacking_at (Some (Walks w)) key = lacking w.published (pairs_at (map (λ (e : ℕ × List Child). e.0) w.shot) key)
 lacking_at slot key = []
 
--- it publishes those
+-- the walk in the slot publishes those
 abbrev pub row_events : State → ℕ → Key → List Event
 row_events s place key = pair_events place (lacking_at (slice_get s.slots place) key)

@@ -1,3 +1,5 @@
+pub mod Kept
+pub mod AtWork
 pub mod Tickets
 pub mod OwnWork
 pub mod Commits

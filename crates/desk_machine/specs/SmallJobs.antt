@@ -1,5 +1,5 @@
 -- Jobs that write within one tile alone, painted in place without tickets.
-use Rattle.std.specs.Prelude.{All, ◌≡◌, ◌≤◌, ℕ, suc, zero, true, false, Some, List, [], ◌∷◌, take, length, slice_get, Option}
+use Rattle.std.specs.Prelude.{All, ◌≡◌, ◌≤◌, ℕ, suc, zero, true, false, Some, List, [], ◌∷◌, take, length, slice_get}
 use Rattle.geom_core.specs.Areas.{Area, holds, Point}
 use Rattle.geom_core.specs.Grid.{Key, tile}
 use Rattle.geom_core.specs.Keys.{IsWorldKey}
@@ -9,8 +9,6 @@ use Rattle.doc_model.specs.declared.job.Kind.{Kind}
 use Rattle.doc_model.specs.Jobs.{writes}
 use Rattle.doc_model.specs.Strokes.{Jobs}
 use Rattle.job_core.specs.Points.{IsPointJob, is_within, spot}
-use Rattle.entry_queue.specs.declared.entry.Entry.{Entry}
-use Rattle.entry_queue.specs.declared.entry.Entry.TheVariants as item
 use Rattle.desk_steps.specs.Archives.{Archive, with_painted}
 use Rattle.machine_model.specs.State.{State}
 use Rattle.machine_model.specs.Event.{Event, Start, Publish, End}
@@ -48,12 +46,6 @@ pub record IsAlone (s : State) : Type 0 where
   pub place : ℕ
   pub enabled : Enabled s (Start place)
   pub idle : no_painter s ≡ true
-
--- the jobs that an entry of the queue keeps, where it is a stroke
-abbrev pub jobs_in : Option Entry → Jobs
-jobs_in (Some (item.Waiting stroke)) = stroke.jobs
-jobs_in (Some (item.Whole closed)) = closed.stroke.jobs
-jobs_in entry = []
 
 -- none of the jobs behind the first is a barrier
 abbrev pub NoBarBehind : Jobs → Type 0

@@ -55,6 +55,9 @@ impl Machine {
     }
 
     /// Changes the tree, or refuses to.
+    ///
+    /// # Errors
+    /// `NoMemory`; all is as it was.
     fn change(&mut self, change: &Change) -> Result<(), NoMemory>
         requires enabled { Enabled self.old Act }
         requires head { head self.old ≡ Some (Changes change.now) }
@@ -132,6 +135,9 @@ impl Machine {
     }
 
     /// Takes a frame of the root's cache.
+    ///
+    /// # Errors
+    /// `NoMemory`; all is as it was.
     fn export(&mut self) -> Result<(), NoMemory>
         requires enabled { Enabled self.old Act }
         requires head { head self.old ≡ Some Exports }

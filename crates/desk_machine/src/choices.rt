@@ -11,11 +11,10 @@ ghost use Rattle.machine_model.specs.UnderWay.{IsOnWay};
 ghost use Rattle.desk_parts.specs.Choices.{IsHeadOf, IsChoice, Tells, acts_now, is_clean, clear_for, runs_at};
 
 use crate::machine::Machine;
-use crate::small_jobs::queued_jobs;
-use desk_parts::{Choice, HeadStroke};
+use desk_parts::Choice;
 use desk_work::{is_blocked, some_painter, some_walker};
 use doc_model::{Command, Job, Kind};
-use entry_queue::Entry;
+use entry_queue::{Entry, HeadStroke};
 
 impl Machine {
     /// An event of the entry at the head that may happen. `Wait` exactly where there is none.
@@ -29,29 +28,11 @@ impl Machine {
     }
 
     /// The stroke at the head. None exactly where none is.
-    pub fn head_stroke(&self) -> Option<HeadStroke>
+    pub(crate) fn head_stroke(&self) -> Option<HeadStroke>
         ensures some { IfSome result (IsHeadOf self.now) }
         ensures none { IfNone result (head_stroke self.now ≡ None) }
     {
-        match self.queue.head() {
-            Some(Entry::Waiting(stroke)) => Some(HeadStroke {
-                layer: stroke.layer(),
-                exclusive: stroke.exclusive(),
-                closed: false,
-                cancelled: false,
-                overlaps: stroke.overlap().is_some(),
-                jobs: stroke.job_count(),
-            }),
-            Some(Entry::Whole(stroke)) => Some(HeadStroke {
-                layer: stroke.layer(),
-                exclusive: stroke.exclusive(),
-                closed: true,
-                cancelled: stroke.cancelled(),
-                overlaps: stroke.overlap().is_some(),
-                jobs: stroke.job_count(),
-            }),
-            Some(Entry::Other(_)) | None => None,
-        }
+        self.queue.head_stroke()
     }
 
     /// What may be done of an entry that is no stroke.
@@ -127,7 +108,7 @@ impl Machine {
         }
     }
 
-    /// The same of one that leaves nothing.
+    /// What may be done of the stroke at the head where it leaves nothing.
     fn leaving_choice(&self, head: &HeadStroke) -> Choice
         requires head { IsHeadOf self.now head.now }
         requires leaves { (head.now.cancelled || head.now.overlaps) ≡ true }
@@ -140,7 +121,7 @@ impl Machine {
         }
     }
 
-    /// The same of one that isn't begun.
+    /// What may be done of the stroke at the head where it isn't begun.
     fn new_choice(&self, head: &HeadStroke) -> Choice
         requires head { IsHeadOf self.now head.now }
         requires stays { (head.now.cancelled || head.now.overlaps) ≡ false }
@@ -160,7 +141,7 @@ impl Machine {
         }
     }
 
-    /// The same of one of which so many jobs were started.
+    /// What may be done of the stroke at the head where so many of its jobs were started.
     fn begun_choice(&self, head: &HeadStroke, started: u32) -> Choice
         requires head { IsHeadOf self.now head.now }
         requires stays { (head.now.cancelled || head.now.overlaps) ≡ false }
@@ -203,7 +184,7 @@ impl Machine {
     }
 
     /// A free place. None exactly where there is none.
-    pub fn free_place(&self) -> Option<u8>
+    pub(crate) fn free_place(&self) -> Option<u8>
         ensures some { IfSome result (λ place. slice_get self.now.slots place ≡ Some Free) }
         ensures none { IfNone result ((place : ℕ) → slice_get self.now.slots place ≡ Some Free → ⊥) }
     {
@@ -240,7 +221,7 @@ impl Machine {
         ensures value { (t : Stroke) → head_stroke self.now ≡ Some t → result.now ≡ kept_jobs t }
         ensures checked { All (λ job. checks job.1 ≡ true) result.now }
     {
-        queued_jobs(&self.queue)
+        self.queue.head_jobs()
     }
 
     /// Whether every entry has its outcome, and nothing is at work or waits.

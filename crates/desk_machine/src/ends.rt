@@ -16,9 +16,8 @@ impl Machine {
     pub fn is_complete(&self, slot: SlotId) -> bool
         ensures { IsTrue result ↔ JobMayEnd self.now slot.place slot.serial }
     {
-        match self.slots.work(slot.place) {
-            Some(Work::Paint(painter)) => painter.serial == slot.serial && is_painted(painter),
-            Some(Work::Walk(_)) => false,
+        match self.painter(slot) {
+            Some(painter) => is_painted(painter),
             None => false,
         }
     }
@@ -39,9 +38,8 @@ impl Machine {
     pub fn is_walked(&self, slot: SlotId) -> bool
         ensures { IsTrue result ↔ WalkMayEnd self.now slot.place slot.serial }
     {
-        match self.slots.work(slot.place) {
-            Some(Work::Walk(walker)) => walker.serial == slot.serial && is_composed(walker),
-            Some(Work::Paint(_)) => false,
+        match self.walker(slot) {
+            Some(walker) => is_composed(walker),
             None => false,
         }
     }

@@ -13,7 +13,7 @@ pub fn settled_has_meaning(machine: &Machine)
     let _ = &machine.alloc;
 }
 
-/// Its root's cache is the picture of the document that these make.
+/// A machine that is settled has in its root's cache the picture of the document that the commands make.
 pub fn settled_shows_picture(machine: &Machine)
     ensures { IsSettled machine.now → ShowsPicture machine.now }
 {

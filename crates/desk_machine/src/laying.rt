@@ -19,28 +19,28 @@ impl Machine {
         ensures some { result ≡ true → Takes self.now slot.place slot.serial painted.now }
         ensures none { result ≡ false → Takes self.now slot.place slot.serial painted.now → ⊥ }
     {
-        match self.slots.work(slot.place) {
-            Some(Work::Paint(painter)) => {
-                painter.serial == slot.serial && takes_painted(painter, painted)
-            }
-            Some(Work::Walk(_)) => false,
+        match self.painter(slot) {
+            Some(painter) => takes_painted(painter, painted),
             None => false,
         }
     }
 
     /// Lays what was painted of the job in a slot.
+    ///
+    /// # Errors
+    /// `NoMemory`; all is as it was.
     pub fn lay(&mut self, slot: SlotId, painted: &Painted<'_>) -> Result<(), NoMemory>
         requires { Takes self.old slot.place slot.serial painted.now }
         ensures ok { OnOk result (Step self.old (Publish slot.place painted.now.key) self.new) }
         ensures err { OnErr result (self.new ≡ self.old) }
     {
-        match self.slots.clear(slot.place) {
-            Some(Work::Paint(mut painter)) => {
-                let laid = lay(self.alloc, &mut self.store, &mut painter.published, painted);
-                self.slots.put(slot.place, Work::Paint(painter), None);
-                laid
-            }
-            Some(Work::Walk(_)) => unreachable!(),
+        match self.slots.busy_mut(slot.place) {
+            Some(busy) => match &mut busy.work {
+                Work::Paint(painter) => {
+                    lay(self.alloc, &mut self.store, &mut painter.published, painted)
+                }
+                Work::Walk(_) => unreachable!(),
+            },
             None => unreachable!(),
         }
     }
@@ -57,20 +57,22 @@ impl Machine {
         ensures some { result ≡ true → TakesWalk self.now slot.place slot.serial composed.now group key }
         ensures none { result ≡ false → TakesWalk self.now slot.place slot.serial composed.now group key → ⊥ }
     {
-        match self.slots.work(slot.place) {
-            Some(Work::Walk(walker)) => {
+        match self.walker(slot) {
+            Some(walker) => {
                 // The patch has points, as its sides tell.
                 let rect = walker.inputs.patch().rect;
                 let _columns = rect.w();
                 let _rows = rect.h();
-                walker.serial == slot.serial && takes_composed(walker, composed, group, key)
+                takes_composed(walker, composed, group, key)
             }
-            Some(Work::Paint(_)) => false,
             None => false,
         }
     }
 
-    /// Lays it.
+    /// Lays a pair that was composed of the walk in a slot.
+    ///
+    /// # Errors
+    /// `NoMemory`; all is as it was.
     pub fn lay_walk(
         &mut self,
         slot: SlotId,
@@ -82,21 +84,21 @@ impl Machine {
         ensures ok { OnOk result (Step self.old (WalkPublish slot.place group key) self.new) }
         ensures err { OnErr result (self.new ≡ self.old) }
     {
-        match self.slots.clear(slot.place) {
-            Some(Work::Walk(mut walker)) => {
-                let rect = walker.inputs.patch().rect;
-                let _there = is_tile_of(&rect, key);
-                let laid = lay_composed(
-                    &mut self.filmed,
-                    &mut walker.published,
-                    composed,
-                    group,
-                    key,
-                );
-                self.slots.put(slot.place, Work::Walk(walker), Some(rect));
-                laid
-            }
-            Some(Work::Paint(_)) => unreachable!(),
+        match self.slots.busy_mut(slot.place) {
+            Some(busy) => match &mut busy.work {
+                Work::Walk(walker) => {
+                    let rect = walker.inputs.patch().rect;
+                    let _there = is_tile_of(&rect, key);
+                    lay_composed(
+                        &mut self.filmed,
+                        &mut walker.published,
+                        composed,
+                        group,
+                        key,
+                    )
+                }
+                Work::Paint(_) => unreachable!(),
+            },
             None => unreachable!(),
         }
     }

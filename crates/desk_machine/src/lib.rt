@@ -3,6 +3,7 @@
 #![tactic(auto)]
 
 mod acts;
+mod at_work;
 mod choices;
 mod ends;
 mod job_starts;
@@ -18,7 +19,6 @@ mod stroke_events;
 mod tickets;
 mod walks;
 mod whole_jobs;
-mod whole_walks;
 
 pub use laws::{settled_has_meaning, settled_shows_picture};
 pub use machine::Machine;

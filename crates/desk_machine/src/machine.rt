@@ -46,16 +46,20 @@ impl Model for Machine {
 
     ghost coded = { state_code };
 
-    ghost use Rattle.desk_parts.specs.Parts.{parts, state_of};
+    ghost use Rattle.desk_parts.specs.Parts.{state_of};
     ghost use Rattle.desk_parts.specs.Tied.{IsDesk};
+    ghost use Rattle.desk_machine.specs.Kept.{parts_of};
 
-    ghost view = { λ d. state_of (parts d.canvas d.fed.items d.queue d.store d.filmed.caches d.updates d.slots d.filmed.frames d.way d.next) };
+    ghost view = { λ m. state_of (parts_of m) };
 
-    ghost invariant = { λ d. IsDesk (parts d.canvas d.fed.items d.queue d.store d.filmed.caches d.updates d.slots d.filmed.frames d.way d.next) };
+    ghost invariant = { λ m. IsDesk (parts_of m) };
 }
 
 impl Machine {
-    /// A desk on which nothing was fed, with that many slots.
+    /// A desk on which nothing was fed, with that many slots, 1 to 17.
+    ///
+    /// # Errors
+    /// `NoMemory`.
     pub fn new(alloc: Global, canvas: Canvas, slots: u8) -> Result<Machine, NoMemory>
         requires canvas { IsOfLimits canvas }
         requires some { 1 ≤ slots }
@@ -65,8 +69,11 @@ impl Machine {
         Machine::with_log(alloc, canvas, slots, CommandLog::new(alloc))
     }
 
-    /// The same. As long as each command that is fed is the next one of the list, what was fed isn't
-    /// kept once more.
+    /// A desk on which nothing was fed, with that many slots, 1 to 17. As long as each command that is fed is
+    /// the next one of the list, what was fed isn't kept once more.
+    ///
+    /// # Errors
+    /// `NoMemory`.
     pub fn following(
         alloc: Global,
         canvas: Canvas,

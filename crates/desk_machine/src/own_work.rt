@@ -62,38 +62,39 @@ impl Machine {
     }
 
     /// Paints a tile of the job in a slot from what the job was started with, and publishes it.
+    ///
+    /// # Errors
+    /// `NoMemory`; all is as it was.
     pub fn paint_at(&mut self, place: u8, key: TileKey) -> Result<(), NoMemory>
         requires { Enabled self.old (Publish place key) }
         ensures ok { OnOk result (Step self.old (Publish place key) self.new) }
         ensures err { OnErr result (self.new ≡ self.old) }
     {
-        match self.slots.clear(place) {
-            Some(Work::Paint(mut painter)) => {
-                let laid = paint_own(self.alloc, &mut self.store, &mut painter, key);
-                self.slots.put(place, Work::Paint(painter), None);
-                laid
-            }
-            Some(Work::Walk(_)) => unreachable!(),
+        match self.slots.busy_mut(place) {
+            Some(busy) => match &mut busy.work {
+                Work::Paint(painter) => paint_own(self.alloc, &mut self.store, painter, key),
+                Work::Walk(_) => unreachable!(),
+            },
             None => unreachable!(),
         }
     }
 
     /// Composes a tile of the walk in a slot from what the walk reads, and publishes it of each group of
     /// which it isn't published.
+    ///
+    /// # Errors
+    /// `NoMemory`; it is published of some of the groups, from the first on, or of none.
     pub fn compose_at(&mut self, place: u8, key: TileKey) -> Result<(), NoMemory>
         requires { WalkLacks self.old place key }
         ensures ok { OnOk result (GoesOn self.old self.new) }
         ensures err { OnErr result (Settles self.old self.new) }
         ensures walks { WalksOn self.old self.new }
     {
-        match self.slots.clear(place) {
-            Some(Work::Walk(mut walker)) => {
-                let rect = walker.inputs.patch().rect;
-                let laid = compose_own(self.alloc, &mut self.filmed, &mut walker, key);
-                self.slots.put(place, Work::Walk(walker), Some(rect));
-                laid
-            }
-            Some(Work::Paint(_)) => unreachable!(),
+        match self.slots.busy_mut(place) {
+            Some(busy) => match &mut busy.work {
+                Work::Walk(walker) => compose_own(self.alloc, &mut self.filmed, walker, key),
+                Work::Paint(_) => unreachable!(),
+            },
             None => unreachable!(),
         }
     }

@@ -18,11 +18,8 @@ impl Machine {
         ensures some { result ≡ true → ReadsAsWork self.now slot.place slot.serial composed.now key }
         ensures none { result ≡ false → MayPublishRow self.now slot.place slot.serial composed.now key → ⊥ }
     {
-        match self.slots.work(slot.place) {
-            Some(Work::Walk(walker)) => {
-                walker.serial == slot.serial && reads_alike(&walker.inputs, composed, key)
-            }
-            Some(Work::Paint(_)) => false,
+        match self.walker(slot) {
+            Some(walker) => reads_alike(&walker.inputs, composed, key),
             None => false,
         }
     }
@@ -34,11 +31,8 @@ impl Machine {
         ensures some { result ≡ true → MayPublishRow self.now slot.place slot.serial composed.now key }
         ensures none { result ≡ false → MayPublishRow self.now slot.place slot.serial composed.now key → ⊥ }
     {
-        match self.slots.work(slot.place) {
-            Some(Work::Walk(walker)) => {
-                walker.serial == slot.serial && is_row_of_walk(&walker.inputs, composed, key)
-            }
-            Some(Work::Paint(_)) => false,
+        match self.walker(slot) {
+            Some(walker) => is_row_of_walk(&walker.inputs, composed, key),
             None => false,
         }
     }
@@ -57,20 +51,17 @@ impl Machine {
         ensures all { OnOk result (Run self.old (row_events self.old slot.place key) self.new) }
         ensures front { OnErr result (RunsFront self.old (row_events self.old slot.place key) self.new) }
     {
-        match self.slots.clear(slot.place) {
-            Some(Work::Walk(mut walker)) => {
-                let rect = walker.inputs.patch().rect;
-                let laid = lay_row(
+        match self.slots.busy_mut(slot.place) {
+            Some(busy) => match &mut busy.work {
+                Work::Walk(walker) => lay_row(
                     &mut self.filmed,
                     &mut walker.published,
                     composed,
                     &walker.inputs,
                     key,
-                );
-                self.slots.put(slot.place, Work::Walk(walker), Some(rect));
-                laid
-            }
-            Some(Work::Paint(_)) => unreachable!(),
+                ),
+                Work::Paint(_) => unreachable!(),
+            },
             None => unreachable!(),
         }
     }

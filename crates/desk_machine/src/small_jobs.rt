@@ -5,18 +5,19 @@ ghost use Rattle.doc_model.specs.declared.job.Job.{Job};
 ghost use Rattle.doc_model.specs.declared.job.Kind.{Kind};
 ghost use Rattle.doc_model.specs.Jobs.{checks, writes};
 ghost use Rattle.doc_model.specs.Lawful.{within_limits};
+ghost use Rattle.entry_queue.specs.Heads.{jobs_in};
 ghost use Rattle.job_core.specs.Points.{is_point_op};
 ghost use Rattle.machine_model.specs.Effects.{updates_with_all, writes_of};
 ghost use Rattle.machine_model.specs.Guards.{is_bar as is_barrier};
 ghost use Rattle.update_queue.specs.Waiting.{waiting};
-ghost use Rattle.desk_machine.specs.SmallJobs.{PaintsSmall, IsAlone, NoBarBehind, LaysRun, WritesWithin, jobs_in};
+ghost use Rattle.desk_machine.specs.SmallJobs.{PaintsSmall, IsAlone, NoBarBehind, LaysRun, WritesWithin};
 
 use crate::machine::Machine;
 use desk_parts::Choice;
 use desk_steps::Store;
 use desk_work::widen_all;
 use doc_model::{Job, Kind};
-use entry_queue::{Entry, Queue};
+use entry_queue::{Queue, is_bar};
 use geom_core::{NoMemory, Rect, TileKey};
 use job_core::{PointWork, point_rect};
 use std::alloc::Global;
@@ -66,7 +67,10 @@ impl Machine {
         }
     }
 
-    /// Paints the next job and those behind it.
+    /// Paints the next job and those behind it, as `paint_small` does.
+    ///
+    /// # Errors
+    /// `NoMemory`; all is as it was.
     fn paint_run(&mut self) -> Result<Option<Rect>, NoMemory>
         requires { IsAlone self.old }
         ensures some { IfOk result (λ o. IfSome o (λ bound. PaintsSmall self.old bound self.new)) }
@@ -103,13 +107,13 @@ impl Machine {
 /// The jobs of the stroke at the head from an index on, before the first barrier behind the first of them,
 /// and not too many.
 fn next_jobs(queue: &Queue, from: usize) -> &[(Kind, Job)]
-    requires { from ≤ length (jobs_in (slice_get queue.now.left 0)) }
-    ensures front { result.now ≡ take (length result.now) (drop from (jobs_in (slice_get queue.now.left 0))) }
+    requires { from ≤ length (jobs_in queue.now.left) }
+    ensures front { result.now ≡ take (length result.now) (drop from (jobs_in queue.now.left)) }
     ensures clear { NoBarBehind result.now }
     ensures checked { All (λ j. checks j.1 ≡ true) result.now }
     ensures few { from + length result.now ≤ 4096 }
 {
-    let (_, jobs) = queued_jobs(queue).split_at(from);
+    let (_, jobs) = queue.head_jobs().split_at(from);
     before_bar(jobs)
 }
 
@@ -121,19 +125,6 @@ fn before_bar(jobs: &[(Kind, Job)]) -> &[(Kind, Job)]
 {
     let (front, _) = jobs.split_at(count_before_bar(jobs));
     front
-}
-
-/// The kept jobs of the stroke at the head, or none.
-pub(crate) fn queued_jobs(queue: &Queue) -> &[(Kind, Job)]
-    ensures value { result.now ≡ jobs_in (slice_get queue.now.left 0) }
-    ensures checked { All (λ j. checks j.1 ≡ true) result.now }
-    ensures few { length result.now ≤ 4096 }
-{
-    match queue.head() {
-        Some(Entry::Waiting(stroke)) => stroke.jobs(),
-        Some(Entry::Whole(stroke)) => stroke.jobs(),
-        Some(Entry::Other(_)) | None => &[],
-    }
 }
 
 /// How many of the jobs stand before the first barrier behind the first of them, of the first `MOST`.
@@ -148,18 +139,6 @@ fn count_before_bar(jobs: &[(Kind, Job)]) -> usize
         }
     }
     most
-}
-
-/// Whether the kind is a barrier.
-fn is_bar(kind: Kind) -> bool
-    ensures { result ≡ is_barrier kind }
-{
-    match kind {
-        Kind::Bar => true,
-        Kind::Con => false,
-        Kind::Seq => false,
-        Kind::Uni => false,
-    }
 }
 
 /// Paints the jobs, from the first on, that write within one tile alone. None where the first doesn't.

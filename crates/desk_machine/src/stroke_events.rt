@@ -13,16 +13,16 @@ ghost use Rattle.desk_parts.specs.Enabled.{Enabled};
 
 use crate::machine::Machine;
 use desk_steps::Begun;
-use desk_work::widen;
 use doc_model::Outcome;
 use entry_queue::Entry;
 use geom_core::NoMemory;
 use memento_core::Steps;
 use std::sync::ledger::Ledger;
+use update_queue::widen;
 
 impl Machine {
     /// The layer of the stroke at the head.
-    pub fn head_layer(&self) -> u16
+    pub(crate) fn head_layer(&self) -> u16
         ensures { (s : Stroke) → head_stroke self.now ≡ Some s → result ≡ s.layer }
     {
         match self.queue.head() {
@@ -33,13 +33,16 @@ impl Machine {
     }
 
     /// The group round a layer.
-    pub fn group_of(&self, layer: u16) -> u16
+    pub(crate) fn group_of(&self, layer: u16) -> u16
         ensures { result ≡ parent_of layer self.now.present }
     {
         self.store.tree().parent(layer).unwrap_or(0)
     }
 
     /// Begins the stroke at the head.
+    ///
+    /// # Errors
+    /// `NoMemory`; all is as it was.
     pub fn begin(&mut self) -> Result<(), NoMemory>
         requires { Enabled self.old Init }
         ensures ok { OnOk result (Step self.old Init self.new) }

@@ -14,9 +14,9 @@ ghost use Rattle.desk_machine.specs.Tickets.{IsWalkTicket};
 use crate::machine::Machine;
 use crate::tickets::{SlotId, WalkTicket};
 use desk_parts::{Newest, Walker, Work};
+use desk_work::gather;
 use doc_model::Patch;
 use geom_core::NoMemory;
-use walk_start::gather;
 use walker_core::Inputs;
 
 impl Machine {
@@ -70,6 +70,9 @@ impl Machine {
     }
 
     /// Starts a walk of the first patch that meets no other walk.
+    ///
+    /// # Errors
+    /// `NoMemory`; all is as it was.
     pub fn start_walk(&mut self, place: u8) -> Result<WalkTicket, NoMemory>
         requires { CanWalk self.old place }
         ensures ok { IfOk result (λ t. Step self.old (WalkStart t.slot.place t.inputs.patch) self.new) }
@@ -98,11 +101,13 @@ impl Machine {
     }
 
     /// What a walk of the patch reads.
+    ///
+    /// # Errors
+    /// `NoMemory`.
     fn inputs_of(&self, patch: &Patch) -> Result<Inputs, NoMemory>
         requires { IsGroupOf self.now.present patch.now.walk }
         ensures { IfOk result (λ r. r ≡ readings patch.now (walk_shot self.now patch.now)) }
     {
-        let tree = self.store.tree();
-        gather(self.alloc, tree, &self.store, self.filmed.caches(), *patch)
+        gather(self.alloc, &self.store, self.filmed.caches(), *patch)
     }
 }

@@ -30,10 +30,10 @@ use Rattle.machine_model.specs.Groups.{parent_of}
 use Rattle.machine_model.specs.Effects.{after_entry}
 use Rattle.geom_core.specs.Touches.{bound_of}
 use Rattle.desk_parts.specs.Enabled.{Enabled}
-use Rattle.update_queue.specs.Waiting.{Waiting}
+use Rattle.update_queue.specs.Waiting.{Waiting, widened_by}
 use Rattle.desk_parts.specs.Parts.{Parts, state_of}
 use Rattle.desk_parts.specs.Tied.{IsDesk}
-use Rattle.desk_parts.specs.After.{after_act, moved_caches, moved_updates, widened_by}
+use Rattle.desk_parts.specs.After.{after_act, moved_caches, moved_updates}
 use Rattle.desk_parts.proofs.Heads.{head_queued}
 use Rattle.desk_parts.proofs.Acting.{MayAct, is_entry, act_step, act_keeps, at_rest, refused_is, nothing_undone, nothing_redone, change_is, undo_is, redo_is, purge_is, export_is}
 use Rattle.desk_parts.proofs.Doing.{Does, IsPopped, popped_is, present_at_rest, store_at_rest}

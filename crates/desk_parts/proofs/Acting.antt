@@ -37,10 +37,10 @@ use Rattle.machine_model.specs.UnderWay.{AtRest, IsOnWay}
 use Rattle.machine_model.specs.Effects.{after_entry, after_change, after_undo, after_redo, moved_to, with_outcome, caches_for, updates_with}
 use Rattle.geom_core.specs.Touches.{bound_of}
 use Rattle.machine_model.proofs.RunsSound.{step_keeps_sound}
-use Rattle.update_queue.specs.Waiting.{Waiting}
+use Rattle.update_queue.specs.Waiting.{Waiting, widened_by}
 use Rattle.desk_parts.specs.Parts.{Parts, state_of}
 use Rattle.desk_parts.specs.Tied.{IsDesk, IsWay}
-use Rattle.desk_parts.specs.After.{after_act, after_outcome, moved_updates, moved_caches, widened_by}
+use Rattle.desk_parts.specs.After.{after_act, after_outcome, moved_updates, moved_caches}
 use Rattle.desk_parts.proofs.Keeping.{going}
 use Rattle.desk_parts.proofs.Heads.{IsHead, head_of, other_head}
 

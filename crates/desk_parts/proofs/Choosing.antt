@@ -13,7 +13,7 @@ use Rattle.machine_model.specs.Event.{Init, Start, Publish, End, Finish, Cancel,
 use Rattle.machine_model.specs.Slots.{no_painter, no_walker}
 use Rattle.machine_model.specs.Guards.{kept_jobs, is_closed, is_ended, is_cancelled, overlaps, is_paint, is_bar}
 use Rattle.machine_model.specs.UnderWay.{AtRest, UnderWay, IsOnWay}
-use Rattle.desk_parts.specs.declared.head.HeadStroke.{HeadStroke}
+use Rattle.entry_queue.specs.declared.head.HeadStroke.{HeadStroke}
 use Rattle.desk_parts.specs.Enabled.{Enabled}
 use Rattle.desk_parts.specs.Choices.{HeadWaits, IsHeadOf, is_clean, clear_for, runs_beside, runs_at}
 use Rattle.desk_parts.proofs.Enabling.{clear_of_overlap}

@@ -26,8 +26,8 @@ use Rattle.geom_core.specs.Touches.{bound_of}
 use Rattle.desk_parts.specs.Enabled.{Enabled}
 use Rattle.desk_parts.specs.Parts.{Parts, state_of}
 use Rattle.desk_parts.specs.Tied.{IsDesk, IsWay, IsBegun}
-use Rattle.update_queue.specs.Waiting.{Waiting}
-use Rattle.desk_parts.specs.After.{popped, widened_by}
+use Rattle.update_queue.specs.Waiting.{Waiting, widened_by}
+use Rattle.desk_parts.specs.After.{popped}
 use Rattle.desk_parts.proofs.Beginning.{init_step, init_keeps}
 use Rattle.desk_parts.proofs.Leaving.{finish_step, finish_keeps, refuse_step, refuse_keeps, cancel_step, cancel_keeps}
 use Rattle.desk_parts.proofs.Enabling.{may_begin, may_finish, may_refuse, may_cancel}

@@ -1,13 +1,12 @@
 -- When the work in a slot may end.
-use Rattle.std.proofs.Common.{◌≡◌, ℕ, Bool, true, false, Some, List, map, sym, ap, ◌∙◌, subst}
+use Rattle.std.proofs.Common.{◌≡◌, ℕ, Bool, true, Some, sym, ap, ◌∙◌, subst}
 use Rattle.std.specs.Prelude.{slice_get}
 use Rattle.std.specs.List.{list_any, list_all}
-use Rattle.geom_core.specs.Grid.{Key, same_key, keys_of, all_keys_of}
+use Rattle.geom_core.specs.Grid.{same_key, keys_of, all_keys_of}
 use Rattle.doc_model.specs.Jobs.{writes}
 use Rattle.machine_model.specs.State as state
-use Rattle.machine_model.specs.State.{State, Child, Slot, Free, Paints, Walks}
+use Rattle.machine_model.specs.State.{State, Slot, Free, Paints, Walks}
 use Rattle.machine_model.specs.Event.{Event, Feed, Init, Start, Publish, End, Finish, Cancel, Act, WalkStart, WalkPublish, WalkEnd}
-use Rattle.machine_model.specs.Groups.{on}
 use Rattle.machine_model.specs.Guards.{same_pair}
 use Rattle.walker_core.specs.Readings.{path_in}
 use Rattle.slot_core.specs.Busy.{work_at}
@@ -18,9 +17,8 @@ use Rattle.desk_parts.specs.Enabled.{Enabled, MayEnd, ends, serial_of}
 use Rattle.desk_parts.specs.Parts.{Parts, state_of}
 use Rattle.desk_parts.specs.Tied.{IsDesk}
 use Rattle.desk_parts.specs.After.{after_walk_end}
-use Rattle.desk_parts.proofs.Taking.{job_is, walk_is}
 use Rattle.desk_parts.proofs.JobDoing.{may_end}
-use Rattle.desk_parts.proofs.KeyTests.{all_pass, pass_all, all_on, on_all, same_place, own_place}
+use Rattle.desk_parts.proofs.KeyTests.{all_pass, all_on, same_place, own_place}
 use Rattle.desk_parts.proofs.Walking.{walk_end_step}
 use Rattle.desk_parts.proofs.WalkLaying.{walk_may_end}
 
@@ -35,29 +33,12 @@ walk_done w = list_all (λ key. list_all (λ g. list_any (same_pair g key) w.pub
 pub job_may_end : (d : Parts) (place : ℕ) (w : Painter) → IsDesk d → work_at place d.slots ≡ Some (work.Paint w) → job_done w ≡ true → Enabled (state_of d) (End place)
 job_may_end d place w desk h all = may_end d place w desk h (all_pass (λ k. list_any (same_key k) w.published) (all_keys_of (writes w.job)) all)
 
-differs : (b : Bool) → b ≡ true → b ≡ false → ⊥
-differs true e h = cc
-differs false e h = cc
-
-pub job_may_not : (d : Parts) (place : ℕ) (w : Painter) → work_at place d.slots ≡ Some (work.Paint w) → job_done w ≡ false → Enabled (state_of d) (End place) → ⊥
-job_may_not d place w h left can = differs (job_done w)
-    (pass_all (λ k. list_any (same_key k) w.published) (all_keys_of (writes w.job))
-    (let e = job_is d place w can.1.painter h can.1.runs in subst (λ (q : state.Painter). (key : Key) → list_any (same_key key) (all_keys_of (writes q.job)) ≡ true → list_any (same_key key) q.published ≡ true) (sym e) can.1.all)) left
-
 pub walker_may_end : (d : Parts) (place : ℕ) (w : Walker) → IsDesk d → work_at place d.slots ≡ Some (work.Walk w) → walk_done w ≡ true → Enabled (state_of d) (WalkEnd place)
 walker_may_end d place w desk h all = (
   state_of (after_walk_end d place),
   walk_end_step d place w (walk_may_end d place w desk h
       (λ g key on_path in_patch. all_on (λ q. list_any (same_pair q key) w.published) (path_in w.inputs) (all_pass (λ k. list_all (λ q. list_any (same_pair q k) w.published) (path_in w.inputs)) (keys_of w.inputs.patch.rect) all key in_patch) g on_path)),
 )
-
-pub walker_may_not : (d : Parts) (place : ℕ) (w : Walker) → work_at place d.slots ≡ Some (work.Walk w) → walk_done w ≡ false → Enabled (state_of d) (WalkEnd place) → ⊥
-walker_may_not d place w h left can = differs (walk_done w)
-    (pass_all (λ k. list_all (λ q. list_any (same_pair q k) w.published) (path_in w.inputs)) (keys_of w.inputs.patch.rect)
-    (λ key in_patch. on_all (λ q. list_any (same_pair q key) w.published) (path_in w.inputs) (λ g on_path. every g key on_path in_patch))) left
-  where
-    every : (g : ℕ) (key : Key) → on g (path_in w.inputs) ≡ true → list_any (same_key key) (keys_of w.inputs.patch.rect) ≡ true → list_any (same_pair g key) w.published ≡ true
-    every = let e = walk_is d place w can.1.walker h can.1.runs in subst (λ (v : state.Walker). (g : ℕ) (key : Key) → on g (map (λ (x : ℕ × List Child). x.0) v.shot) ≡ true → list_any (same_key key) (keys_of v.patch.rect) ≡ true → list_any (same_pair g key) v.published ≡ true) (sym e) can.1.all
 
 -- a job's end is an end, and so is a walk's
 pub ends_own : (place : ℕ) → ends place (End place) ≡ true

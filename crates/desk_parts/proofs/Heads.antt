@@ -1,14 +1,19 @@
 -- The first entry of the queue is the one at the machine's head.
 use Rattle.std.proofs.Common.{◌≡◌, Bool, true, false, Option, Some, None, List, [], ◌∷◌, map, refl, sym, ap, ◌∙◌}
-use Rattle.std.specs.Prelude.{slice_get, option_map}
+use Rattle.std.specs.Prelude.{IfNone, IfSome, slice_get, option_map}
 use Rattle.doc_model.specs.declared.command.Command.{Command}
 use Rattle.doc_model.specs.Strokes as doc
 use Rattle.doc_model.specs.Strokes.{Stroke, Fate, Open, Ended, Cancelled, Strokes, Changes, Undoes, Redoes, Purges, Exports, conflict}
 use Rattle.stroke_core.specs.Fed.{Fed, Closed}
 use Rattle.entry_queue.specs.declared.entry.Entry.{Entry}
 use Rattle.entry_queue.specs.declared.entry.Entry.TheVariants.{Waiting, Whole, Other}
+use Rattle.entry_queue.specs.declared.head.HeadStroke.{HeadStroke}
+use Rattle.entry_queue.specs.Heads.{head_in, jobs_in}
 use Rattle.entry_queue.specs.Pushed.{queued, kept_of}
+use Rattle.entry_queue.proofs.Heads.{told, head_told, jobs_told}
+use Rattle.machine_model.specs.Guards.{kept_jobs}
 use Rattle.machine_model.specs.State.{first, head, stroke_of, head_stroke}
+use Rattle.desk_parts.specs.Choices.{IsHeadOf}
 use Rattle.desk_parts.specs.Parts.{Parts, state_of}
 use Rattle.desk_parts.specs.Tied.{IsDesk}
 
@@ -109,3 +114,38 @@ other_head d c x = ap stroke_of x.at_head ∙ go x.entry x.is
     go Redoes q = refl
     go (Purges keep) q = refl
     go Exports q = refl
+
+-- what is known of the stroke at the head
+head_known : (d : Parts) → IsDesk d → head_in d.queue.left ≡ option_map told (head_stroke (state_of d))
+head_known d desk = ap head_in desk.queue.left_is ∙ head_told _
+
+pub known_head : (d : Parts) (o : Option HeadStroke) → IsDesk d → o ≡ head_in d.queue.left → IfSome o (IsHeadOf (state_of d))
+known_head d o desk is = go (head_stroke (state_of d)) refl o (is ∙ head_known d desk)
+  where
+    go : (s : Option Stroke) → head_stroke (state_of d) ≡ s → (o : Option HeadStroke) → o ≡ option_map told s → IfSome o (IsHeadOf (state_of d))
+    go s a None e = tt
+    go None a (Some h) e = cc
+    go (Some t) a (Some h) e =
+        let same : h ≡ told t = cc in
+        record {
+          stroke = t;
+          at_head = a;
+          layer = ap (λ (k : HeadStroke). k.layer) same;
+          exclusive = ap (λ (k : HeadStroke). k.exclusive) same;
+          closed = ap (λ (k : HeadStroke). k.closed) same;
+          refused = ap (λ (k : HeadStroke). k.cancelled) same;
+          overlaps = ap (λ (k : HeadStroke). k.overlaps) same;
+          jobs = ap (λ (k : HeadStroke). k.jobs) same;
+        }
+
+pub no_head : (d : Parts) (o : Option HeadStroke) → IsDesk d → o ≡ head_in d.queue.left → IfNone o (head_stroke (state_of d) ≡ None)
+no_head d o desk is = go (head_stroke (state_of d)) refl o (is ∙ head_known d desk)
+  where
+    go : (s : Option Stroke) → head_stroke (state_of d) ≡ s → (o : Option HeadStroke) → o ≡ option_map told s → IfNone o (head_stroke (state_of d) ≡ None)
+    go s a (Some h) e = tt
+    go None a None e = a
+    go (Some t) a None e = cc
+
+-- its kept jobs
+pub queued_jobs : (d : Parts) (t : Stroke) → IsDesk d → head_stroke (state_of d) ≡ Some t → jobs_in d.queue.left ≡ kept_jobs t
+queued_jobs d t desk h = ap jobs_in desk.queue.left_is ∙ jobs_told _ t h

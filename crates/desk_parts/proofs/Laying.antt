@@ -19,27 +19,13 @@ use Rattle.desk_parts.specs.Parts.{Parts, state_of, painter_of}
 use Rattle.desk_parts.specs.Tied.{IsDesk}
 use Rattle.desk_parts.specs.After.{after_publish, busy_painter}
 use Rattle.desk_parts.specs.Enabled.{Takes}
-use Rattle.desk_parts.specs.Painted.{TakesPainted}
-use Rattle.desk_parts.proofs.Keeping.{going_at_work, held}
+use Rattle.desk_parts.proofs.Keeping.{going_at_work}
 use Rattle.desk_parts.proofs.Publishing.{MayPublish, publish_step, publish_keeps}
 use Rattle.desk_parts.proofs.Places.{painting_at, IsPaintingAs, painting_as, set_twice, set_same}
 
 -- where a job is at work the store has begun its stroke
 pub begun_at_work : (d : Parts) (place : ℕ) (p : state.Painter) → IsDesk d → slice_get (state_of d).slots place ≡ Some (Paints p) → is_some d.store.way ≡ true
 begun_at_work d place p desk runs = ap is_some (going_at_work d place p desk runs).begun.way
-
--- what was painted is taken
-pub takes_is : (d : Parts) (place serial : ℕ) (w : Painter) (p : Paint) → IsDesk d → work_at place d.slots ≡ Some (work.Paint w) → w.serial ≡ serial → TakesPainted w p → Takes (state_of d) place serial p
-takes_is d place serial w p desk h drawn t = record {
-  painter = painter_of w;
-  runs = held d place _ (painting_at d.slots place w desk.slots h).there;
-  drawn = drawn;
-  job = t.job;
-  covers = t.covers;
-  same = t.same;
-  in_job = t.in_job;
-  fresh = t.fresh;
-}
 
 painter_is : (d : Parts) (place serial : ℕ) (w : Painter) (p : Paint) → work_at place d.slots ≡ Some (work.Paint w) → (t : Takes (state_of d) place serial p) → painter_of w ≡ t.painter
 painter_is d place serial w p h t =

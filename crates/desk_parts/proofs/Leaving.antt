@@ -34,7 +34,8 @@ use Rattle.machine_model.proofs.Lists.{take_all}
 use Rattle.machine_model.proofs.RunsSound.{step_keeps_sound}
 use Rattle.desk_parts.specs.Parts.{Parts, state_of}
 use Rattle.desk_parts.specs.Tied.{IsDesk, IsWay}
-use Rattle.desk_parts.specs.After.{after_done, after_revert, after_outcome, popped, widened_by}
+use Rattle.update_queue.specs.Waiting.{widened_by}
+use Rattle.desk_parts.specs.After.{after_done, after_revert, after_outcome, popped}
 use Rattle.desk_parts.proofs.Keeping.{IsGoing, going}
 use Rattle.desk_parts.proofs.Heads.{IsStrokeHead, whole_head, fate_of}
 use Rattle.desk_parts.proofs.Noting.{keys_are}

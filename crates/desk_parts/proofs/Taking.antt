@@ -1,14 +1,12 @@
 -- What is taken of what was made outside, both ways.
 use Rattle.std.proofs.Common.{◌≡◌, ◌≤◌, ℕ, true, Some, None, List, [], ◌∷◌, map, refl, sym, ap, ◌∙◌, subst}
 use Rattle.std.specs.Prelude.{slice_get}
-use Rattle.std.specs.List.{list_any, list_all}
+use Rattle.std.specs.List.{list_any}
 use Rattle.pixel_core.specs.Rgba.{Rgba}
-use Rattle.geom_core.specs.Areas.{Point, lies_in}
-use Rattle.geom_core.specs.Grid.{Key, same_key, keys_of, all_keys_of}
+use Rattle.geom_core.specs.Areas.{Point}
+use Rattle.geom_core.specs.Grid.{Key, same_key, keys_of}
 use Rattle.doc_model.specs.declared.tree.Look.{Look}
-use Rattle.doc_model.specs.Jobs.{reads, writes}
-use Rattle.doc_model.specs.Laws.{SameOn}
-use Rattle.job_core.specs.Paints.{Paint, layer_of}
+use Rattle.job_core.specs.Paints.{Paint}
 use Rattle.machine_model.specs.State as state
 use Rattle.machine_model.specs.State.{Child}
 use Rattle.machine_model.specs.Groups.{on}
@@ -21,14 +19,12 @@ use Rattle.desk_parts.specs.declared.work.Painter.{Painter}
 use Rattle.desk_parts.specs.declared.work.Walker.{Walker}
 use Rattle.desk_parts.specs.declared.work.Work.TheVariants as work
 use Rattle.desk_parts.specs.Parts.{Parts, state_of, painter_of, walker_of}
-use Rattle.desk_parts.specs.Tied.{IsDesk}
-use Rattle.desk_parts.specs.Enabled.{Takes, TakesWalk}
-use Rattle.desk_parts.specs.Painted.{TakesPainted, TakesComposed}
+use Rattle.desk_parts.specs.Enabled.{TakesWalk}
+use Rattle.desk_parts.specs.Painted.{TakesComposed}
 use Rattle.desk_parts.proofs.Keeping.{held}
 use Rattle.desk_parts.proofs.Places.{IsPaintingAs, painting_as}
-use Rattle.desk_parts.proofs.WalkPlaces.{walking_at, IsWalkingAs, walking_as}
+use Rattle.desk_parts.proofs.WalkPlaces.{IsWalkingAs, walking_as}
 use Rattle.desk_parts.proofs.TilePoints.{HasPointIn, point_in}
-use Rattle.geom_core.proofs.Tests.{and_left}
 
 one_job : (a b : Painter) → Some (work.Paint a) ≡ Some (work.Paint b) → a ≡ b
 one_job a b e = cc
@@ -48,25 +44,6 @@ walk_is d place w v h runs =
     let x : IsWalkingAs d.slots place v = walking_as d.slots place v runs in
     ap walker_of (one_walk w x.walker (sym h ∙ x.at_work)) ∙ x.is
 
--- what is taken of the job that is at work has its serial, and was painted of it
-pub record TakesOf (w : Painter) (serial : ℕ) (p : Paint) : Type 0 where
-  pub drawn : w.serial ≡ serial
-  pub takes : TakesPainted w p
-
-pub taken_of : (d : Parts) (place serial : ℕ) (w : Painter) (p : Paint) → work_at place d.slots ≡ Some (work.Paint w) → Takes (state_of d) place serial p → TakesOf w serial p
-taken_of d place serial w p h t =
-    let e : painter_of w ≡ t.painter = job_is d place w t.painter h t.runs in
-    record {
-      drawn = ap (λ (q : state.Painter). q.serial) e ∙ t.drawn;
-      takes = record {
-        in_job = ap (λ (q : state.Painter). list_any (same_key p.key) (all_keys_of (writes q.job))) e ∙ t.in_job;
-        fresh = ap (λ (q : state.Painter). list_any (same_key p.key) q.published) e ∙ t.fresh;
-        job = t.job ∙ ap (λ (q : state.Painter). q.job) (sym e);
-        covers = ap (λ (q : state.Painter). list_all (λ a. list_any (lies_in a) p.shot.rects) (reads q.job)) e ∙ t.covers;
-        same = subst (λ (q : state.Painter). SameOn (reads q.job) (layer_of p.shot) q.shot) (sym e) t.same;
-      };
-    }
-
 -- the groups of what was read, by its children at a point
 path_at : (p : Point) (groups : List (ℕ × List Child)) → map (λ (e : ℕ × List (ℕ × (Look × Rgba))). e.0) (groups_at p groups) ≡ map (λ (e : ℕ × List Child). e.0) groups
 path_at p [] = refl
@@ -78,20 +55,7 @@ same_path a b key w n in_patch same =
     let x : HasPointIn a.patch.rect key = point_in a.patch.rect key w n in_patch in
     sym (path_at x.point a.groups) ∙ ap (map (λ (e : ℕ × List (ℕ × (Look × Rgba))). e.0)) (same.groups x.point x.held x.in_tile) ∙ path_at x.point b.groups
 
--- what was composed is taken
-pub takes_walk_is : (d : Parts) (place serial : ℕ) (w : Walker) (c : Composition) (group : ℕ) (key : Key) → IsDesk d → 1 ≤ w.inputs.patch.rect.w → 1 ≤ w.inputs.patch.rect.h → work_at place d.slots ≡ Some (work.Walk w) → w.serial ≡ serial → TakesComposed w c group key → TakesWalk (state_of d) place serial c group key
-takes_walk_is d place serial w c group key desk wide high h drawn t = record {
-  walker = walker_of w;
-  runs = held d place _ (walking_at d.slots place w desk.slots h);
-  drawn = drawn;
-  on_path = ap (on group) (same_path w.inputs c.readings key wide high t.in_patch t.same) ∙ and_left (on group (path_in c.readings)) _ t.composed;
-  in_patch = t.in_patch;
-  fresh = t.fresh;
-  composed = t.composed;
-  same = t.same;
-}
-
--- and nothing else is
+-- what is taken of the walk that is at work has its serial, and was composed of it
 pub record TakesWalkOf (w : Walker) (serial : ℕ) (c : Composition) (group : ℕ) (key : Key) : Type 0 where
   pub drawn : w.serial ≡ serial
   pub on_path : on group (path_in w.inputs) ≡ true

@@ -7,11 +7,10 @@ use Rattle.geom_core.specs.Areas.{Area}
 use Rattle.doc_model.specs.declared.command.Command.{Command}
 use Rattle.doc_model.specs.declared.command.Outcome.{Outcome}
 use Rattle.doc_model.specs.declared.job.Job.{Job}
-use Rattle.doc_model.specs.declared.canvas.Walk.TheVariants.{Up}
 use Rattle.doc_model.specs.Jobs.{writes}
 use Rattle.doc_model.specs.Layers.{Layer}
 use Rattle.doc_model.specs.Picture.{Doc}
-use Rattle.doc_model.specs.Updates.{queued, refreshed}
+use Rattle.doc_model.specs.Updates.{refreshed}
 use Rattle.tile_core.specs.Frames.{Scene}
 use Rattle.job_core.specs.Paints.{Paint}
 use Rattle.tile_core.specs.Shots.{Sight}
@@ -19,14 +18,14 @@ use Rattle.entry_queue.specs.Pushed.{Pending, pushed}
 use Rattle.desk_steps.specs.Archives.{Archive, with_put, finished, reverted}
 use Rattle.machine_model.specs.State.{Reach, Whole, Part}
 use Rattle.machine_model.specs.Groups.{parent_of}
-use Rattle.machine_model.specs.Effects.{updates_with_all, caches_for, without_nth}
+use Rattle.machine_model.specs.Effects.{caches_for, without_nth}
 use Rattle.geom_core.specs.Touches.{bound_of}
 use Rattle.desk_parts.specs.declared.work.Painter.{Painter}
 use Rattle.desk_parts.specs.declared.work.Walker.{Walker}
 use Rattle.desk_parts.specs.declared.work.Work.{Work}
 use Rattle.desk_parts.specs.declared.work.Work.TheVariants as work
 use Rattle.slot_core.specs.declared.Busy.{Busy}
-use Rattle.update_queue.specs.Waiting.{Waiting, waiting}
+use Rattle.update_queue.specs.Waiting.{Waiting, waiting, widened_by, widened_by_all}
 use Rattle.desk_parts.specs.Parts.{Parts}
 
 -- a job is at work
@@ -48,17 +47,12 @@ after_publish d place w p = record d {
 abbrev pub after_end : Parts → ℕ → Painter → ℕ → Parts
 after_end d place w g = record d {
   slots = slice_set d.slots place None;
-  updates = waiting d.updates.canvas (updates_with_all d.updates.canvas g (writes w.job) d.updates.patches);
+  updates = widened_by_all d.updates g (writes w.job);
 }
 
 -- the stroke under way is done
 abbrev pub after_done : Parts → Outcome → Parts
 after_done d o = record d { store = finished d.store.way d.store; queue = popped d.queue o; way = None }
-
--- the updates with a rectangle or none for a group and those above it
-abbrev pub widened_by : Waiting → ℕ → Option Area → Waiting
-widened_by u g None = u
-widened_by u g (Some rect) = waiting u.canvas (queued u.canvas u.patches (Up g) rect)
 
 -- the stroke at the head leaves nothing: it is reverted, and a rectangle of its layer's group waits
 abbrev pub after_revert : Parts → Outcome → ℕ → Option Area → Parts

@@ -17,7 +17,7 @@ use Rattle.machine_model.specs.Event.{Event, Init, Start, Finish, Cancel, Act, W
 use Rattle.machine_model.specs.Slots.{no_walker}
 use Rattle.machine_model.specs.Step.{Step}
 use Rattle.machine_model.specs.Guards.{blocks, meets_walker, kept_jobs, is_closed, is_cancelled, overlaps}
-use Rattle.desk_parts.specs.declared.head.HeadStroke.{HeadStroke}
+use Rattle.entry_queue.specs.declared.head.HeadStroke.{HeadStroke}
 use Rattle.desk_parts.specs.declared.head.Choice.{Choice}
 use Rattle.desk_parts.specs.declared.head.Choice.TheVariants as choice
 use Rattle.desk_parts.specs.Counting.{steps_of}

@@ -7,7 +7,7 @@ ghost use Rattle.geom_core.specs.Grid.{same_key, all_keys_of};
 ghost use Rattle.doc_model.specs.Jobs.{checks, reads, writes};
 ghost use Rattle.doc_model.specs.Lawful.{within_limits};
 
-use desk_core::{Desk, PaintTicket, Published, SlotId, Taken, WalkTicket};
+use desk_core::{Desk, Ended, PaintTicket, Published, SlotId, Taken, WalkTicket};
 use desk_work::is_tile_of;
 use doc_model::Job;
 use geom_core::{NoMemory, Rect, TileKey};
@@ -17,7 +17,7 @@ use pixel_core::Pixel;
 use std::alloc::Global;
 use std::sync::ledger::Ledger;
 use tile_core::Shot;
-use walker_core::{Inputs, compose_key, compose_walk};
+use walker_core::{Inputs, compose_key};
 use whole_tiles::whole_tile;
 
 /// A ticket that is held.
@@ -99,9 +99,8 @@ impl Held {
                 Ok(desk.publish(slot, &painted)? == Published::Nothing)
             }
             Held::Walk(ticket) => {
-                let composed = compose_walk(alloc, &ticket.inputs)?;
-                let alone = desk.publish_walk(slot, &composed, 0, key)?;
-                let row = desk.publish_row(slot, &composed, key)?;
+                let alone = compose(alloc, desk, slot, &ticket.inputs, 0, key)?;
+                let row = compose_row(alloc, desk, slot, &ticket.inputs, key)?;
                 Ok(alone == Published::Nothing && row == Published::Nothing)
             }
         }
@@ -129,7 +128,8 @@ impl Held {
         }
     }
 
-    /// Composes the whole work, and commits it for the work in a slot. `Nothing` also of a job.
+    /// Composes the whole work, tile by tile, publishes it for the work in a slot, and ends that. `Nothing` where
+    /// a tile isn't taken, and of a job.
     pub(crate) fn commit(
         &self,
         alloc: Global,
@@ -138,10 +138,7 @@ impl Held {
     ) -> Result<Published, NoMemory> {
         match self {
             Held::Paint(_) => Ok(Published::Nothing),
-            Held::Walk(ticket) => {
-                let composed = compose_walk(alloc, &ticket.inputs)?;
-                desk.commit_walk(slot, &composed)
-            }
+            Held::Walk(ticket) => compose_whole(alloc, desk, slot, &ticket.inputs),
         }
     }
 
@@ -205,6 +202,40 @@ fn compose(
     }
     let composed = compose_key(alloc, inputs, key)?;
     desk.publish_walk(slot, &composed, group, key)
+}
+
+/// Composes a tile of a walk, and publishes it of all its groups.
+fn compose_row(
+    alloc: Global,
+    desk: &mut Desk,
+    slot: SlotId,
+    inputs: &Inputs,
+    key: TileKey,
+) -> Result<Published, NoMemory> {
+    if !is_tile_of(&inputs.patch().rect, key) {
+        return Ok(Published::Nothing);
+    }
+    let composed = compose_key(alloc, inputs, key)?;
+    desk.publish_row(slot, &composed, key)
+}
+
+/// Composes the tiles of a walk, publishes each of all its groups, and ends the walk.
+fn compose_whole(
+    alloc: Global,
+    desk: &mut Desk,
+    slot: SlotId,
+    inputs: &Inputs,
+) -> Result<Published, NoMemory> {
+    let rect = inputs.patch().rect;
+    for i in 0..rect.tile_count() {
+        if compose_row(alloc, desk, slot, inputs, rect.tile_at(i))? == Published::Nothing {
+            return Ok(Published::Nothing);
+        }
+    }
+    match desk.end(slot) {
+        Ended::Done => Ok(Published::Stored),
+        Ended::Nothing => Ok(Published::Nothing),
+    }
 }
 
 /// Whether the tile is one of theirs.

@@ -1,8 +1,8 @@
 -- A document as its tree and devices.
 use Rattle.std.proofs.Common.{◌≡◌, ℕ, ◌+◌, Bool, true, false, cond, Option, Some, None, is_some, Result, Ok, Err, refl, sym, ap, ◌∙◌, subst, arith, eqb, ◌⊎◌, inl, inr}
 use Rattle.std.proofs.lemmas.Bool.Decides.{nat_tests}
-use Rattle.std.specs.Prelude.{IsSome, IfSome, IfNone, OnOk, OnErr}
-use Rattle.std.specs.Borrow.{Bor}
+use Rattle.std.specs.Prelude.{IsSome, IfSome, IfNone, OnSome, OnOk, OnErr}
+use Rattle.std.specs.Borrow.{Bor, MutBor}
 use Rattle.std.specs.Option.{option_copied, option_map, unwrap_or}
 use Rattle.std.specs.Ordering.{nat_cmp}
 use Rattle.std.specs.FinMap as map
@@ -13,6 +13,7 @@ use Rattle.geom_core.specs.Grid.{Key, key_cmp, key_of}
 use Rattle.memento_core.specs.Planes.{Keyed}
 use Rattle.tile_core.specs.Pixels.{Pixels, pixel_or}
 use Rattle.geom_core.proofs.Tests.{taken, kept}
+use Rattle.history_core.proofs.Lent.{lent_holds}
 use Rattle.doc_model.specs.Layers.{Layer, plain}
 use Rattle.doc_model.proofs.LayerLaws.{layer_ext, at-plain, default-plain}
 use Rattle.doc_model.specs.declared.tree.Change.{Change}
@@ -30,7 +31,7 @@ use Rattle.paint_device.specs.Seen.{layer_of}
 use Rattle.paint_device.proofs.Shown.{at-layer_of, default-layer_of}
 use Rattle.machine_model.specs.Effects.{layer_in}
 use Rattle.desk_steps.specs.declared.document.Document.{Document}
-use Rattle.desk_steps.specs.Slots.{Slots, has_slot, device_in, layer_or, ChangesDevice, standing, Grows}
+use Rattle.desk_steps.specs.Slots.{Slots, HasDevices, has_slot, device_in, layer_or, ChangesDevice, standing, Grows}
 use Rattle.desk_steps.specs.Documents.{doc_in, Regains}
 use Rattle.desk_steps.specs.Founds.{GivesBack, StandIn, has_key, patched}
 use Rattle.desk_steps.specs.declared.reach.TreeRefusal.{TreeRefusal}
@@ -208,16 +209,28 @@ module _ (m n : Slots) (id : ℕ) (was now : Option Sheet) (there : Some was ≡
           sym (ap (λ p. is_some (btree.get nat_cmp m p)) (sym same) ∙ ap is_some (sym there))
       go false e = refl
 
--- a device that was
-pub written_changes : (m n : Slots) (id : ℕ) (R : Sheet → Sheet → Type 0) (slot : Option Sheet) (was device : Sheet) → Some slot ≡ btree.get nat_cmp m id → slot ≡ Some was → btree.WritesThrough nat_cmp (nat_cmp id) m (Some device) n → R was device → ChangesDevice m n id R
-written_changes m n id R slot was device there full through is = record {
-  before = was;
-  device = device;
-  was = ap (λ o. unwrap_or o None) (sym there) ∙ full;
-  puts = written_device m n id slot (Some device) there through;
-  slots = written_slots m n id slot (Some device) there through;
-  holds = is;
-}
+in_slot : (o : Option (Option Sheet)) (s : Sheet) → unwrap_or o None ≡ Some s → o ≡ Some (Some s)
+in_slot None s e = cc
+in_slot (Some x) s e = ap Some e
+
+-- a device that was lent, as it was left
+module _ (m n : Slots) (id : ℕ) (device : Sheet) (r : Option (MutBor Sheet)) (lent : MutBor Sheet) (is : r ≡ Some lent) (there : Some lent.now ≡ device_in m id) (through : OnSome r (btree.WritesThrough nat_cmp (nat_cmp id) m (Some device) n)) where
+  pub lent_changes : (R : Sheet → Sheet → Type 0) → R lent.now device → ChangesDevice m n id R
+  lent_changes R holds =
+      let slot : Some (Some lent.now) ≡ btree.get nat_cmp m id = sym (in_slot (btree.get nat_cmp m id) lent.now (sym there)) in
+      let writes = lent_holds r lent is through in
+      record {
+        before = lent.now;
+        device = device;
+        was = sym there;
+        puts = written_device m n id (Some lent.now) (Some device) slot writes;
+        slots = written_slots m n id (Some lent.now) (Some device) slot writes;
+        holds = holds;
+      }
+
+  -- just the paint nodes have devices still
+  pub still_devices : (t : Forest (Unit {0})) → HasDevices t m → HasDevices t n
+  still_devices t has q = layers_stay m n id (λ a b. Unit {0}) (lent_changes (λ a b. Unit {0}) tt) q ∙ has q
 
 -- the lent one is there
 pub lent_stands : (o : Option Sheet) (s : Sheet) (found : Keyed Pixels) → Some s ≡ o → StandIn found o → StandIn found (Some s)

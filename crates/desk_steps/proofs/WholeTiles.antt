@@ -27,7 +27,7 @@ use Rattle.desk_steps.proofs.Archived.{way_layer}
 use Rattle.desk_steps.specs.declared.document.Document.{Document}
 use Rattle.desk_steps.specs.declared.entry.Entry.{Entry}
 use Rattle.desk_steps.specs.declared.entry.Way.{Way}
-use Rattle.desk_steps.specs.Archives.{Archive, layer_under_way}
+use Rattle.desk_steps.specs.Archives.{Archive, layer_now}
 use Rattle.desk_steps.specs.Documents.{doc_in}
 use Rattle.desk_steps.specs.Entries.{archive_of}
 use Rattle.desk_steps.specs.Slots.{device_in}
@@ -35,7 +35,7 @@ use Rattle.history_core.specs.Stacks.{Stack}
 use Rattle.paint_device.specs.Seen as seen
 use Rattle.paint_device.proofs.Shown.{at-layer_of}
 use Rattle.std.specs.Option.{option_map}
-use Rattle.desk_steps.specs.Tiles.{HasBase, HasBaseIn, IsLaid, IsWholeOn}
+use Rattle.desk_steps.specs.Tiles.{HasBase, HasBaseIn, IsLaid, IsMadeFrom, IsWholeOn}
 
 -- where the device has the pixels that it was made from, the new tile itself is to stand there
 pub base_stands : (x : Entire) (s : Sheet) → IsEntire x → HasBase x s → IsWholeOn x s x.tile
@@ -137,7 +137,7 @@ grounds_stand s base key e here there p inside =
 
 -- the device of the stroke's layer has the base's pixels where the layer has them
 pub layer_has_base : (x : Entire) (doc : Document) (history : Stack Entry) (way : Option Way) (room : Bool) (w : Way) (old : Archive) → way ≡ Some w → archive_of (doc_in doc) history way room ≡ old → is_some (device_in doc.slots w.id) ≡ true
-    → ((p : Point) → in_tile x.key p ≡ true → sight_at x.base p ≡ at (layer_under_way old.way old.present) p) → HasBaseIn x (device_in doc.slots w.id)
+    → IsMadeFrom x (layer_now old) → HasBaseIn x (device_in doc.slots w.id)
 layer_has_base x doc history way room w old is view there same =
     let d = some_is (device_in doc.slots w.id) there in
     let l = way_layer (doc_in doc) history way room w (seen.layer_of d.0) old is view (content_shown doc.tree (device_in doc.slots) doc.fits w.id ∙ ap (option_map seen.layer_of) d.1) in

@@ -62,6 +62,10 @@ abbrev pub layer_under_way : Way → Doc → Layer
 layer_under_way None doc = plain clear
 layer_under_way (Some w) doc = layer_in w.0 doc
 
+-- the same as it is now
+abbrev pub layer_now : Archive → Layer
+layer_now a = layer_under_way a.way a.present
+
 -- the document without its layers' pixels
 abbrev pub shape : Doc → Forest (Unit {0})
 shape doc = each (λ id layer. tt) doc

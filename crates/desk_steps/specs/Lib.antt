@@ -4,3 +4,4 @@ pub mod Slots
 pub mod Documents
 pub mod Entries
 pub mod Tiles
+pub mod Lends

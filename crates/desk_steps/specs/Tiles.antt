@@ -40,6 +40,10 @@ abbrev pub HasBaseIn : Entire → Option Sheet → Type 0
 HasBaseIn x None = ⊥
 HasBaseIn x (Some s) = HasBase x s
 
+-- the new tile was made from the layer's pixels
+abbrev pub IsMadeFrom : Entire → Layer → Type 0
+IsMadeFrom x l = (p : Point) → in_tile x.key p ≡ true → sight_at x.base p ≡ at l p
+
 -- the tile has the new tile's pixels where the job writes, and the sheet's elsewhere
 abbrev pub IsWholeOn : Entire → Sheet → Pixels → Type 0
 IsWholeOn x s t = (p : Point) → in_tile x.key p ≡ true → pixel_at t p ≡ cond (any_holds (writes x.job) p) (pixel_at x.tile p) (sheet_at s p)

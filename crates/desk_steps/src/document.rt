@@ -2,6 +2,9 @@
 
 ghost use Rattle.std.specs.Prelude.{◌≡◌, ◌+◌, true, None, Some, Ok, Err, is_some, IfOk, OnOk, OnErr, IfSome, IfNone};
 ghost use Rattle.std.specs.FinSet as set;
+ghost use Rattle.std.specs.Borrow.{sem};
+ghost use Rattle.std.specs.Option.{option_copied_mut};
+ghost use Rattle.desk_steps.specs.Lends.{LendsDevice};
 ghost use Rattle.doc_model.specs.Layers.{Layer, plain};
 ghost use Rattle.doc_model.specs.Shots.{published};
 ghost use Rattle.doc_model.specs.Forest.{none, content};
@@ -14,15 +17,16 @@ ghost use Rattle.job_core.specs.Paints.{Paint, Makes};
 ghost use Rattle.job_core.specs.Points.{all_painted_in};
 ghost use Rattle.whole_tiles.specs.Wholes.{Shows};
 ghost use Rattle.paint_device.specs.Seen.{layer_of};
+ghost use Rattle.desk_steps.specs.declared.exchanging.Base.TheVariants.{Known};
 ghost use Rattle.desk_steps.specs.declared.reach.TreeRefusal.TheVariants as refusal;
 ghost use Rattle.desk_steps.specs.Archives.{shape};
 ghost use Rattle.memento_core.specs.Revisions.{keys_in};
-ghost use Rattle.desk_steps.specs.Founds.{ExchangesTiles, GivesBack, StandIn, patched};
-ghost use Rattle.desk_steps.specs.Slots.{ChangesDevice, HasDevices, device_in, standing};
+ghost use Rattle.desk_steps.specs.Founds.{StandIn, patched};
+ghost use Rattle.desk_steps.specs.Slots.{HasDevices, device_in, standing};
 ghost use Rattle.desk_steps.specs.Tiles.{HasBaseIn};
 
 use crate::arrangement::{Arrangement, exchange_devices, slots_of};
-use crate::exchanging::put_whole;
+use crate::exchanging::{Base, put_whole};
 use crate::laying::lay;
 use crate::painting::paint;
 use crate::reach::TreeRefusal;
@@ -83,14 +87,21 @@ impl Document {
     pub fn exchange<L: Ledger>(&mut self, id: u16, found: &mut Revision<Tile>, steps: &mut Steps<L>)
         requires layer { is_some (device_in self.old.slots id) ≡ true }
         requires there { StandIn found.old (device_in self.old.slots id) }
+
+        // The noted tiles stand in the layer, and what was noted gives back the document from before.
         ensures new { doc_in self.new ≡ adjusted id (patched found.old) (doc_in self.old) }
         ensures back { adjusted id (patched found.new) (doc_in self.new) ≡ doc_in self.old }
         ensures keys { keys_in found.new ≡ keys_in found.old }
+
+        // No key goes away, so it can be exchanged again.
         ensures stand { StandIn found.new (device_in self.new.slots id) }
         ensures kept { standing self.old.tree self.old.slots ≡ standing self.new.tree self.new.slots }
         ensures counts { steps.new ≡ steps.old + set.len (keys_in found.old) }
     {
-        exchange_under(&mut self.slots, id, found, steps);
+        match device_mut(&mut self.slots, id) {
+            Some(device) => found.exchange(device, steps),
+            None => unreachable!(),
+        }
     }
 
     /// Lays what was painted on a paint layer, and notes what stood in its tile before the stroke.
@@ -103,37 +114,50 @@ impl Document {
     ) -> Result<(), NoMemory>
         requires layer { is_some (device_in self.old.slots id) ≡ true }
         requires there { StandIn found.old (device_in self.old.slots id) }
+
+        // The tile is changed, and what was noted still gives back the document from before the stroke.
         ensures ok { (w : Paint) → Makes w made.now → OnOk result (doc_in self.new ≡ adjusted id (published w.job (paints.layer_of w.shot) w.key) (doc_in self.old)) }
         ensures keys { OnOk result (keys_in found.new ≡ set.insert (keys_in found.old) made.now.key) }
         ensures back { Regains id found.old found.new self.old self.new }
+
+        // Without memory no pixel has changed, and nothing was noted.
         ensures err { OnErr result (doc_in self.new ≡ doc_in self.old) }
         ensures no_note { OnErr result (found.new ≡ found.old) }
     {
         let _key = made.key();
-        lay_under(alloc, &mut self.slots, id, found, made)
+        match device_mut(&mut self.slots, id) {
+            Some(device) => lay(alloc, device, found, made),
+            None => unreachable!(),
+        }
     }
 
     /// What a job leaves in a tile, made whole, comes onto a paint layer, and what stood there before the
-    /// stroke is noted. Where it is known that the layer has the pixels that the tile was made from, none
-    /// is looked at.
+    /// stroke is noted.
     pub fn put_whole(
         &mut self,
         alloc: Global,
         id: u16,
         found: &mut Revision<Tile>,
         whole: &Whole,
-        known: bool,
+        base: Base,
     ) -> Result<(), NoMemory>
         requires layer { is_some (device_in self.old.slots id) ≡ true }
         requires there { StandIn found.old (device_in self.old.slots id) }
-        requires known { known ≡ true → HasBaseIn whole.now (device_in self.old.slots id) }
+        requires known { base ≡ Known → HasBaseIn whole.now (device_in self.old.slots id) }
+
+        // The tile is changed, and what was noted still gives back the document from before the stroke.
         ensures ok { (shot : Layer) → Shows whole.now.needs whole.now.base shot → OnOk result (doc_in self.new ≡ adjusted id (published whole.now.job shot whole.now.key) (doc_in self.old)) }
         ensures keys { OnOk result (keys_in found.new ≡ set.insert (keys_in found.old) whole.now.key) }
         ensures back { Regains id found.old found.new self.old self.new }
+
+        // Without memory no pixel has changed, and nothing was noted.
         ensures err { OnErr result (doc_in self.new ≡ doc_in self.old) }
         ensures no_note { OnErr result (found.new ≡ found.old) }
     {
-        put_whole_under(alloc, &mut self.slots, id, found, whole, known)
+        match device_mut(&mut self.slots, id) {
+            Some(device) => put_whole(alloc, device, found, whole, base),
+            None => unreachable!(),
+        }
     }
 
     /// Paints point operations in one tile of a paint layer, and notes what stood in the tile before
@@ -147,13 +171,20 @@ impl Document {
     ) -> Result<(), NoMemory>
         requires layer { is_some (device_in self.old.slots id) ≡ true }
         requires there { StandIn found.old (device_in self.old.slots id) }
+
+        // The tile is changed, and what was noted still gives back the document from before the stroke.
         ensures ok { OnOk result (doc_in self.new ≡ adjusted id (all_painted_in work.now.jobs work.now.key) (doc_in self.old)) }
         ensures keys { OnOk result (keys_in found.new ≡ set.insert (keys_in found.old) work.now.key) }
         ensures back { Regains id found.old found.new self.old self.new }
+
+        // Without memory no pixel has changed, and nothing was noted.
         ensures err { OnErr result (doc_in self.new ≡ doc_in self.old) }
         ensures no_note { OnErr result (found.new ≡ found.old) }
     {
-        paint_under(alloc, &mut self.slots, id, found, work)
+        match device_mut(&mut self.slots, id) {
+            Some(device) => paint(alloc, device, found, work),
+            None => unreachable!(),
+        }
     }
 
     /// The arrangement that a change makes of the document. Of the document itself it may make the slot
@@ -195,100 +226,11 @@ impl Document {
     }
 }
 
-/// Exchanges what was noted with the tiles of the device under an id that is there.
-fn exchange_under<L: Ledger>(
-    devices: &mut BTreeMap<u16, Option<Device>>,
-    id: u16,
-    found: &mut Revision<Tile>,
-    steps: &mut Steps<L>,
-)
-    requires layer { is_some (device_in devices.old id) ≡ true }
-    requires there { StandIn found.old (device_in devices.old id) }
-    ensures exchanges { ChangesDevice devices.old devices.new id (ExchangesTiles found.old found.new) }
-    ensures counts { steps.new ≡ steps.old + set.len (keys_in found.old) }
+/// The device under an id, lent to be changed in its slot. None where it isn't there.
+fn device_mut(devices: &mut BTreeMap<u16, Option<Device>>, id: u16) -> Option<&mut Device>
+    ensures* lends { sem 𝓛 (LendsDevice devices.entry id result) }
+    ensures value { option_copied_mut result ≡ device_in devices.old id }
 {
-    match devices.get_mut(&id) {
-        Some(slot) => match slot {
-            Some(device) => found.exchange(device, steps),
-            None => unreachable!(),
-        },
-        None => unreachable!(),
-    }
-}
-
-/// Lays what was painted on the device under an id that is there.
-fn lay_under(
-    alloc: Global,
-    devices: &mut BTreeMap<u16, Option<Device>>,
-    id: u16,
-    found: &mut Revision<Tile>,
-    made: &Made,
-) -> Result<(), NoMemory>
-    requires layer { is_some (device_in devices.old id) ≡ true }
-    requires there { StandIn found.old (device_in devices.old id) }
-    ensures ok { (w : Paint) → Makes w made.now → OnOk result (ChangesDevice devices.old devices.new id (λ old new. layer_of new ≡ published w.job (paints.layer_of w.shot) w.key (layer_of old))) }
-    ensures keys { OnOk result (keys_in found.new ≡ set.insert (keys_in found.old) made.now.key) }
-    ensures back { ChangesDevice devices.old devices.new id (GivesBack found.old found.new) }
-    ensures err { OnErr result (ChangesDevice devices.old devices.new id (λ old new. layer_of new ≡ layer_of old)) }
-    ensures no_note { OnErr result (found.new ≡ found.old) }
-{
-    match devices.get_mut(&id) {
-        Some(slot) => match slot {
-            Some(device) => lay(alloc, device, found, made),
-            None => unreachable!(),
-        },
-        None => unreachable!(),
-    }
-}
-
-/// What a job leaves in a tile, made whole, comes onto the device under an id that is there.
-fn put_whole_under(
-    alloc: Global,
-    devices: &mut BTreeMap<u16, Option<Device>>,
-    id: u16,
-    found: &mut Revision<Tile>,
-    whole: &Whole,
-    known: bool,
-) -> Result<(), NoMemory>
-    requires layer { is_some (device_in devices.old id) ≡ true }
-    requires there { StandIn found.old (device_in devices.old id) }
-    requires known { known ≡ true → HasBaseIn whole.now (device_in devices.old id) }
-    ensures ok { (shot : Layer) → Shows whole.now.needs whole.now.base shot → OnOk result (ChangesDevice devices.old devices.new id (λ old new. layer_of new ≡ published whole.now.job shot whole.now.key (layer_of old))) }
-    ensures keys { OnOk result (keys_in found.new ≡ set.insert (keys_in found.old) whole.now.key) }
-    ensures back { ChangesDevice devices.old devices.new id (GivesBack found.old found.new) }
-    ensures err { OnErr result (ChangesDevice devices.old devices.new id (λ old new. layer_of new ≡ layer_of old)) }
-    ensures no_note { OnErr result (found.new ≡ found.old) }
-{
-    match devices.get_mut(&id) {
-        Some(slot) => match slot {
-            Some(device) => put_whole(alloc, device, found, whole, known),
-            None => unreachable!(),
-        },
-        None => unreachable!(),
-    }
-}
-
-/// Paints point operations in one tile of the device under an id that is there.
-fn paint_under(
-    alloc: Global,
-    devices: &mut BTreeMap<u16, Option<Device>>,
-    id: u16,
-    found: &mut Revision<Tile>,
-    work: &PointWork<'_>,
-) -> Result<(), NoMemory>
-    requires layer { is_some (device_in devices.old id) ≡ true }
-    requires there { StandIn found.old (device_in devices.old id) }
-    ensures ok { OnOk result (ChangesDevice devices.old devices.new id (λ old new. layer_of new ≡ all_painted_in work.now.jobs work.now.key (layer_of old))) }
-    ensures keys { OnOk result (keys_in found.new ≡ set.insert (keys_in found.old) work.now.key) }
-    ensures back { ChangesDevice devices.old devices.new id (GivesBack found.old found.new) }
-    ensures err { OnErr result (ChangesDevice devices.old devices.new id (λ old new. layer_of new ≡ layer_of old)) }
-    ensures no_note { OnErr result (found.new ≡ found.old) }
-{
-    match devices.get_mut(&id) {
-        Some(slot) => match slot {
-            Some(device) => paint(alloc, device, found, work),
-            None => unreachable!(),
-        },
-        None => unreachable!(),
-    }
+    let slot = devices.get_mut(&id)?;
+    slot.as_mut()
 }

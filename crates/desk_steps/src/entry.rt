@@ -36,10 +36,14 @@ impl Entry {
     pub fn exchange<L: Ledger>(&mut self, doc: &mut Document, steps: &mut Steps<L>) -> Reach
         requires layer { FitsOn (doc_in doc.old) self.old }
         requires there { FitsKeys (standing doc.old.tree doc.old.slots) self.old }
+
+        // The two documents change places.
         ensures doc { doc_in doc.new ≡ doc_of (doc_in doc.old) self.old }
         ensures back { doc_of (doc_in doc.new) self.new ≡ doc_in doc.old }
         ensures same { reach_in self.new ≡ reach_in self.old }
         ensures keys { Trades (standing doc.old.tree doc.old.slots) (standing doc.new.tree doc.new.slots) self.old self.new }
+
+        // What is told of it.
         ensures reach { TellsReach (reach_in self.old) (doc_in doc.new) result }
         ensures known { IsDocument (doc_in doc.new) }
         ensures counts { steps.new ≡ steps.old + tiles_in (reach_in self.old) }

@@ -95,9 +95,13 @@ pub fn show_under(
 ) -> Result<(), NoMemory>
     requires world { IsWorldKey key }
     requires there { StandIn found.old (Some device.old) }
+
+    // The tile is shown, and what was noted still gives back the layer from before the stroke.
     ensures ok { OnOk result (layer_of device.new ≡ layer_of (with_under device.old key (Some tile))) }
     ensures keys { OnOk result (keys_in found.new ≡ set.insert (keys_in found.old) key) }
     ensures back { GivesBack found.old found.new device.old device.new }
+
+    // Without memory no pixel has changed, and nothing was noted.
     ensures err { OnErr result (layer_of device.new ≡ layer_of device.old) }
     ensures no_note { OnErr result (found.new ≡ found.old) }
 {
@@ -128,9 +132,13 @@ pub fn set_under(
 ) -> Result<(), NoMemory>
     requires world { IsWorldKey key }
     requires there { StandIn found.old (Some device.old) }
+
+    // The tile is shown, and what was noted still gives back the layer from before the stroke.
     ensures ok { OnOk result (device.new ≡ with_under device.old key (Some tile)) }
     ensures keys { OnOk result (keys_in found.new ≡ set.insert (keys_in found.old) key) }
     ensures back { GivesBack found.old found.new device.old device.new }
+
+    // Without memory no pixel has changed, and nothing was noted.
     ensures err { OnErr result (layer_of device.new ≡ layer_of device.old) }
     ensures no_note { OnErr result (found.new ≡ found.old) }
 {

@@ -10,5 +10,6 @@ mod painting;
 mod reach;
 mod store;
 
+pub use exchanging::Base;
 pub use reach::{Begun, Reach, TreeRefusal};
 pub use store::Store;

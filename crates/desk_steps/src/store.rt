@@ -1,29 +1,31 @@
 //! The store.
 
-ghost use Rattle.std.specs.Prelude.{◌≡◌, ◌+◌, ℕ, true, false, [], None, Some, Ok, Err, is_some, take, IfOk, OnOk, OnErr, IfErr, IfSome, IfNone, IsNone, ◌↔◌};
+ghost use Rattle.std.specs.Prelude.{◌≡◌, ◌+◌, ℕ, true, false, [], None, Some, Ok, Err, is_some, take, IfOk, OnOk, OnErr, IfSome, IfNone, IsNone, ◌↔◌};
 ghost use Rattle.std.specs.FinSet as set;
 ghost use Rattle.geom_core.specs.Grid.{key_of, same_key};
 ghost use Rattle.geom_core.specs.Areas.{Point};
 ghost use Rattle.tile_core.specs.Pixels.{pixel_at};
-ghost use Rattle.tile_core.specs.Shots.{sight_at};
 ghost use Rattle.doc_model.specs.Layers.{Layer, at, plain};
-ghost use Rattle.doc_model.specs.Shots.{in_tile, shot_of};
+ghost use Rattle.doc_model.specs.Shots.{shot_of};
 ghost use Rattle.doc_model.specs.Forest.{content};
 ghost use Rattle.doc_model.specs.Changes.{changed, there};
+ghost use Rattle.doc_model.specs.Laws.{IsDocument};
 ghost use Rattle.doc_model.specs.declared.tree.TreeFault.{TreeFault};
 ghost use Rattle.machine_model.specs.Effects.{layer_in};
 ghost use Rattle.paint_device.specs.Seen as seen;
 ghost use Rattle.job_core.specs.Paints.{Paint, Makes, IsMade, layer_of};
 ghost use Rattle.whole_tiles.specs.Wholes.{IsEntire, IsOf};
+ghost use Rattle.desk_steps.specs.declared.exchanging.Base.TheVariants.{Known};
 ghost use Rattle.desk_steps.specs.declared.reach.Reach.TheVariants as tells;
 ghost use Rattle.desk_steps.specs.declared.reach.TreeRefusal.TheVariants as refusal;
 ghost use Rattle.desk_steps.specs.declared.reach.Begun.TheVariants.{Ready, NoLayer, NotPaint};
 ghost use Rattle.geom_core.specs.Exchanged.{HasTouched};
-ghost use Rattle.desk_steps.specs.Tiles.{ShowsTiles};
-ghost use Rattle.desk_steps.specs.Archives.{Archive, IsArchive, Changes, TellsFirst, empty_archive, layer_under_way, shape, with_put, with_painted, finished, reverted, undone, redone, tiles_in_first};
+ghost use Rattle.desk_steps.specs.Tiles.{IsMadeFrom, ShowsTiles};
+ghost use Rattle.desk_steps.specs.Archives.{Archive, IsArchive, Changes, TellsFirst, empty_archive, layer_now, shape, with_put, with_painted, finished, reverted, undone, redone, tiles_in_first};
 
 use crate::document::Document;
 use crate::entry::{Entry, Way};
+use crate::exchanging::Base;
 use crate::reach::{Begun, Reach, TreeRefusal};
 use doc_model::Change;
 use geom_core::{NoMemory, Rect, TileKey, Touched};
@@ -117,8 +119,8 @@ impl Store {
     pub fn grab(&self, alloc: Global, rects: &[Rect]) -> Result<Shot, NoMemory>
         requires { is_some self.now.way ≡ true }
         ensures rects { IfOk result (λ s. s.rects ≡ rects.now) }
-        ensures shot { IfOk result (λ s. layer_of s ≡ shot_of rects.now (layer_under_way self.now.way self.now.present)) }
-        ensures tiles { IfOk result (ShowsTiles rects.now (layer_under_way self.now.way self.now.present)) }
+        ensures shot { IfOk result (λ s. layer_of s ≡ shot_of rects.now (layer_now self.now)) }
+        ensures tiles { IfOk result (ShowsTiles rects.now (layer_now self.now)) }
     {
         let Some(way) = &self.way else {
             unreachable!();
@@ -138,8 +140,8 @@ impl Store {
         self.put_made(alloc, painted.made())
     }
 
-    /// The same by the blocks alone. Where the stroke has put their tile before and nobody shares it,
-    /// one block is laid in place, and takes no memory.
+    /// Lays what a job left in a tile, by its blocks alone, on the stroke's layer. Where the stroke has put
+    /// their tile before and nobody shares it, one block is laid in place, and takes no memory.
     pub fn put_made(&mut self, alloc: Global, made: &Made) -> Result<(), NoMemory>
         requires { is_some self.old.way ≡ true }
         ensures ok { (w : Paint) → Makes w made.now → OnOk result (self.new ≡ with_put self.old.way w self.old) }
@@ -153,34 +155,12 @@ impl Store {
         }
     }
 
-    /// The same of a tile that was made whole. Where the layer has still the pixels that the tile was
-    /// made from, the new tile takes the old one's place and no pixel is copied; else only what the job
-    /// writes is laid, on a copy of the layer's tile.
-    pub fn put_whole(&mut self, alloc: Global, whole: &Whole) -> Result<(), NoMemory>
-        requires { is_some self.old.way ≡ true }
-        ensures ok { (w : Paint) → IsOf w whole.now → OnOk result (self.new ≡ with_put self.old.way w self.old) }
-        ensures err { OnErr result (self.new ≡ self.old) }
-        ensures known { IsEntire whole.now }
-    {
-        self.put_tile(alloc, whole, false)
-    }
-
-    /// The same where it is known that the layer has still those pixels: the new tile takes the old
-    /// one's place, and no pixel is compared.
-    pub fn put_known(&mut self, alloc: Global, whole: &Whole) -> Result<(), NoMemory>
+    /// Lays what a job leaves in a tile, made whole, on the stroke's layer. Where the layer has still the
+    /// pixels that the tile was made from, the new tile takes the old one's place and no pixel is copied;
+    /// else only what the job writes is laid, on a copy of the layer's tile.
+    pub fn put_whole(&mut self, alloc: Global, whole: &Whole, base: Base) -> Result<(), NoMemory>
         requires under_way { is_some self.old.way ≡ true }
-        requires known { (p : Point) → in_tile whole.now.key p ≡ true → sight_at whole.now.base p ≡ at (layer_under_way self.old.way self.old.present) p }
-        ensures ok { (w : Paint) → IsOf w whole.now → OnOk result (self.new ≡ with_put self.old.way w self.old) }
-        ensures err { OnErr result (self.new ≡ self.old) }
-        ensures known { IsEntire whole.now }
-    {
-        self.put_tile(alloc, whole, true)
-    }
-
-    /// The same of both, where it is told whether it is known.
-    fn put_tile(&mut self, alloc: Global, whole: &Whole, known: bool) -> Result<(), NoMemory>
-        requires under_way { is_some self.old.way ≡ true }
-        requires known { known ≡ true → (p : Point) → in_tile whole.now.key p ≡ true → sight_at whole.now.base p ≡ at (layer_under_way self.old.way self.old.present) p }
+        requires known { base ≡ Known → IsMadeFrom whole.now (layer_now self.old) }
         ensures ok { (w : Paint) → IsOf w whole.now → OnOk result (self.new ≡ with_put self.old.way w self.old) }
         ensures err { OnErr result (self.new ≡ self.old) }
         ensures known { IsEntire whole.now }
@@ -189,7 +169,7 @@ impl Store {
         match &mut self.way {
             Some(way) => self
                 .doc
-                .put_whole(alloc, way.id, &mut way.found, whole, known),
+                .put_whole(alloc, way.id, &mut way.found, whole, base),
             None => unreachable!(),
         }
     }
@@ -296,9 +276,10 @@ impl Store {
         self.history.purge(keep);
     }
 
-    /// The tree of the document.
+    /// The tree of the document, which keeps to the limits that every document does.
     pub fn tree(&self) -> &Tree
         ensures value { result.now ≡ shape self.now.present }
+        ensures limits { IsDocument self.now.present }
         ensures known { IsArchive self.now }
     {
         self.doc.tree()

@@ -7,3 +7,6 @@ pub mod PairsLaid
 pub mod ShotsRead
 pub mod Lackings
 pub mod InOrder
+pub mod NextChildren
+pub mod Filling
+pub mod SamePaths

@@ -1,14 +1,13 @@
 -- Pairs of a walk are laid one after another.
-use Rattle.std.proofs.Common.{◌≡◌, ℕ, ◌+◌, ◌≤◌, Bool, true, false, ◌||◌, cond, List, [], ◌∷◌, ◌++◌, Some, Result, Ok, Err, OnOk, OnErr, length, take, drop, refl, sym, ap, ◌∙◌, subst, append-nil, append_assoc, take-append-drop, arith, inl, inr}
+use Rattle.std.proofs.Common.{◌≡◌, ℕ, ◌+◌, ◌≤◌, Bool, true, false, cond, List, [], ◌∷◌, ◌++◌, Some, Result, Ok, Err, OnOk, OnErr, length, take, drop, refl, sym, ap, ◌∙◌, subst, append-nil, append_assoc, take-append-drop, arith}
 use Rattle.std.specs.Prelude.{slice_get}
 use Rattle.std.specs.Ordering.{nat_cmp}
 use Rattle.std.specs.List.{list_any, list_all}
 use Rattle.std.specs.FinMap.{FinMap}
 use Rattle.std.proofs.lemmas.List.{map-append, take_all}
-use Rattle.std.proofs.lemmas.List.Folds.{list_any-append}
 use Rattle.geom_core.specs.Grid.{Key, same_key}
-use Rattle.geom_core.proofs.Tests.{or_cases, or_left, both_true}
-use Rattle.geom_core.proofs.Tiles.{key_same, key_is}
+use Rattle.geom_core.proofs.Tests.{or_left, both_true}
+use Rattle.geom_core.proofs.Tiles.{key_is}
 use Rattle.doc_model.specs.Layers.{Layer}
 use Rattle.machine_model.specs.Guards.{same_pair}
 use Rattle.machine_model.specs.Walks.{walk_value}
@@ -19,7 +18,7 @@ use Rattle.group_caches.specs.Kept.{with_picture}
 use Rattle.update_queue.proofs.Elements.{drop_here, take_here}
 use Rattle.desk_parts.proofs.KeyTests.{on_all}
 use Rattle.desk_parts.proofs.WalkLaying.{composed_is}
-use Rattle.desk_work.specs.LaidTiles.{Laid, laid, laid_as, laid_all, lacking, pairs_at, pairs_on, Lays, LaysFront, LaysSome}
+use Rattle.desk_work.specs.LaidTiles.{Laid, laid, laid_as, laid_all, lacking, pairs_at, Lays, LaysFront, LaysSome}
 
 -- ---- what is laid, and what lacks then
 
@@ -47,17 +46,6 @@ lays_then r xs ys a b c one two =
 -- all of them are a front
 pub front_all : (r : Readings) (xs : List (ℕ × Key)) (a b : Laid) → Lays r xs a b → LaysFront r xs a b
 front_all r xs a b one = record { front = lacking a.published xs; rest = []; are = append-nil (lacking a.published xs); lays = one }
-
--- as of pairs, and of a front of others
-pub front_then : (r : Readings) (xs ys : List (ℕ × Key)) (a b c : Laid) → Lays r xs a b → LaysFront r ys b c → LaysFront r (xs ++ ys) a c
-front_then r xs ys a b c one f = record {
-  front = lacking a.published xs ++ f.front;
-  rest = f.rest;
-  are = append_assoc (lacking a.published xs) f.front f.rest
-      ∙ ap (λ ps. lacking a.published xs ++ ps) (f.are ∙ ap (λ (l : Laid). lacking l.published ys) one)
-      ∙ sym (lacking_then r xs ys a);
-  lays = f.lays ∙ ap (laid_all r f.front) one ∙ sym (laid_then r (lacking a.published xs) f.front a);
-}
 
 -- a front of pairs is one of more pairs
 pub front_more : (r : Readings) (xs ys : List (ℕ × Key)) (a b : Laid) → LaysFront r xs a b → LaysFront r (xs ++ ys) a b
@@ -115,27 +103,6 @@ groups_left r path key i g a b c at one same fresh =
 pub groups_end : (r : Readings) (path : List ℕ) (key : Key) (i : ℕ) (a b : Laid) → length path ≤ i → Lays r (pairs_at (take i path) key) a b → Lays r (pairs_at path key) a b
 groups_end r path key i a b past one = subst (λ gs. Lays r (pairs_at gs key) a b) (take_all i path past) one
 
--- ---- the tiles of a walk
-
-on_then : (path : List ℕ) (xs ys : List Key) → pairs_on path (xs ++ ys) ≡ pairs_on path xs ++ pairs_on path ys
-on_then path [] ys = refl
-on_then path (x ∷ xs) ys = ap (λ ps. pairs_at path x ++ ps) (on_then path xs ys) ∙ sym (append_assoc (pairs_at path x) (pairs_on path xs) (pairs_on path ys))
-
-on_next : (path : List ℕ) (keys : List Key) (i : ℕ) (key : Key) → slice_get keys i ≡ Some key → pairs_on path (take (i + 1) keys) ≡ pairs_on path (take i keys) ++ pairs_at path key
-on_next path keys i key at = ap (pairs_on path) (take_here keys i key at) ∙ on_then path (take i keys) (key ∷ []) ∙ ap (λ ps. pairs_on path (take i keys) ++ ps) (append-nil (pairs_at path key))
-
-pub tiles_next : (r : Readings) (path : List ℕ) (keys : List Key) (i : ℕ) (key : Key) (a b c : Laid) → slice_get keys i ≡ Some key → Lays r (pairs_on path (take i keys)) a b → Lays r (pairs_at path key) b c → Lays r (pairs_on path (take (i + 1) keys)) a c
-tiles_next r path keys i key a b c at one two = subst (λ ps. Lays r ps a c) (sym (on_next path keys i key at)) (lays_then r (pairs_on path (take i keys)) (pairs_at path key) a b c one two)
-
-pub tiles_stop : (r : Readings) (path : List ℕ) (keys : List Key) (i : ℕ) (key : Key) (a b c : Laid) → slice_get keys i ≡ Some key → Lays r (pairs_on path (take i keys)) a b → LaysFront r (pairs_at path key) b c → LaysFront r (pairs_on path keys) a c
-tiles_stop r path keys i key a b c at one two =
-    subst (λ ps. LaysFront r ps a c) (sym (on_then path (take (i + 1) keys) (drop (i + 1) keys)) ∙ ap (pairs_on path) (take-append-drop (i + 1) keys))
-    (front_more r (pairs_on path (take (i + 1) keys)) (pairs_on path (drop (i + 1) keys)) a c
-    (subst (λ ps. LaysFront r ps a c) (sym (on_next path keys i key at)) (front_then r (pairs_on path (take i keys)) (pairs_at path key) a b c one two)))
-
-pub tiles_end : (r : Readings) (path : List ℕ) (keys : List Key) (i : ℕ) (a b : Laid) → length keys ≤ i → Lays r (pairs_on path (take i keys)) a b → Lays r (pairs_on path keys) a b
-tiles_end r path keys i a b past one = subst (λ ks. Lays r (pairs_on path ks) a b) (take_all i keys past) one
-
 -- ---- what was composed of the same is the walk's own
 
 same_laid : (own other : Readings) (key : Key) (g : ℕ) (l : Laid) → ReadTheSame own other key → laid other (g, key) l ≡ laid own (g, key) l
@@ -166,22 +133,6 @@ same_lays_front own other key path a b same f = record { front = f.front; rest =
 pub same_lays_some : (own other : Readings) (key : Key) (path : List ℕ) (a b : Laid) → ReadTheSame own other key → LaysSome other (pairs_at path key) a b → LaysSome own (pairs_at path key) a b
 unfolding same_lays_front
 same_lays_some own other key path a b same f = record { part = same_lays_front own other key path a b same f.part; left = f.left }
-
--- ---- what was composed of all tiles
-
-module _ (P : Key → Type 0) (keys : List Key) (i : ℕ) where
-  pub each_next : (k : Key) → slice_get keys i ≡ Some k → ((key : Key) → list_any (same_key key) (take i keys) ≡ true → P key) → P k → (key : Key) → list_any (same_key key) (take (i + 1) keys) ≡ true → P key
-  each_next k at so_far here key h = elim (or_cases (list_any (same_key key) (take i keys)) _ (sym (list_any-append (same_key key) (take i keys) (k ∷ [])) ∙ ap (list_any (same_key key)) (sym (take_here keys i k at)) ∙ h)) [
-    | inl before ↦ so_far key before
-    | inr e ↦ subst P (sym (key_same key k (held (same_key key k) e))) here
-  ]
-    where
-      held : (a : Bool) → (a || false) ≡ true → a ≡ true
-      held true e = refl
-      held false e = cc
-
-  pub each_end : length keys ≤ i → ((key : Key) → list_any (same_key key) (take i keys) ≡ true → P key) → (key : Key) → list_any (same_key key) keys ≡ true → P key
-  each_end past so_far = subst (λ ks. (key : Key) → list_any (same_key key) ks ≡ true → P key) (take_all i keys past) so_far
 
 -- a tile that was composed was composed of all groups of the walk
 pub all_composed : (r : Readings) (c : Composition) (key : Key) → c ≡ composition r (key ∷ []) → list_all (λ g. has_pair c g key) (path_in r) ≡ true

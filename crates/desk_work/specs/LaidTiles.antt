@@ -9,15 +9,11 @@ use Rattle.machine_model.specs.Guards.{same_pair}
 use Rattle.machine_model.specs.Walks.{walk_value}
 use Rattle.walker_core.specs.Readings.{Readings}
 use Rattle.group_caches.specs.Kept.{with_picture}
+use Rattle.desk_work.specs.Filmed.{Filmed}
 
 -- the groups on one tile
 abbrev pub pairs_at : List ℕ → Key → List (ℕ × Key)
 pairs_at path key = map (λ g. (g, key)) path
-
--- the groups on these tiles, tile by tile
-abbrev pub pairs_on : List ℕ → List Key → List (ℕ × Key)
-pairs_on path [] = []
-pairs_on path (k ∷ ks) = pairs_at path k ++ pairs_on path ks
 
 -- those of the pairs that aren't published, each once
 abbrev pub lacking : List (ℕ × Key) → List (ℕ × Key) → List (ℕ × Key)
@@ -32,6 +28,10 @@ pub record Laid : Type 0 where
 -- these caches and pairs
 abbrev pub laid_as : FinMap nat_cmp Layer → List (ℕ × Key) → Laid
 laid_as caches published = record { caches = caches; published = published }
+
+-- the caches of a film, and these pairs
+abbrev pub laid_in : Filmed → List (ℕ × Key) → Laid
+laid_in filmed published = laid_as filmed.caches published
 
 -- the walk's picture of a group on a tile is laid on the group's cache, and the pair is published
 abbrev pub laid : Readings → ℕ × Key → Laid → Laid

@@ -2,3 +2,4 @@ pub mod LaidTiles
 pub mod Lacking
 pub mod OfWalk
 pub mod Filmed
+pub mod Gathering

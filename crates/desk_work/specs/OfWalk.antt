@@ -17,7 +17,3 @@ pub record IsRowOfWalk (r : Readings) (c : Composition) (key : Key) : Type 0 whe
   pub world : IsWorldKey key
   pub in_patch : list_any (same_key key) (keys_of r.patch.rect) ≡ true
   pub of : IsOfWalkAt r c key
-
--- they were on each tile that the patch meets
-abbrev pub IsOfWalk : Readings → Composition → Type 0
-IsOfWalk r c = (key : Key) → list_any (same_key key) (keys_of r.patch.rect) ≡ true → IsOfWalkAt r c key

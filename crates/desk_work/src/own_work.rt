@@ -9,11 +9,11 @@ ghost use Rattle.doc_model.specs.Lawful.{within_limits};
 ghost use Rattle.job_core.specs.Paints.{paint};
 ghost use Rattle.desk_steps.specs.Archives.{with_put};
 ghost use Rattle.walker_core.specs.Readings.{path_in};
-ghost use Rattle.desk_work.specs.LaidTiles.{Lays, LaysFront, laid_as, pairs_at};
+ghost use Rattle.desk_work.specs.LaidTiles.{Lays, LaysFront, laid_in, pairs_at};
 
 use crate::filmed::FilmedCaches;
 use crate::painting::lay;
-use crate::whole_walks::lay_groups;
+use crate::rows::lay_groups;
 use desk_parts::{Painter, Walker};
 use desk_steps::Store;
 use geom_core::{NoMemory, TileKey};
@@ -37,8 +37,14 @@ pub fn paint_own(
     requires limits { within_limits painter.old.job ≡ true }
     requires seen { painter.old.shot.rects ≡ reads painter.old.job }
     requires met { list_any (same_key key) (all_keys_of (writes painter.old.job)) ≡ true }
-    ensures store { OnOk result (store.new ≡ with_put store.old.way (paint painter.old.job painter.old.shot key []) store.old) }
-    ensures noted { OnOk result (painter.new ≡ record painter.old { published = key ∷ painter.old.published }) }
+
+    // The tile is on the layer, and its key is noted.
+    ensures store { OnOk result (store.new ≡ with_put store.old.way
+        (paint painter.old.job painter.old.shot key []) store.old) }
+    ensures noted { OnOk result (painter.new
+        ≡ record painter.old { published = key ∷ painter.old.published }) }
+
+    // Without memory nothing has changed.
     ensures same_store { OnErr result (store.new ≡ store.old) }
     ensures same_painter { OnErr result (painter.new ≡ painter.old) }
 {
@@ -58,8 +64,10 @@ pub fn compose_own(
     key: TileKey,
 ) -> Result<(), NoMemory>
     requires { IsWorldKey key }
-    ensures all { OnOk result (Lays walker.old.inputs (pairs_at (path_in walker.old.inputs) key) (laid_as filmed.old.caches walker.old.published) (laid_as filmed.new.caches walker.new.published)) }
-    ensures front { LaysFront walker.old.inputs (pairs_at (path_in walker.old.inputs) key) (laid_as filmed.old.caches walker.old.published) (laid_as filmed.new.caches walker.new.published) }
+    ensures all { OnOk result (Lays walker.old.inputs (pairs_at (path_in walker.old.inputs) key)
+        (laid_in filmed.old walker.old.published) (laid_in filmed.new walker.new.published)) }
+    ensures front { LaysFront walker.old.inputs (pairs_at (path_in walker.old.inputs) key)
+        (laid_in filmed.old walker.old.published) (laid_in filmed.new walker.new.published) }
     ensures frames { filmed.new.frames ≡ filmed.old.frames }
     ensures inputs { walker.new.inputs ≡ walker.old.inputs }
     ensures serial { walker.new.serial ≡ walker.old.serial }

@@ -15,8 +15,11 @@ use geom_core::{Rect, TileKey};
 /// A tile of the job that isn't published. None exactly where all are.
 pub fn next_tile(painter: &Painter) -> Option<TileKey>
     requires { checks painter.now.job ≡ true }
-    ensures some { IfSome result (λ key. (list_any (same_key key) (all_keys_of (writes painter.now.job)) ≡ true) × (list_any (same_key key) painter.now.published ≡ false)) }
-    ensures none { is_none result ≡ list_all (λ k. list_any (same_key k) painter.now.published) (all_keys_of (writes painter.now.job)) }
+    ensures some { IfSome result (λ key.
+        (list_any (same_key key) (all_keys_of (writes painter.now.job)) ≡ true)
+        × (list_any (same_key key) painter.now.published ≡ false)) }
+    ensures none { is_none result ≡ list_all (λ k. list_any (same_key k) painter.now.published)
+        (all_keys_of (writes painter.now.job)) }
 {
     let writes = painter.job.writes();
     for rect in writes.as_slice() {
@@ -28,10 +31,12 @@ pub fn next_tile(painter: &Painter) -> Option<TileKey>
     None
 }
 
-/// The same of one of its rectangles.
+/// A tile of one of the job's rectangles that isn't published. None exactly where all are.
 fn next_in(painter: &Painter, rect: &Rect) -> Option<TileKey>
-    ensures some { IfSome result (λ key. (list_any (same_key key) (keys_of rect.now) ≡ true) × (list_any (same_key key) painter.now.published ≡ false)) }
-    ensures none { is_none result ≡ list_all (λ k. list_any (same_key k) painter.now.published) (keys_of rect.now) }
+    ensures some { IfSome result (λ key. (list_any (same_key key) (keys_of rect.now) ≡ true)
+        × (list_any (same_key key) painter.now.published ≡ false)) }
+    ensures none { is_none result ≡ list_all (λ k. list_any (same_key k) painter.now.published)
+        (keys_of rect.now) }
 {
     for i in 0..rect.tile_count() {
         let key = rect.tile_at(i);

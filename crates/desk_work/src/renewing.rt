@@ -8,10 +8,9 @@ ghost use Rattle.machine_model.specs.State as machine;
 ghost use Rattle.desk_parts.specs.After.{moved_caches, moved_updates};
 
 use crate::filmed::FilmedCaches;
-use crate::job_ends::widen;
 use desk_steps::{Reach, Store};
 use doc_model::Canvas;
-use update_queue::Updates;
+use update_queue::{Updates, widen};
 use walker_core::all_groups;
 
 /// What is to be composed after a change that reaches so far. No memory.
@@ -43,9 +42,7 @@ pub fn renew(store: &Store, filmed: &mut FilmedCaches, updates: &mut Updates, ca
     ensures frames { filmed.new.frames ≡ filmed.old.frames }
     ensures updates { updates.new ≡ moved_updates updates.old store.now.present machine.Whole }
 {
-    let tree = store.tree();
-    let _count = tree.node_count();
-    let groups = all_groups(tree);
+    let groups = all_groups(store.tree());
     filmed.keep(groups.as_slice());
     updates.refresh(canvas.rect());
 }

@@ -4,11 +4,12 @@ ghost use Rattle.std.specs.Prelude.{◌≡◌, ◌<◌, Some, None, length, map,
 ghost use Rattle.std.specs.List.{list_any};
 ghost use Rattle.machine_model.specs.Slots.{is_painter, is_walker};
 ghost use Rattle.machine_model.specs.State.{Slot};
-ghost use Rattle.machine_model.specs.Guards.{blocks, excludes};
+ghost use Rattle.machine_model.specs.Guards.{blocks};
 ghost use Rattle.desk_parts.specs.Parts.{slot_of};
 
 use desk_parts::Work;
 use doc_model::{Job, Kind};
+use entry_queue::excludes;
 use slot_core::Slots;
 
 /// Whether a job is at work.
@@ -54,32 +55,11 @@ fn is_blocked_at(slots: &Slots<Work>, place: u8, jobs: &[(Kind, Job)], kind: Kin
 {
     match slots.work(place) {
         Some(Work::Paint(painter)) => match jobs.get(painter.index as usize) {
-            Some((beside, _)) => excludes(kind, *beside),
-            None => excludes_all(kind),
+            Some((beside, _)) => excludes(kind, Some(*beside)),
+            None => excludes(kind, None),
         },
         Some(Work::Walk(_)) => false,
         None => false,
-    }
-}
-
-/// Whether a job of the first kind may not run beside one of the second.
-fn excludes(kind: Kind, beside: Kind) -> bool
-    ensures { result ≡ excludes kind (Some beside) }
-{
-    match kind {
-        Kind::Seq | Kind::Bar => true,
-        Kind::Con => matches!(beside, Kind::Seq | Kind::Bar),
-        Kind::Uni => !matches!(beside, Kind::Con),
-    }
-}
-
-/// Whether a job of this kind may run beside none.
-fn excludes_all(kind: Kind) -> bool
-    ensures { result ≡ excludes kind None }
-{
-    match kind {
-        Kind::Seq | Kind::Bar => true,
-        Kind::Con | Kind::Uni => false,
     }
 }
 

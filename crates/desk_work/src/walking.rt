@@ -43,11 +43,16 @@ pub fn lay_composed(
 ) -> Result<(), NoMemory>
     requires pair { has_pair composed.now group key ≡ true }
     requires world { IsWorldKey key }
-    ensures caches { OnOk result (filmed.new.caches ≡ with_picture filmed.old.caches group composed.now.readings.patch.rect key (walk_value composed.now.readings.groups group)) }
+
+    // The group's cache has the walk's picture on the tile.
+    ensures caches { OnOk result (filmed.new.caches ≡ with_picture filmed.old.caches group
+        composed.now.readings.patch.rect key (walk_value composed.now.readings.groups group)) }
     ensures noted { OnOk result (published.new ≡ (group, key) ∷ published.old) }
+
+    // Without memory nothing has changed, and no frame is taken anyhow.
     ensures same_caches { OnErr result (filmed.new.caches ≡ filmed.old.caches) }
-    ensures frames { filmed.new.frames ≡ filmed.old.frames }
     ensures same_noted { OnErr result (published.new ≡ published.old) }
+    ensures frames { filmed.new.frames ≡ filmed.old.frames }
 {
     let Some(given) = composed.given(group, key) else {
         unreachable!()

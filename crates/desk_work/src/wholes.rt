@@ -3,20 +3,18 @@
 ghost use Rattle.std.specs.Prelude.{◌≡◌, ◌↔◌, All, IsTrue, true, false, is_some, Ok, OnOk, OnErr, [], ◌∷◌};
 ghost use Rattle.std.specs.List.{list_all};
 ghost use Rattle.std.specs.FinSet as set;
-ghost use Rattle.geom_core.specs.Areas.{Point};
 ghost use Rattle.geom_core.specs.Grid.{keys_of, all_keys_of};
-ghost use Rattle.tile_core.specs.Shots.{sight_at};
-ghost use Rattle.doc_model.specs.Layers.{at};
-ghost use Rattle.doc_model.specs.Shots.{in_tile};
 ghost use Rattle.doc_model.specs.Lawful.{within_limits};
 ghost use Rattle.doc_model.specs.Jobs.{checks, reads, writes};
 ghost use Rattle.job_core.specs.Paints.{layer_of, paint};
-ghost use Rattle.desk_steps.specs.Archives.{layer_under_way, with_put};
+ghost use Rattle.desk_steps.specs.Archives.{layer_now, with_put};
+ghost use Rattle.desk_steps.specs.Tiles.{IsMadeFrom};
+ghost use Rattle.desk_steps.specs.declared.exchanging.Base.TheVariants.{Known};
 ghost use Rattle.desk_work.specs.Lacking.{IsOfJob, AreLacking, IsNext, is_seen, keys_of_tiles};
 
 use crate::painting::writes_in;
 use desk_parts::{Painter, has_key};
-use desk_steps::Store;
+use desk_steps::{Base, Store};
 use geom_core::{NoMemory, Rect, TileKey};
 use std::alloc::Global;
 use std::collections::BTreeSet;
@@ -25,8 +23,10 @@ use whole_tiles::Whole;
 /// Whether each of the tiles was made of the job, and from the pixels that it was started with. No memory.
 pub fn are_of_job(painter: &Painter, tiles: &[Whole]) -> bool
     requires kept { painter.now.shot.rects ≡ reads painter.now.job }
-    ensures some { result ≡ true → All (IsOfJob painter.now.job (layer_of painter.now.shot)) tiles.now }
-    ensures none { result ≡ false → All (IsOfJob painter.now.job (layer_of painter.now.shot)) tiles.now → ⊥ }
+    ensures some { result ≡ true
+        → All (IsOfJob painter.now.job (layer_of painter.now.shot)) tiles.now }
+    ensures none { result ≡ false
+        → All (IsOfJob painter.now.job (layer_of painter.now.shot)) tiles.now → ⊥ }
 {
     for whole in tiles {
         if !is_of_job(painter, whole) {
@@ -45,8 +45,10 @@ pub fn are_lacking(alloc: Global, painter: &Painter, tiles: &[Whole]) -> Result<
     requires checked { checks painter.now.job ≡ true }
     requires limits { within_limits painter.now.job ≡ true }
     requires of { All (IsOfJob painter.now.job (layer_of painter.now.shot)) tiles.now }
-    ensures some { result ≡ Ok true → AreLacking painter.now.job (layer_of painter.now.shot) painter.now.published tiles.now }
-    ensures none { result ≡ Ok false → AreLacking painter.now.job (layer_of painter.now.shot) painter.now.published tiles.now → ⊥ }
+    ensures some { result ≡ Ok true
+        → AreLacking painter.now.job (layer_of painter.now.shot) painter.now.published tiles.now }
+    ensures none { result ≡ Ok false
+        → AreLacking painter.now.job (layer_of painter.now.shot) painter.now.published tiles.now → ⊥ }
 {
     if are_in_order(painter, tiles) {
         return Ok(true);
@@ -67,7 +69,8 @@ fn are_in_order(painter: &Painter, tiles: &[Whole]) -> bool
     requires checked { checks painter.now.job ≡ true }
     requires limits { within_limits painter.now.job ≡ true }
     requires of { All (IsOfJob painter.now.job (layer_of painter.now.shot)) tiles.now }
-    ensures { result ≡ true → AreLacking painter.now.job (layer_of painter.now.shot) painter.now.published tiles.now }
+    ensures { result ≡ true
+        → AreLacking painter.now.job (layer_of painter.now.shot) painter.now.published tiles.now }
 {
     if !painter.published.as_slice().is_empty() {
         return false;
@@ -99,8 +102,10 @@ fn are_all_of(rect: &Rect, tiles: &[Whole]) -> bool
 fn is_next(painter: &Painter, keys: &BTreeSet<TileKey>, whole: &Whole) -> bool
     requires checked { checks painter.now.job ≡ true }
     requires limits { within_limits painter.now.job ≡ true }
-    ensures some { result ≡ true → IsNext painter.now.job painter.now.published (set.from_list keys.now.keys) whole.now.key }
-    ensures none { result ≡ false → IsNext painter.now.job painter.now.published (set.from_list keys.now.keys) whole.now.key → ⊥ }
+    ensures some { result ≡ true
+        → IsNext painter.now.job painter.now.published (set.from_list keys.now.keys) whole.now.key }
+    ensures none { result ≡ false
+        → IsNext painter.now.job painter.now.published (set.from_list keys.now.keys) whole.now.key → ⊥ }
 {
     let key = whole.key();
     writes_in(&painter.job, key) && !is_there(painter, keys, key)
@@ -111,7 +116,8 @@ fn is_next(painter: &Painter, keys: &BTreeSet<TileKey>, whole: &Whole) -> bool
 fn is_of_job(painter: &Painter, whole: &Whole) -> bool
     requires kept { painter.now.shot.rects ≡ reads painter.now.job }
     ensures some { result ≡ true → IsOfJob painter.now.job (layer_of painter.now.shot) whole.now }
-    ensures none { result ≡ false → IsOfJob painter.now.job (layer_of painter.now.shot) whole.now → ⊥ }
+    ensures none { result ≡ false
+        → IsOfJob painter.now.job (layer_of painter.now.shot) whole.now → ⊥ }
 {
     let _key = whole.key();
     whole.job().same_as(&painter.job) && painter.shot.same_on(whole.base(), &[whole.needs()])
@@ -120,7 +126,8 @@ fn is_of_job(painter: &Painter, whole: &Whole) -> bool
 /// Whether each tile that the job writes is published or among the keys.
 fn has_all(painter: &Painter, keys: &BTreeSet<TileKey>) -> bool
     requires { checks painter.now.job ≡ true }
-    ensures { result ≡ list_all (is_seen painter.now.published (set.from_list keys.now.keys)) (all_keys_of (writes painter.now.job)) }
+    ensures { result ≡ list_all (is_seen painter.now.published (set.from_list keys.now.keys))
+        (all_keys_of (writes painter.now.job)) }
 {
     let writes = painter.job.writes();
     for rect in writes.as_slice() {
@@ -131,9 +138,10 @@ fn has_all(painter: &Painter, keys: &BTreeSet<TileKey>) -> bool
     true
 }
 
-/// The same of those that a rectangle meets.
+/// Whether each tile that the rectangle meets is published or among the keys.
 fn has_all_in(painter: &Painter, keys: &BTreeSet<TileKey>, rect: &Rect) -> bool
-    ensures { result ≡ list_all (is_seen painter.now.published (set.from_list keys.now.keys)) (keys_of rect.now) }
+    ensures { result ≡ list_all (is_seen painter.now.published (set.from_list keys.now.keys))
+        (keys_of rect.now) }
 {
     for i in 0..rect.tile_count() {
         if !is_there(painter, keys, rect.tile_at(i)) {
@@ -154,50 +162,29 @@ fn is_there(painter: &Painter, keys: &BTreeSet<TileKey>, key: TileKey) -> bool
 ///
 /// # Errors
 /// `NoMemory`; all is as it was.
-pub fn exchange_own(
+pub fn exchange_whole(
     alloc: Global,
     store: &mut Store,
     painter: &mut Painter,
     whole: &Whole,
+    base: Base,
 ) -> Result<(), NoMemory>
     requires begun { is_some store.old.way ≡ true }
     requires of { IsOfJob painter.old.job (layer_of painter.old.shot) whole.now }
-    ensures store { OnOk result (store.new ≡ with_put store.old.way (paint painter.old.job painter.old.shot whole.now.key []) store.old) }
-    ensures noted { OnOk result (painter.new ≡ record painter.old { published = whole.now.key ∷ painter.old.published }) }
-    ensures same_store { OnErr result (store.new ≡ store.old) }
-    ensures same_painter { OnErr result (painter.new ≡ painter.old) }
-{
-    painter.published.note(whole.key())?;
-    match store.put_whole(alloc, whole) {
-        Ok(()) => Ok(()),
-        Err(e) => {
-            painter.published.take_back();
-            Err(e)
-        }
-    }
-}
+    requires known { base ≡ Known → IsMadeFrom whole.now (layer_now store.old) }
 
-/// The same of a tile of which it is known that the layer of the stroke under way has the pixels that the
-/// tile was made from: so no pixel is compared.
-///
-/// # Errors
-/// `NoMemory`; all is as it was.
-pub fn exchange_known(
-    alloc: Global,
-    store: &mut Store,
-    painter: &mut Painter,
-    whole: &Whole,
-) -> Result<(), NoMemory>
-    requires begun { is_some store.old.way ≡ true }
-    requires of { IsOfJob painter.old.job (layer_of painter.old.shot) whole.now }
-    requires known { (p : Point) → in_tile whole.now.key p ≡ true → sight_at whole.now.base p ≡ at (layer_under_way store.old.way store.old.present) p }
-    ensures store { OnOk result (store.new ≡ with_put store.old.way (paint painter.old.job painter.old.shot whole.now.key []) store.old) }
-    ensures noted { OnOk result (painter.new ≡ record painter.old { published = whole.now.key ∷ painter.old.published }) }
+    // The tile is on the layer, and its key is noted.
+    ensures store { OnOk result (store.new ≡ with_put store.old.way
+        (paint painter.old.job painter.old.shot whole.now.key []) store.old) }
+    ensures noted { OnOk result (painter.new
+        ≡ record painter.old { published = whole.now.key ∷ painter.old.published }) }
+
+    // Without memory nothing has changed.
     ensures same_store { OnErr result (store.new ≡ store.old) }
     ensures same_painter { OnErr result (painter.new ≡ painter.old) }
 {
     painter.published.note(whole.key())?;
-    match store.put_known(alloc, whole) {
+    match store.put_whole(alloc, whole, base) {
         Ok(()) => Ok(()),
         Err(e) => {
             painter.published.take_back();

@@ -2,6 +2,7 @@
 use Rattle.std.proofs.Common.{◌≡◌, ℕ, suc, zero, ◌+◌, ◌≤◌, Bool, true, false, ◌||◌, not, cond, None, Ok, refl, sym, ap, ◌∙◌, arith, eqb, ltb, subst, inl, inr}
 use Rattle.std.specs.Prelude.{max}
 use Rattle.std.proofs.lemmas.Bool.Decides.{nat_tests}
+use Rattle.geom_core.proofs.Tests.{none_left, none_right, taken, kept, or_cases}
 use Rattle.pixel_core.specs.Rgba.{Rgba}
 use Rattle.doc_model.specs.declared.tree.Look.{Look}
 use Rattle.doc_model.specs.declared.tree.Change.{Change}
@@ -12,13 +13,7 @@ use Rattle.doc_model.proofs.Parents.{Distinct}
 use Rattle.doc_model.proofs.Weights.{IsTree, within_absent, tree_distinct}
 use Rattle.doc_model.proofs.TreeLaws.{without_none}
 use Rattle.doc_model.proofs.TreeChanges.{answered, new_may, place_may, tree_without}
-use Rattle.doc_model.proofs.Paths.{or_cases, or_false, or_false', group_has, other_than}
-
-taken : {B : Type 0} (b : Bool) (x y : B) → b ≡ true → cond b x y ≡ x
-taken b x y e = rw e refl
-
-kept : {B : Type 0} (b : Bool) (x y : B) → b ≡ false → cond b x y ≡ y
-kept b x y e = rw e refl
+use Rattle.doc_model.proofs.Paths.{group_has, other_than}
 
 height_join : {A : Type 0} (a b : Forest A) → height (join a b) ≡ max (height a) (height b)
 height_join none b = omega arith
@@ -128,35 +123,35 @@ module _ {A : Type 0} where
   has_without q c (paint id look x rest) d h = go (λ e. has_without q c rest d.1 e) (eqb q id) refl h
     where
       go : (has c (only q rest) ≡ false → has c (without q rest) ≡ has c rest) → (b : Bool) → eqb q id ≡ b → has c (cond b (paint id look x none) (only q rest)) ≡ false → has c (cond b (without q rest) (paint id look x (without q rest))) ≡ (eqb c id || has c rest)
-      go r true e h = ap (has c) (without_none q rest (same_absent q id rest e d.0)) ∙ ap (λ b. b || has c rest) (sym (or_false (eqb c id) _ h))
+      go r true e h = ap (has c) (without_none q rest (same_absent q id rest e d.0)) ∙ ap (λ b. b || has c rest) (sym (none_left (eqb c id) _ h))
       go r false e h = ap (λ b. eqb c id || b) (r h)
   has_without q c (group id look nodes rest) d h = go (λ e. has_without q c nodes d.3 e) (λ e. has_without q c rest d.4 e) (eqb q id) refl h
     where
       go : (has c (only q nodes) ≡ false → has c (without q nodes) ≡ has c nodes) → (has c (only q rest) ≡ false → has c (without q rest) ≡ has c rest) → (b : Bool) → eqb q id ≡ b → has c (cond b (group id look nodes none) (join (only q nodes) (only q rest))) ≡ false
           → has c (cond b (without q rest) (group id look (without q nodes) (without q rest))) ≡ (eqb c id || (has c nodes || has c rest))
-      go m r true e h = ap (has c) (without_none q rest (same_absent q id rest e d.1)) ∙ sym (ap (λ b. b || (has c nodes || has c rest)) (or_false (eqb c id) _ h) ∙ ap (λ b. b || has c rest) (or_false (has c nodes) _ (or_false' (eqb c id) _ h)))
+      go m r true e h = ap (has c) (without_none q rest (same_absent q id rest e d.1)) ∙ sym (ap (λ b. b || (has c nodes || has c rest)) (none_left (eqb c id) _ h) ∙ ap (λ b. b || has c rest) (none_left (has c nodes) _ (none_right (eqb c id) _ h)))
       go m r false e h =
           let f : (has c (only q nodes) || has c (only q rest)) ≡ false = sym (has_join c (only q nodes) (only q rest)) ∙ h in
-          ap (λ b. eqb c id || (b || has c (without q rest))) (m (or_false (has c (only q nodes)) _ f)) ∙ ap (λ b. eqb c id || (has c nodes || b)) (r (or_false' (has c (only q nodes)) _ f))
+          ap (λ b. eqb c id || (b || has c (without q rest))) (m (none_left (has c (only q nodes)) _ f)) ∙ ap (λ b. eqb c id || (has c nodes || b)) (r (none_right (has c (only q nodes)) _ f))
 
   pub depth_without : (q c : ℕ) (f : Forest A) → Distinct f → has c (only q f) ≡ false → depth c (without q f) ≡ depth c f
   depth_without q c none d h = refl
   depth_without q c (paint id look x rest) d h = go (λ e. depth_without q c rest d.1 e) (eqb q id) refl h
     where
       go : (has c (only q rest) ≡ false → depth c (without q rest) ≡ depth c rest) → (b : Bool) → eqb q id ≡ b → has c (cond b (paint id look x none) (only q rest)) ≡ false → depth c (cond b (without q rest) (paint id look x (without q rest))) ≡ cond (eqb c id) 1 (depth c rest)
-      go r true e h = ap (depth c) (without_none q rest (same_absent q id rest e d.0)) ∙ sym (kept (eqb c id) 1 (depth c rest) (or_false (eqb c id) _ h))
+      go r true e h = ap (depth c) (without_none q rest (same_absent q id rest e d.0)) ∙ sym (kept (eqb c id) 1 (depth c rest) (none_left (eqb c id) _ h))
       go r false e h = ap (cond (eqb c id) 1) (r h)
   depth_without q c (group id look nodes rest) d h = go (λ e. depth_without q c nodes d.3 e) (λ e. depth_without q c rest d.4 e) (λ e. has_without q c nodes d.3 e) (eqb q id) refl h
     where
       go : (has c (only q nodes) ≡ false → depth c (without q nodes) ≡ depth c nodes) → (has c (only q rest) ≡ false → depth c (without q rest) ≡ depth c rest) → (has c (only q nodes) ≡ false → has c (without q nodes) ≡ has c nodes) → (b : Bool) → eqb q id ≡ b
           → has c (cond b (group id look nodes none) (join (only q nodes) (only q rest))) ≡ false
           → depth c (cond b (without q rest) (group id look (without q nodes) (without q rest))) ≡ cond (eqb c id) 1 (cond (has c nodes) (suc (depth c nodes)) (depth c rest))
-      go m r s true e h = ap (depth c) (without_none q rest (same_absent q id rest e d.1)) ∙ sym (kept (eqb c id) 1 _ (or_false (eqb c id) _ h) ∙ kept (has c nodes) _ _ (or_false (has c nodes) _ (or_false' (eqb c id) _ h)))
+      go m r s true e h = ap (depth c) (without_none q rest (same_absent q id rest e d.1)) ∙ sym (kept (eqb c id) 1 _ (none_left (eqb c id) _ h) ∙ kept (has c nodes) _ _ (none_left (has c nodes) _ (none_right (eqb c id) _ h)))
       go m r s false e h =
           let f : (has c (only q nodes) || has c (only q rest)) ≡ false = sym (has_join c (only q nodes) (only q rest)) ∙ h in
-          let a : (has c (without q nodes)) ≡ has c nodes = s (or_false (has c (only q nodes)) _ f) in
-          let b : depth c (without q nodes) ≡ depth c nodes = m (or_false (has c (only q nodes)) _ f) in
-          let g : depth c (without q rest) ≡ depth c rest = r (or_false' (has c (only q nodes)) _ f) in
+          let a : (has c (without q nodes)) ≡ has c nodes = s (none_left (has c (only q nodes)) _ f) in
+          let b : depth c (without q nodes) ≡ depth c nodes = m (none_left (has c (only q nodes)) _ f) in
+          let g : depth c (without q rest) ≡ depth c rest = r (none_right (has c (only q nodes)) _ f) in
           rw (a, b, g) refl
 
   pub group_without : (q c : ℕ) (f : Forest A) → Distinct f → has c (only q f) ≡ false → is_group c (without q f) ≡ is_group c f
@@ -177,10 +172,10 @@ module _ {A : Type 0} where
 
       go : (has c (only q nodes) ≡ false → is_group c (without q nodes) ≡ is_group c nodes) → (has c (only q rest) ≡ false → is_group c (without q rest) ≡ is_group c rest) → (b : Bool) → eqb q id ≡ b → has c (cond b (group id look nodes none) (join (only q nodes) (only q rest))) ≡ false
           → is_group c (cond b (without q rest) (group id look (without q nodes) (without q rest))) ≡ (eqb c id || (is_group c nodes || is_group c rest))
-      go m r true e h = ap (is_group c) (without_none q rest (same_absent q id rest e d.1)) ∙ sym (ap (λ b. b || (is_group c nodes || is_group c rest)) (or_false (eqb c id) _ h) ∙ ap (λ b. b || is_group c rest) (no_group (or_false (has c nodes) _ (or_false' (eqb c id) _ h))))
+      go m r true e h = ap (is_group c) (without_none q rest (same_absent q id rest e d.1)) ∙ sym (ap (λ b. b || (is_group c nodes || is_group c rest)) (none_left (eqb c id) _ h) ∙ ap (λ b. b || is_group c rest) (no_group (none_left (has c nodes) _ (none_right (eqb c id) _ h))))
       go m r false e h =
           let f : (has c (only q nodes) || has c (only q rest)) ≡ false = sym (has_join c (only q nodes) (only q rest)) ∙ h in
-          ap (λ b. eqb c id || (b || is_group c (without q rest))) (m (or_false (has c (only q nodes)) _ f)) ∙ ap (λ b. eqb c id || (is_group c nodes || b)) (r (or_false' (has c (only q nodes)) _ f))
+          ap (λ b. eqb c id || (b || is_group c (without q rest))) (m (none_left (has c (only q nodes)) _ f)) ∙ ap (λ b. eqb c id || (is_group c nodes || b)) (r (none_right (has c (only q nodes)) _ f))
 
 not_not : (b : Bool) → not b ≡ false → b ≡ true
 not_not true e = refl

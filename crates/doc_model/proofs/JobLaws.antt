@@ -10,7 +10,7 @@ use Rattle.geom_core.specs.Areas.{Area, holds, moved, points_of, Point, point}
 use Rattle.geom_core.specs.Same.{same_point}
 use Rattle.geom_core.specs.Rects.{any_holds}
 use Rattle.geom_core.proofs.Members.{any-points_of}
-use Rattle.geom_core.proofs.Tests.{and_left, and_right, both_true, or_left, or_right}
+use Rattle.geom_core.proofs.Tests.{and_left, and_right, both_true, or_left, or_right, and-true}
 use Rattle.doc_model.specs.declared.job.Job.{Job}
 use Rattle.doc_model.specs.declared.job.Job.TheVariants.{Fill, Dab, Move, Blur, Track}
 use Rattle.doc_model.specs.Trails.{centres}
@@ -18,10 +18,6 @@ use Rattle.doc_model.specs.Layers.{Layer, at}
 use Rattle.doc_model.proofs.LayerLaws.{at-painted, default-painted}
 use Rattle.doc_model.specs.Jobs.{reads, writes, value, apply, grown, square, mean, all_stamped}
 use Rattle.doc_model.specs.Laws.{SameOn, LawsOfJobs}
-
-and-true : (b : Bool) → (b && true) ≡ b
-and-true true = refl
-and-true false = refl
 
 -- what the job leaves at each point
 pub at-apply : (job : Job) (layer : Layer) (p : Point) → at (apply job layer) p ≡ cond (any_holds (writes job) p) (value job layer p) (at layer p)

@@ -3,6 +3,8 @@ use Rattle.std.proofs.Common.{◌≡◌, ℕ, Bool, true, false, ◌||◌, cond,
 use Rattle.std.specs.List.{list_any}
 use Rattle.std.proofs.lemmas.Bool.Decides.{nat_tests}
 use Rattle.std.proofs.lemmas.List.Folds.{list_any-append}
+pub use Rattle.geom_core.proofs.Tests.{or_cases}
+use Rattle.geom_core.proofs.Tests.{none_left, none_right, taken, kept, or_left, or_right, neither}
 use Rattle.doc_model.specs.declared.tree.Look.{Look}
 use Rattle.doc_model.specs.Forest.{Forest, none, paint, group, has, is_group, join, children, content, with_content, or_else}
 use Rattle.doc_model.specs.Readers.{parent, path, order}
@@ -11,37 +13,6 @@ use Rattle.doc_model.proofs.Parents.{Distinct, side, side_has, child_has}
 -- whether an id stands in a list
 abbrev pub on : ℕ → List ℕ → Bool
 on g gs = list_any (λ q. eqb q g) gs
-
-pub true_or_false : (b : Bool) → (b ≡ true) ⊎ (b ≡ false)
-true_or_false true = inl refl
-true_or_false false = inr refl
-
-pub or_cases : (a b : Bool) → (a || b) ≡ true → (a ≡ true) ⊎ (b ≡ true)
-or_cases true b e = inl refl
-or_cases false b e = inr e
-
-pub or_left : (a b : Bool) → a ≡ true → (a || b) ≡ true
-or_left a b e = rw e refl
-
-pub or_right : (a b : Bool) → b ≡ true → (a || b) ≡ true
-or_right true b e = refl
-or_right false b e = e
-
-pub or_false : (a b : Bool) → (a || b) ≡ false → a ≡ false
-or_false a b h = grind arith
-
-pub or_false' : (a b : Bool) → (a || b) ≡ false → b ≡ false
-or_false' true b h = cc
-or_false' false b h = h
-
-pub both_false : (a b : Bool) → a ≡ false → b ≡ false → (a || b) ≡ false
-both_false a b h k = rw (h, k) refl
-
-kept : {B : Type 0} (b : Bool) (x y : B) → b ≡ false → cond b x y ≡ y
-kept b x y e = rw e refl
-
-taken : {B : Type 0} (b : Bool) (x y : B) → b ≡ true → cond b x y ≡ x
-taken b x y e = rw e refl
 
 equal_test : (d : ℕ) → eqb d d ≡ true
 equal_test d = grind (arith, nat_tests)
@@ -98,10 +69,10 @@ join_none (group id look nodes rest) = ap (group id look nodes) (join_none rest)
 
 pub children_absent : {A : Type 0} (q : ℕ) (f : Forest A) → has q f ≡ false → children q f ≡ none
 children_absent q none e = refl
-children_absent q (paint id look x rest) e = children_absent q rest (or_false' (eqb q id) _ e)
-children_absent q (group id look nodes rest) e = kept (eqb q id) _ _ (or_false (eqb q id) _ e)
-    ∙ ap (λ a. join a (children q rest)) (children_absent q nodes (or_false (has q nodes) _ (or_false' (eqb q id) _ e)))
-    ∙ children_absent q rest (or_false' (has q nodes) _ (or_false' (eqb q id) _ e))
+children_absent q (paint id look x rest) e = children_absent q rest (none_right (eqb q id) _ e)
+children_absent q (group id look nodes rest) e = kept (eqb q id) _ _ (none_left (eqb q id) _ e)
+    ∙ ap (λ a. join a (children q rest)) (children_absent q nodes (none_left (has q nodes) _ (none_right (eqb q id) _ e)))
+    ∙ children_absent q rest (none_right (has q nodes) _ (none_right (eqb q id) _ e))
 
 -- what has a child is a group
 pub child_group : {A : Type 0} (g c : ℕ) (f : Forest A) → side c (children g f) ≡ true → is_group g f ≡ true
@@ -217,7 +188,7 @@ module _ {A : Type 0} where
   head_orderly kids id nodes gs is out first clear rest = (first, (λ c h. below c (ap (side c) (sym is) ∙ h)), rest)
     where
       below : (c : ℕ) → side c nodes ≡ true → (eqb id c || on c gs) ≡ false
-      below c h = both_false (eqb id c) _ (turned id c ∙ other_than c id nodes out (side_has c nodes h)) (clear c (side_has c nodes h))
+      below c h = neither (eqb id c) _ (turned id c ∙ other_than c id nodes out (side_has c nodes h)) (clear c (side_has c nodes h))
 
   pub order_orderly : (kids : ℕ → Forest A) (f : Forest A) (gs : List ℕ) → Distinct f → KidsIn kids f → ((c : ℕ) → has c f ≡ true → on c gs ≡ false) → Orderly kids gs → Orderly kids (order f ++ gs)
   order_orderly kids none gs d k clear o = o
@@ -225,13 +196,13 @@ module _ {A : Type 0} where
   order_orderly kids (group id look nodes rest) gs d k clear o =
       subst (Orderly kids) (sym (append_assoc (order nodes) (id ∷ order rest) gs))
       (order_orderly kids nodes (id ∷ (order rest ++ gs)) d.3 (kids_nodes kids id look nodes rest d k)
-      (λ c h. both_false (eqb id c) _ (turned id c ∙ other_than c id nodes d.0 h) (after c (d.2 c h) (clear c (or_right (eqb c id) _ (or_left (has c nodes) _ h)))))
+      (λ c h. neither (eqb id c) _ (turned id c ∙ other_than c id nodes d.0 h) (after c (d.2 c h) (clear c (or_right (eqb c id) _ (or_left (has c nodes) _ h)))))
       (head_orderly kids id nodes (order rest ++ gs) (kids_here kids id look nodes rest k) d.0 (after id d.1 (clear id (or_left (eqb id id) _ (equal_test id))))
       (λ c h. after c (d.2 c h) (clear c (or_right (eqb c id) _ (or_left (has c nodes) _ h))))
       (order_orderly kids rest gs d.4 (kids_other kids id look nodes rest d k) (λ c h. clear c (or_right (eqb c id) _ (or_right (has c nodes) _ h))) o)))
     where
       after : (c : ℕ) → has c rest ≡ false → on c gs ≡ false → on c (order rest ++ gs) ≡ false
-      after c out h = on_append c (order rest) gs ∙ both_false _ _ (on_order c rest ∙ absent_group c rest out) h
+      after c out h = on_append c (order rest) gs ∙ neither _ _ (on_order c rest ∙ absent_group c rest out) h
 
   pub path_orderly : (kids : ℕ → Forest A) (q : ℕ) (f : Forest A) (gs : List ℕ) → Distinct f → KidsIn kids f → ((c : ℕ) → has c f ≡ true → on c gs ≡ false) → Orderly kids gs → Orderly kids (path q f ++ gs)
   path_orderly kids q none gs d k clear o = o
@@ -245,7 +216,7 @@ module _ {A : Type 0} where
       go r false = r
   path_orderly kids q (group id look nodes rest) gs d k clear o =
       go (path_orderly kids q nodes (id ∷ gs) d.3 (kids_nodes kids id look nodes rest d k)
-      (λ c h. both_false (eqb id c) _ (turned id c ∙ other_than c id nodes d.0 h) (clear c (or_right (eqb c id) _ (or_left (has c nodes) _ h)))) here)
+      (λ c h. neither (eqb id c) _ (turned id c ∙ other_than c id nodes d.0 h) (clear c (or_right (eqb c id) _ (or_left (has c nodes) _ h)))) here)
       (path_orderly kids q rest gs d.4 (kids_other kids id look nodes rest d k) (λ c h. clear c (or_right (eqb c id) _ (or_right (has c nodes) _ h))) o) (eqb q id) (has q nodes)
     where
       here : Orderly kids (id ∷ gs)
@@ -328,8 +299,8 @@ module _ {A : Type 0} where
 
   content_absent : (q : ℕ) (f : Forest A) → has q f ≡ false → (x : A) → with_content q x f ≡ f
   content_absent q none h x = refl
-  content_absent q (paint id look y rest) h x = ap (λ z. paint id look z (with_content q x rest)) (kept (eqb q id) x y (or_false (eqb q id) _ h)) ∙ ap (paint id look y) (content_absent q rest (or_false' (eqb q id) _ h) x)
-  content_absent q (group id look nodes rest) h x = same_group id look (content_absent q nodes (or_false (has q nodes) _ (or_false' (eqb q id) _ h)) x) (content_absent q rest (or_false' (has q nodes) _ (or_false' (eqb q id) _ h)) x)
+  content_absent q (paint id look y rest) h x = ap (λ z. paint id look z (with_content q x rest)) (kept (eqb q id) x y (none_left (eqb q id) _ h)) ∙ ap (paint id look y) (content_absent q rest (none_right (eqb q id) _ h) x)
+  content_absent q (group id look nodes rest) h x = same_group id look (content_absent q nodes (none_left (has q nodes) _ (none_right (eqb q id) _ h)) x) (content_absent q rest (none_right (has q nodes) _ (none_right (eqb q id) _ h)) x)
 
   -- to set the content that is there changes nothing
   pub content_put_back : (q : ℕ) (x : A) (f : Forest A) → Distinct f → content q f ≡ Some x → with_content q x f ≡ f
@@ -418,7 +389,7 @@ module _ {A : Type 0} where
   paint_side_no_group q (paint id look x rest) d e = elim (or_cases (eqb q id) _ e) [ inl h ↦ absent_group q rest (same_id q id rest h d.0) | inr h ↦ paint_side_no_group q rest d.1 h ]
   paint_side_no_group q (group id look nodes rest) d e =
       let there : has q rest ≡ true = side_has q rest (side_paint_side q rest e) in
-      both_false (eqb q id) _ (other_than q id rest d.1 there) (both_false (is_group q nodes) _ (absent_group q nodes (not_both q nodes rest d.2 there)) (paint_side_no_group q rest d.4 e))
+      neither (eqb q id) _ (other_than q id rest d.1 there) (neither (is_group q nodes) _ (absent_group q nodes (not_both q nodes rest d.2 there)) (paint_side_no_group q rest d.4 e))
 
   -- a paint node in a group is no group
   pub paint_child_no_group : (g q : ℕ) (f : Forest A) → Distinct f → side_paint q (children g f) ≡ true → is_group q f ≡ false
@@ -427,10 +398,10 @@ module _ {A : Type 0} where
   paint_child_no_group g q (group id look nodes rest) d e = go (λ h. paint_child_no_group g q nodes d.3 h) (λ h. paint_child_no_group g q rest d.4 h) (eqb g id) e
     where
       inside : has q nodes ≡ true → is_group q nodes ≡ false → (eqb q id || (is_group q nodes || is_group q rest)) ≡ false
-      inside there out = both_false (eqb q id) _ (other_than q id nodes d.0 there) (both_false (is_group q nodes) _ out (absent_group q rest (d.2 q there)))
+      inside there out = neither (eqb q id) _ (other_than q id nodes d.0 there) (neither (is_group q nodes) _ out (absent_group q rest (d.2 q there)))
 
       outside : has q rest ≡ true → is_group q rest ≡ false → (eqb q id || (is_group q nodes || is_group q rest)) ≡ false
-      outside there out = both_false (eqb q id) _ (other_than q id rest d.1 there) (both_false (is_group q nodes) _ (absent_group q nodes (not_both q nodes rest d.2 there)) out)
+      outside there out = neither (eqb q id) _ (other_than q id rest d.1 there) (neither (is_group q nodes) _ (absent_group q nodes (not_both q nodes rest d.2 there)) out)
 
       go : (side_paint q (children g nodes) ≡ true → is_group q nodes ≡ false) → (side_paint q (children g rest) ≡ true → is_group q rest ≡ false) → (b : Bool) → side_paint q (cond b nodes (join (children g nodes) (children g rest))) ≡ true
           → (eqb q id || (is_group q nodes || is_group q rest)) ≡ false

@@ -13,8 +13,7 @@ use Rattle.doc_model.specs.Updates.{queued, queued_part, refreshed, refreshed_pa
 use Rattle.doc_model.proofs.Conflicts.{meets_at}
 use Rattle.doc_model.proofs.Patches.{merged_place}
 use Rattle.doc_model.proofs.QueueLaws.{common_holds, in_grid, parts_hold, queued_for, queued_keeps, merge_all_keeps, bound_all_first, map_patch, place_takes}
-use Rattle.geom_core.proofs.Tests.{and_left, and_right, both_true}
-use Rattle.doc_model.proofs.Paths.{or_cases, or_left, or_right}
+use Rattle.geom_core.proofs.Tests.{and_left, and_right, both_true, or_cases, or_left, or_right}
 
 -- a part that has a place has one after a merge
 has_place_stays : (walk : Walk) (other part : Area) (patches : List Patch) → has_place walk part patches ≡ true → has_place walk part (map (merged walk other) patches) ≡ true

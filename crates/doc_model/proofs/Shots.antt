@@ -1,19 +1,15 @@
 -- What a shot shows, and what a published tile leaves. Of jobs only their laws are used.
-use Rattle.std.proofs.Common.{◌≡◌, Bool, true, false, ◌&&◌, cond, List, refl, ◌∙◌}
+use Rattle.std.proofs.Common.{◌≡◌, true, ◌&&◌, cond, List, ◌∙◌}
 use Rattle.geom_core.specs.Areas.{Area, Point}
 use Rattle.geom_core.specs.Rects.{any_holds}
 use Rattle.geom_core.specs.Grid.{Key}
-use Rattle.geom_core.proofs.Tests.{taken}
+use Rattle.geom_core.proofs.Tests.{taken, and-true}
 use Rattle.doc_model.specs.declared.job.Job.{Job}
 use Rattle.doc_model.specs.Layers.{Layer, at, plain}
 use Rattle.doc_model.proofs.LayerLaws.{at-plain, default-plain, at-painted, default-painted}
 use Rattle.doc_model.specs.Jobs.{writes, apply}
 use Rattle.doc_model.specs.Shots.{shot_of, published, in_tile}
 use Rattle.doc_model.specs.Laws.{SameOn}
-
-and-true : (b : Bool) → (b && true) ≡ b
-and-true true = refl
-and-true false = refl
 
 pub at-shot_of : (rects : List Area) (layer : Layer) (p : Point) → at (shot_of rects layer) p ≡ cond (any_holds rects p) (at layer p) layer.default_pixel
 unfolding shot_of

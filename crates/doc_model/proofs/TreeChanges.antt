@@ -1,6 +1,7 @@
 -- Documents that changes reach have each id once at most, and never 0, and at most 256 nodes.
 use Rattle.std.proofs.Common.{◌≡◌, ◌≢◌, ℕ, ◌+◌, ◌≤◌, Bool, true, false, ◌||◌, not, cond, Option, Some, None, Result, Ok, Err, List, [], ◌∷◌, refl, ap, ◌∙◌, arith, eqb, ltb, subst}
 use Rattle.std.proofs.lemmas.Bool.Decides.{nat_tests}
+use Rattle.geom_core.proofs.Tests.{none_left, none_right}
 use Rattle.doc_model.specs.declared.tree.Look.{Look}
 use Rattle.doc_model.specs.declared.canvas.Canvas.{Canvas}
 use Rattle.doc_model.specs.declared.tree.Change.{Change}
@@ -57,13 +58,6 @@ pub place_may : {A : Type 0} (id above place : ℕ) (f : Forest A) → no_place 
     → ((not (has id f) || (eqb id 0)) ≡ false) × (not (there above f) ≡ false) × (not (takes above f) ≡ false) × (has above (only id f) ≡ false) × (ltb 16 (depth above f + height (only id f)) ≡ false) × (ltb (child_count above (without id f)) place ≡ false)
 place_may id above place f e = no_faults (not (has id f) || (eqb id 0)) (not (there above f)) (not (takes above f)) (has above (only id f)) (ltb 16 (depth above f + height (only id f))) (ltb (child_count above (without id f)) place) (NoNode id) (NoNode above) (NotGroup above) (IntoItself id) (TooDeep 16) (BadPlace place) e
 
-or_false : (a b : Bool) → (a || b) ≡ false → a ≡ false
-or_false a b h = grind arith
-
-or_false' : (a b : Bool) → (a || b) ≡ false → b ≡ false
-or_false' true b h = cc
-or_false' false b h = h
-
 either_le : (b : Bool) (w : ℕ → ℕ) {A : Type 0} (x y : Forest A) (n : ℕ) → weight w x ≤ n → weight w y ≤ n → weight w (cond b x y) ≤ n
 either_le true w x y n h k = h
 either_le false w x y n h k = k
@@ -83,11 +77,11 @@ tree_new : {A : Type 0} (g place id : ℕ) (nodes f : Forest A) → ((w : ℕ �
 tree_new g place id nodes f one t free = record {
   root = (let h : times 0 (set_in g place nodes f) ≤ times 0 nodes + times 0 f = weight_set_in (mark 0) g place nodes f (t.once g) in
       let m : times 0 nodes ≡ mark 0 id = one (mark 0) in
-      let z : mark 0 id ≡ 0 = not_zero id (eqb id 0) refl (or_false (eqb id 0) _ free) in
+      let z : mark 0 id ≡ 0 = not_zero id (eqb id 0) refl (none_left (eqb id 0) _ free) in
       omega (arith, t.root));
   once = λ q. (let h : times q (set_in g place nodes f) ≤ times q nodes + times q f = weight_set_in (mark q) g place nodes f (t.once g) in
       let m : times q nodes ≡ mark q id = one (mark q) in
-      let l : mark q id + times q f ≤ 1 = new_once q id (times q f) (eqb q id) refl (λ e. ap (λ n. times n f) e ∙ none_there id f (or_false' (eqb id 0) _ free)) (t.once q) in
+      let l : mark q id + times q f ≤ 1 = new_once q id (times q f) (eqb q id) refl (λ e. ap (λ n. times n f) e ∙ none_there id f (none_right (eqb id 0) _ free)) (t.once q) in
       omega arith);
 }
   where

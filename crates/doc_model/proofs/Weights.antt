@@ -1,6 +1,7 @@
 -- Sums over the nodes of a forest: how often an id stands there, and how many nodes there are.
-use Rattle.std.proofs.Common.{◌≡◌, ℕ, suc, zero, ◌+◌, ◌≤◌, Bool, true, false, ◌||◌, cond, refl, ap, ◌∙◌, arith, eqb}
+use Rattle.std.proofs.Common.{◌≡◌, ℕ, suc, zero, ◌+◌, ◌≤◌, Bool, true, false, cond, refl, ap, ◌∙◌, arith, eqb}
 use Rattle.std.proofs.lemmas.Bool.Decides.{nat_tests}
+use Rattle.geom_core.proofs.Tests.{none_left, none_right, taken, kept, neither}
 use Rattle.doc_model.specs.declared.tree.Look.{Look}
 use Rattle.doc_model.specs.Forest.{Forest, none, paint, group, count, has, join, lower, upper, inserted, within, without, only, with_look, with_content}
 use Rattle.doc_model.proofs.Parents.{Distinct}
@@ -24,22 +25,6 @@ weight_inserted w n nodes f =
     let c : weight w (lower n f) + weight w (upper n f) ≡ weight w f = weight_split w n f in
     omega arith
 
-or_false : (a b : Bool) → (a || b) ≡ false → a ≡ false
-or_false a b h = grind arith
-
-or_false' : (a b : Bool) → (a || b) ≡ false → b ≡ false
-or_false' true b h = cc
-or_false' false b h = h
-
-both_false : (a b : Bool) → a ≡ false → b ≡ false → (a || b) ≡ false
-both_false a b h k = rw (h, k) refl
-
-kept : {B : Type 0} (b : Bool) (x y : B) → b ≡ false → cond b x y ≡ y
-kept b x y e = rw e refl
-
-taken : {B : Type 0} (b : Bool) (x y : B) → b ≡ true → cond b x y ≡ x
-taken b x y e = rw e refl
-
 same_group : {A : Type 0} (id : ℕ) (look : Look) {a a' b b' : Forest A} → a ≡ a' → b ≡ b' → group id look a b ≡ group id look a' b'
 same_group id look e h i = group id look (e i) (h i)
 
@@ -50,18 +35,18 @@ mark_none false n e = (refl, omega arith)
 -- an id that doesn't stand there
 pub absent : {A : Type 0} (q : ℕ) (f : Forest A) → times q f ≡ 0 → has q f ≡ false
 absent q none e = refl
-absent q (paint id look x rest) e = let h : (eqb q id ≡ false) × (times q rest ≡ 0) = mark_none (eqb q id) (times q rest) e in both_false _ _ h.0 (absent q rest h.1)
+absent q (paint id look x rest) e = let h : (eqb q id ≡ false) × (times q rest ≡ 0) = mark_none (eqb q id) (times q rest) e in neither _ _ h.0 (absent q rest h.1)
 absent q (group id look nodes rest) e =
     let h : (eqb q id ≡ false) × (times q nodes + times q rest ≡ 0) = mark_none (eqb q id) (times q nodes + times q rest) e in
-    both_false _ _ h.0 (both_false _ _ (absent q nodes (omega (arith, h.1))) (absent q rest (omega (arith, h.1))))
+    neither _ _ h.0 (neither _ _ (absent q nodes (omega (arith, h.1))) (absent q rest (omega (arith, h.1))))
 
 pub none_there : {A : Type 0} (q : ℕ) (f : Forest A) → has q f ≡ false → times q f ≡ 0
 none_there q none e = refl
-none_there q (paint id look x rest) e = let h : times q rest ≡ 0 = none_there q rest (or_false' _ _ e) in let k : mark q id ≡ 0 = kept (eqb q id) 1 0 (or_false _ _ e) in omega arith
+none_there q (paint id look x rest) e = let h : times q rest ≡ 0 = none_there q rest (none_right _ _ e) in let k : mark q id ≡ 0 = kept (eqb q id) 1 0 (none_left _ _ e) in omega arith
 none_there q (group id look nodes rest) e =
-    let h : times q nodes ≡ 0 = none_there q nodes (or_false _ _ (or_false' _ _ e)) in
-    let i : times q rest ≡ 0 = none_there q rest (or_false' _ _ (or_false' _ _ e)) in
-    let k : mark q id ≡ 0 = kept (eqb q id) 1 0 (or_false _ _ e) in omega arith
+    let h : times q nodes ≡ 0 = none_there q nodes (none_left _ _ (none_right _ _ e)) in
+    let i : times q rest ≡ 0 = none_there q rest (none_right _ _ (none_right _ _ e)) in
+    let k : mark q id ≡ 0 = kept (eqb q id) 1 0 (none_left _ _ e) in omega arith
 
 pub there_times : {A : Type 0} (q : ℕ) (f : Forest A) → has q f ≡ true → 1 ≤ times q f
 there_times q f h = go (times q f) refl
@@ -73,9 +58,9 @@ there_times q f h = go (times q f) refl
 -- a change of a group that isn't there
 pub within_absent : {A : Type 0} (g : ℕ) (change : Forest A → Forest A) (f : Forest A) → has g f ≡ false → within g change f ≡ f
 within_absent g change none h = refl
-within_absent g change (paint id look x rest) h = ap (paint id look x) (within_absent g change rest (or_false' _ _ h))
+within_absent g change (paint id look x rest) h = ap (paint id look x) (within_absent g change rest (none_right _ _ h))
 within_absent g change (group id look nodes rest) h =
-    same_group id look (kept (eqb g id) _ _ (or_false _ _ h) ∙ within_absent g change nodes (or_false _ _ (or_false' _ _ h))) (within_absent g change rest (or_false' _ _ (or_false' _ _ h)))
+    same_group id look (kept (eqb g id) _ _ (none_left _ _ h) ∙ within_absent g change nodes (none_left _ _ (none_right _ _ h))) (within_absent g change rest (none_right _ _ (none_right _ _ h)))
 
 only_one : (a b c : ℕ) → a ≡ 1 → a + (b + c) ≤ 1 → c ≡ 0
 only_one a b c e h = omega arith

@@ -6,6 +6,9 @@ ghost use Rattle.doc_model.specs.Meaning.{refused};
 use crate::job::{Job, Kind};
 use crate::tree::{Change, TreeFault};
 
+/// How many commands a desk takes at most.
+pub const MOST_COMMANDS: usize = 4_294_967_295;
+
 /// What is asked of a document, one thing at a time.
 #[derive(Clone, Copy, Debug, PartialEq, Eq)]
 pub enum Command {

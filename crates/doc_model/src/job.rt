@@ -9,14 +9,8 @@ ghost use Rattle.doc_model.specs.Lawful.{of_limits, within_limits};
 
 use crate::track::{Track, track_len};
 use arrayvec::ArrayVec;
-use geom_core::{OutOfWorld, Rect, TileKey};
+use geom_core::{CORNER, OutOfWorld, Rect, TileKey, WORLD_SIDE};
 use pixel_core::{Op, Pixel};
-
-/// How far the world's corner lies to the left of 0 and above it.
-const CORNER: i32 = 16384;
-
-/// How many columns and rows the world has.
-const WORLD: u32 = 32768;
 
 /// How many columns and rows of tiles it has on each side of (0, 0).
 const FAR_KEY: i16 = 256;
@@ -221,7 +215,7 @@ fn grown_by(rect: &Rect, r: u8) -> Result<Rect, OutOfWorld>
 {
     let w = rect.w() + 2 * u32::from(r);
     let h = rect.h() + 2 * u32::from(r);
-    if w > WORLD || h > WORLD {
+    if w > WORLD_SIDE || h > WORLD_SIDE {
         return Err(OutOfWorld);
     }
     Rect::new(rewound(rect.x(), r), rewound(rect.y(), r), w, h)

@@ -9,7 +9,7 @@ mod track;
 mod tree;
 
 pub use canvas::{Canvas, Patch, Walk};
-pub use command::{Command, Outcome};
+pub use command::{Command, MOST_COMMANDS, Outcome};
 pub use job::{Job, Kind, square_round};
 pub use laws::{
     changes_keep_limits, conflicts_both_ways, dabs_stand_before, job_laws, jobs_commute,

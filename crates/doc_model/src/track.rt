@@ -127,7 +127,8 @@ impl Segment {
     /// The point that lies n steps from its start.
     pub fn point(&self, n: u32) -> (i32, i32)
         requires { n < distance (point_of self.now.from) (point_of self.now.to) }
-        ensures { point result.0 result.1 ≡ along (point_of self.now.from) (point_of self.now.to) n }
+        ensures { point result.0 result.1
+            ≡ along (point_of self.now.from) (point_of self.now.to) n }
     {
         let steps = self.steps();
         (

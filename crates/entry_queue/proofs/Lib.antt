@@ -1,3 +1,4 @@
 pub mod Indexed
 pub mod Standing
 pub mod Taking
+pub mod Heads

@@ -1,2 +1,3 @@
-pub mod Pushed
 pub mod Keys
+pub mod Pushed
+pub mod Heads

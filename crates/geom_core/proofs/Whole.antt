@@ -10,7 +10,7 @@ use Rattle.geom_core.specs.Rects.{any_holds}
 use Rattle.geom_core.specs.Grid.{cell, floor_by, how_many, pieces}
 use Rattle.geom_core.specs.Cells.{cell_keys_of, cells_of}
 use Rattle.geom_core.specs.Laws.{CellsAreMet}
-use Rattle.geom_core.proofs.Tests.{and_left, and_right, both_true}
+use Rattle.geom_core.proofs.Tests.{and_left, and_right, both_true, and-false, and_or}
 use Rattle.geom_core.proofs.Common.{shared_common, crossed}
 use Rattle.geom_core.proofs.Cells.{any_in_rows, any_pieces, list_any-map}
 use Rattle.geom_core.proofs.Axes.{InPiece, in_cell, cell_met, cells_rise}
@@ -24,17 +24,9 @@ common_points : (a b : Area) (p : Point) → holds (common a b) p ≡ (holds a p
 common_points a b p = same_both (common_along a.x b.x p.x a.w b.w) (common_along a.y b.y p.y a.h b.h)
     ∙ crossed (int_le a.x p.x && int_lt p.x (right a)) (int_le b.x p.x && int_lt p.x (right b)) (int_le a.y p.y && int_lt p.y (bottom a)) (int_le b.y p.y && int_lt p.y (bottom b))
 
-and_false : (b : Bool) → (b && false) ≡ false
-and_false true = refl
-and_false false = refl
-
-and_any : (b c d : Bool) → ((b && c) || (b && d)) ≡ (b && (c || d))
-and_any true c d = refl
-and_any false c d = refl
-
 any_both : {X : Type 0} (b : Bool) (t : X → Bool) (xs : List X) → list_any (λ x. b && t x) xs ≡ (b && list_any t xs)
-any_both b t [] = sym (and_false b)
-any_both b t (x ∷ xs) = ap (λ c. (b && t x) || c) (any_both b t xs) ∙ and_any b (t x) (list_any t xs)
+any_both b t [] = sym (and-false b)
+any_both b t (x ∷ xs) = ap (λ c. (b && t x) || c) (any_both b t xs) ∙ and_or b (t x) (list_any t xs)
 
 implied : (a b : Bool) → (a ≡ true → b ≡ true) → (a && b) ≡ a
 implied true b h = h refl

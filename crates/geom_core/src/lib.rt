@@ -6,8 +6,8 @@ mod key;
 pub mod laws;
 mod rect;
 
-pub use key::{TileKey, tile_of};
-pub use rect::Rect;
+pub use key::{TILE_POINTS, TILE_SIDE, TileKey, tile_of};
+pub use rect::{CORNER, Rect, WORLD_SIDE};
 use std::alloc::{AllocError, AllocFailed};
 use thiserror::Error;
 

@@ -1,6 +1,7 @@
 //! Rectangles of the world.
 ghost use Rattle.std.specs.Prelude.{IfSome, IfNone, false, length, slice_get, Some, ◌/◌, ◌%◌, ◌*◌, nat_abs, ◌<ℤ◌, ◌⊎◌, MatchOption, negsuc, ◌≡◌, ℕ, ◌<◌, ◌≤◌, ◌+◌, ◌-◌, true, ◌&&◌, nat_lt, nat_le, ℤ, pos, ◌-ℤ◌, ◌+ℤ◌, ◌≤ℤ◌, int_le, int_lt, IfOk, OnOk, OnErr, MatchResult, SomeIff};
 ghost use Rattle.geom_core.specs.Overlaps.{common, clipped, bound};
+ghost use Rattle.geom_core.specs.Exchanged.{widened};
 ghost use Rattle.geom_core.specs.Rects.{IsShared, place_in, IsRect, IsInWorld};
 ghost use Rattle.geom_core.specs.Areas.{Point, point, Area, area, holds, meets, lies_in, moved, right, bottom, world};
 ghost use Rattle.geom_core.specs.Grid.{keys_of, cell, key};
@@ -12,10 +13,10 @@ use crate::{OutOfWorld, TileKey};
 use std::marker::Model;
 
 /// How far the world's corner lies to the left of 0 and above it.
-const CORNER: i32 = 16384;
+pub const CORNER: i32 = 16384;
 
-/// The world has points with x and y from -16384 to 16383, and so this many columns and rows.
-const SIDE: u32 = 32768;
+/// How many columns, and how many rows, the world has: x and y go from -16384 to 16383.
+pub const WORLD_SIDE: u32 = 32768;
 
 /// A rectangle of the world with at least one point. Contracts see it as an `Area`: the point of
 /// its upper left corner, and how many columns and rows it has.
@@ -92,7 +93,7 @@ impl Rect {
         }
         let left = (x + CORNER) as u32;
         let top = (y + CORNER) as u32;
-        if left + w > SIDE || top + h > SIDE {
+        if left + w > WORLD_SIDE || top + h > WORLD_SIDE {
             return Err(OutOfWorld);
         }
         Ok(Rect { left, top, w, h })
@@ -231,6 +232,17 @@ impl Rect {
         let w = (self.left + self.w).max(other.left + other.w) - left;
         let h = (self.top + self.h).max(other.top + other.h) - top;
         Rect { left, top, w, h }
+    }
+
+    /// The least rectangle round some rectangles and one more, where `some` is the one round those.
+    /// None stands for no rectangle.
+    pub fn round(some: Option<Rect>, more: &Rect) -> Rect
+        ensures { result ≡ widened some more.now }
+    {
+        match some {
+            Some(some) => some.bound(more),
+            None => *more,
+        }
     }
 }
 

@@ -18,8 +18,8 @@ use Rattle.doc_model.proofs.Parents.{side}
 use Rattle.doc_model.proofs.Weights.{tree_distinct, tree_root}
 use Rattle.doc_model.specs.Ids.{IsTree}
 use Rattle.doc_model.specs.Queues.{queued_for}
-use Rattle.doc_model.proofs.Paths.{Orderly, side_paint, paint_child_no_group, paint_row_no_group, both_false}
-use Rattle.geom_core.proofs.Tests.{or_cases, or_left, or_right, and_left, and_right}
+use Rattle.doc_model.proofs.Paths.{Orderly, side_paint, paint_child_no_group, paint_row_no_group}
+use Rattle.geom_core.proofs.Tests.{or_cases, or_left, or_right, and_left, and_right, neither}
 use Rattle.machine_model.specs.State.{Child, Walker, Slot, Free, Walks, State}
 use Rattle.machine_model.specs.Groups.{cache, with_pixels, nodes_in, children_of, path_of, on}
 use Rattle.machine_model.specs.Covers.{folded}
@@ -108,7 +108,7 @@ paint_off_path c g w doc t is child = go (on c (path_of w doc)) refl
         by false e = refl
 
     go : (b : Bool) → on c (path_of w doc) ≡ b → b ≡ false
-    go true e = absurd (let h : grouped c doc ≡ true = path_grouped w c doc (tree_distinct doc t) is e in let k : grouped c doc ≡ false = both_false (eqb c 0) _ not_root no_group in cc)
+    go true e = absurd (let h : grouped c doc ≡ true = path_grouped w c doc (tree_distinct doc t) is e in let k : grouped c doc ≡ false = neither (eqb c 0) _ not_root no_group in cc)
     go false e = refl
 
 all_pick : (R : ℕ → Type 0) (xs : List (ℕ × List Child)) (g : ℕ) → AllByRecursion (λ (e : ℕ × List Child). R e.0) xs → on g (firsts xs) ≡ true → R g

@@ -2,7 +2,7 @@
 
 use std::alloc::{AllocError, Global};
 use trace_core::{ReplayRefusal, replay};
-use trace_forms::TraceCause::{self, BadLine, NotEnabled, Unsettled};
+use trace_lines::TraceCause::{self, BadLine, NotEnabled, Unsettled};
 
 /// A layer in a group, painted beside a walk of all groups, which is walked then; an exclusive stroke, which is
 /// walked too; and an export.

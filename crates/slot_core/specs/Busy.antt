@@ -1,6 +1,7 @@
 -- The slots of the workers, as contracts see them: for each place what is at work there, or None.
 use Rattle.std.specs.Prelude.{ℕ, List, Option, Some, None, slice_get, refl}
 use Rattle.std.specs.List.{filter_map}
+use Rattle.std.specs.Option.{unwrap_or}
 use Rattle.std.specs.Coded.{Coded, code_by, coded×, coded_option}
 use Rattle.geom_core.specs.Areas.{Area}
 use Rattle.geom_core.specs.Rects.{area_code}
@@ -9,6 +10,10 @@ use Rattle.slot_core.specs.declared.Busy.{Busy}
 -- the work, and where it walks
 abbrev pub busy : {W : Type 0} → W → Option Area → Busy W
 busy work walker = record { work = work; walker = walker }
+
+-- what is at work at a place. None where the place is free or isn't there
+abbrev pub busy_at : {W : Type 0} → ℕ → List (Option (Busy W)) → Option (Busy W)
+busy_at place slots = unwrap_or (slice_get slots place) None
 
 -- the work of a place, if something is at work there
 abbrev pub work_in : {W : Type 0} → Option (Option (Busy W)) → Option W

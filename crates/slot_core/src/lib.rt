@@ -3,7 +3,8 @@
 
 ghost use Rattle.std.specs.Prelude.{◌≡◌, ◌≤◌, ◌<◌, None, Some, IfOk, replicate, length, is_none, slice_get, slice_set};
 ghost use Rattle.std.specs.List.{position};
-ghost use Rattle.std.specs.Option.{option_copied};
+ghost use Rattle.std.specs.Option.{option_copied, option_copied_mut};
+ghost use Rattle.std.specs.Borrow.{sem};
 
 use arrayvec::ArrayVec;
 use geom_core::{NoMemory, Rect};
@@ -41,7 +42,8 @@ impl<W> Model for Slots<W> {
 }
 
 impl<W: Drop> Slots<W> {
-    ghost use Rattle.slot_core.specs.Busy.{busy, work_at, walkers};
+    ghost use Rattle.slot_core.specs.Busy.{busy, busy_at, work_at, walkers};
+    ghost use Rattle.slot_core.specs.Lends.{LendsBusy};
 
     /// So many free slots, 1 to 17. All memory is taken here.
     pub fn new(alloc: Global, n: u8) -> Result<Slots<W>, NoMemory>
@@ -93,6 +95,15 @@ impl<W: Drop> Slots<W> {
             Some(Some(busy)) => Some(&busy.work),
             Some(None) | None => None,
         }
+    }
+
+    /// The work at a place, lent with the rectangle that it walks, to be changed there. None exactly where the place
+    /// is free or isn't there; then all stays.
+    pub fn busy_mut(&mut self, place: u8) -> Option<&mut Busy<W>>
+        ensures* lends { sem 𝓛 (LendsBusy W.row self.entry place result) }
+        ensures busy { option_copied_mut result ≡ busy_at place self.old }
+    {
+        self.places.get_mut(place as usize)?.as_mut()
     }
 
     /// Takes the work from a place, which is free afterwards. None exactly where the place is free or isn't there;

@@ -30,7 +30,7 @@ use Rattle.walker_core.specs.Sameness.{ReadTheSame}
 use Rattle.desk_parts.specs.Choices.{IsIdle, DoesAtOnce}
 use Rattle.desk_parts.specs.Enabled.{IsEnd}
 use Rattle.desk_parts.specs.Settles.{Settles}
-use Rattle.stamp_core.specs.Stamped.{Mark}
+use Rattle.stamped_desk.specs.Marks.{Mark}
 use Rattle.desk_work.specs.Lacking.{IsOfJob}
 use Rattle.desk_machine.specs.declared.tickets.PaintTicket.{PaintTicket}
 use Rattle.desk_machine.specs.declared.tickets.WalkTicket.{WalkTicket}

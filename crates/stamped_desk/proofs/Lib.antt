@@ -1,3 +1,5 @@
+mod Prefixes
+mod Adding
 mod Heading
 mod Standing
 mod Drawing

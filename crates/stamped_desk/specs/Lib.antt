@@ -1,2 +1,4 @@
 pub mod Drawn
+pub mod Marks
+pub mod Rules
 pub mod Stamped

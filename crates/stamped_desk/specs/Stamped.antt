@@ -7,7 +7,7 @@ use Rattle.doc_model.specs.declared.job.Job.{Job}
 use Rattle.doc_model.specs.Shots.{in_tile}
 use Rattle.job_core.specs.Paints.{layer_of}
 use Rattle.tile_core.specs.Shots.{Sight, sight_at}
-use Rattle.stamp_core.specs.Stamped.{Mark}
+use Rattle.stamped_desk.specs.Marks.{Mark}
 use Rattle.whole_tiles.specs.Plans.{Plan}
 use Rattle.whole_tiles.specs.Wholes.{Entire, entire_code}
 use Rattle.desk_work.specs.Lacking.{IsOfJob}

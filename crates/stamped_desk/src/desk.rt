@@ -20,13 +20,13 @@ ghost use Rattle.desk_core.specs.declared.answers.Ended.TheVariants as ended;
 ghost use Rattle.desk_core.specs.declared.tickets.Taken.TheVariants as taken;
 ghost use Rattle.stamped_desk.specs.Stamped.{IsKnown};
 
+use crate::history::{Naming, Stamp, Stamps, Unnamed};
 use crate::tiles::StampedTiles;
 use crate::walk::StampedWalk;
 use desk_core::{Desk, Ended, Published, SlotId, Taken};
 use doc_model::Command;
 use geom_core::{NoMemory, TileKey};
 use memento_core::Steps;
-use stamp_core::{Naming, Stamp, Stamps, Unnamed};
 use std::marker::Model;
 use std::sync::ledger::Ledger;
 use walker_core::Composed;

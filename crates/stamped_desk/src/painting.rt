@@ -7,10 +7,10 @@ ghost use Rattle.whole_tiles.specs.Plans.{tiles_of};
 ghost use Rattle.desk_core.specs.declared.tickets.Taken.TheVariants as taken;
 ghost use Rattle.stamped_desk.specs.Stamped.{IsMadeOf, batch};
 
+use crate::history::{Naming, Stamp};
 use crate::tiles::StampedTiles;
 use desk_core::{PaintTicket, SlotId, Taken};
 use geom_core::NoMemory;
-use stamp_core::{Naming, Stamp};
 use std::alloc::Global;
 use std::marker::Model;
 use whole_tiles::{Painting, Whole};

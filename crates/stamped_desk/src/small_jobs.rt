@@ -5,8 +5,8 @@ ghost use Rattle.desk_machine.specs.SmallJobs.{PaintsSmall};
 ghost use Rattle.desk_parts.specs.Settles.{Settles};
 
 use crate::desk::StampedDesk;
+use crate::history::Naming;
 use geom_core::{NoMemory, Rect};
-use stamp_core::Naming;
 
 impl<J: Naming> StampedDesk<J> {
     /// Paints jobs of the stroke at the head in place, as `Desk::paint_small` does. None where it painted none.

@@ -3,9 +3,9 @@
 ghost use Rattle.std.specs.Prelude.{◌≡◌, ◌++◌, [], true, length, IfSome, OnErr, OnOk};
 ghost use Rattle.stamped_desk.specs.Stamped.{AreMadeOf, AreOne, batch};
 
+use crate::history::{Naming, Stamp};
 use desk_core::{SlotId, Taken};
 use geom_core::NoMemory;
-use stamp_core::{Naming, Stamp};
 use std::marker::Model;
 use whole_tiles::Whole;
 

@@ -3,8 +3,8 @@
 ghost use Rattle.std.specs.Prelude.{◌≡◌, Some, IfSome};
 ghost use Rattle.desk_core.specs.declared.tickets.Taken.TheVariants as taken;
 
+use crate::history::{Naming, Stamp};
 use desk_core::{Taken, WalkTicket};
-use stamp_core::{Naming, Stamp};
 use std::marker::Model;
 
 /// A walk beside its stamp. Contracts see its ticket.

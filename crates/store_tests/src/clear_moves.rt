@@ -3,7 +3,7 @@
 ghost use Rattle.std.specs.Prelude.{◌≡◌, None};
 
 use crate::fixtures::{ORIGIN, layer, rect};
-use desk_steps::{Begun, Store};
+use desk_steps::{Base, Begun, Store};
 use doc_model::Job;
 use geom_core::NoMemory;
 use pixel_core::Pixel;
@@ -29,7 +29,7 @@ fn moves(rt: &impl Abort, alloc: Global, store: &mut Store) -> Result<(), NoMemo
             let shot = store.grab(alloc, job.reads().as_slice())?;
             let painting = Painting::new(alloc, job, shot)?;
             assert!(rt; painting.tile_count() == 1);
-            store.put_whole(alloc, &painting.paint(alloc, 0)?)?;
+            store.put_whole(alloc, &painting.paint(alloc, 0)?, Base::Compared)?;
             store.finish();
         }
         _ => assert!(rt; false),

@@ -5,6 +5,7 @@ ghost use Rattle.std.specs.Prelude.{◌≡◌, ◌<◌, None, IfOk};
 use crate::fixtures::{ORIGIN, blue, green, layer, red};
 use compose_core::Given;
 use desk_steps::Store;
+use desk_work::gather;
 use doc_model::{Change, Look, Patch, Walk};
 use geom_core::{NoMemory, Rect};
 use group_caches::Caches;
@@ -12,8 +13,7 @@ use pixel_core::{Op, Pixel};
 use std::alloc::Global;
 use std::process::Abort;
 use std::test::Fail;
-use walk_start::gather;
-use walker_core::{Composed, compose_walk};
+use walker_core::{Composed, compose_key};
 
 /// Makes a change of the tree.
 fn change(rt: &impl Abort, alloc: Global, store: &mut Store, change: Change)
@@ -66,9 +66,9 @@ fn a_group_off_the_path_is_read_from_its_cache(rt: HostRuntime) -> Result<(), Fa
     let store = document(&rt, alloc)?;
     let caches = caches(&rt, alloc)?;
     let (walk, rect) = (Walk::Up(0), corner(&rt));
-    let inputs = gather(alloc, store.tree(), &store, &caches, Patch { walk, rect })?;
+    let inputs = gather(alloc, &store, &caches, Patch { walk, rect })?;
     assert_eq!(rt; inputs.path(), [0].as_slice());
-    let composed = compose_walk(alloc, &inputs)?;
+    let composed = compose_key(alloc, &inputs, ORIGIN)?;
     assert_eq!(rt; pixel_of(&composed, 0, 0), Some(blue()));
     assert_eq!(rt; pixel_of(&composed, 0, 1), Some(red()));
     assert_eq!(rt; pixel_of(&composed, 2, 0), None);
@@ -81,9 +81,9 @@ fn a_group_on_the_path_is_read_from_its_layers(rt: HostRuntime) -> Result<(), Fa
     let store = document(&rt, alloc)?;
     let caches = caches(&rt, alloc)?;
     let (walk, rect) = (Walk::All, corner(&rt));
-    let inputs = gather(alloc, store.tree(), &store, &caches, Patch { walk, rect })?;
+    let inputs = gather(alloc, &store, &caches, Patch { walk, rect })?;
     assert_eq!(rt; inputs.path(), [2, 0].as_slice());
-    let composed = compose_walk(alloc, &inputs)?;
+    let composed = compose_key(alloc, &inputs, ORIGIN)?;
     assert_eq!(rt; pixel_of(&composed, 2, 0), Some(green()));
     assert_eq!(rt; pixel_of(&composed, 0, 0), Some(green()));
     Ok(())
@@ -102,8 +102,8 @@ fn an_invisible_group_is_not_seen(rt: HostRuntime) -> Result<(), Fail> {
     change(&rt, alloc, &mut store, Change::Look { id: 2, look });
     let caches = caches(&rt, alloc)?;
     let (walk, rect) = (Walk::Up(0), corner(&rt));
-    let inputs = gather(alloc, store.tree(), &store, &caches, Patch { walk, rect })?;
-    let composed = compose_walk(alloc, &inputs)?;
+    let inputs = gather(alloc, &store, &caches, Patch { walk, rect })?;
+    let composed = compose_key(alloc, &inputs, ORIGIN)?;
     assert_eq!(rt; pixel_of(&composed, 0, 0), Some(red()));
     Ok(())
 }

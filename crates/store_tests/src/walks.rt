@@ -11,9 +11,7 @@ use std::alloc::Global;
 use std::test::Fail;
 use tile_core::Tile;
 use tree_core::Tree;
-use walker_core::{
-    Composed, Gathered, Inputs, Path, all_groups, compose_key, compose_keys, compose_walk, plan,
-};
+use walker_core::{Composed, Gathered, Inputs, Path, all_groups, compose_key, compose_keys, plan};
 
 const NEXT: TileKey = TileKey { row: 0, col: 1 };
 
@@ -81,30 +79,24 @@ fn root_pixel(
     children: &[(Look, Pixel)],
 ) -> Result<Option<Pixel>, NoMemory> {
     let inputs = root_of(alloc, rect, children)?;
-    let composed = compose_walk(alloc, &inputs)?;
+    let composed = compose_key(alloc, &inputs, ORIGIN)?;
     Ok(pixel_of(&composed, 0, ORIGIN))
 }
 
-/// A group's pixel at the corner of a tile, where all tiles are composed.
-fn of_all(
+/// A group's pixel at the corner of a tile, where the first tile and the next one are composed.
+fn of_both(
     alloc: Global,
     inputs: &Inputs,
     group: u16,
     key: TileKey,
 ) -> Result<Option<Pixel>, NoMemory> {
-    let composed = compose_walk(alloc, inputs)?;
+    let composed = compose_keys(alloc, inputs, &[NEXT, ORIGIN])?;
     Ok(pixel_of(&composed, group, key))
 }
 
 /// The root's pixel at the corner of a tile, where the next tile alone is composed.
 fn of_next(alloc: Global, inputs: &Inputs, key: TileKey) -> Result<Option<Pixel>, NoMemory> {
     let composed = compose_key(alloc, inputs, NEXT)?;
-    Ok(pixel_of(&composed, 0, key))
-}
-
-/// The same where both are.
-fn of_both(alloc: Global, inputs: &Inputs, key: TileKey) -> Result<Option<Pixel>, NoMemory> {
-    let composed = compose_keys(alloc, inputs, &[NEXT, ORIGIN])?;
     Ok(pixel_of(&composed, 0, key))
 }
 
@@ -166,10 +158,10 @@ fn only_what_was_asked(rt: HostRuntime) -> Result<(), Fail> {
     let inputs = root_of(alloc, rect, &[(over(128), red())])?;
     let pixel = Some(Pixel::new(255, 0, 0, 128));
     let rows = [
-        (of_all(alloc, &inputs, 0, NEXT)?, pixel),
-        (of_all(alloc, &inputs, 9, ORIGIN)?, None),
+        (of_both(alloc, &inputs, 0, NEXT)?, pixel),
+        (of_both(alloc, &inputs, 0, ORIGIN)?, pixel),
+        (of_both(alloc, &inputs, 9, ORIGIN)?, None),
         (of_next(alloc, &inputs, ORIGIN)?, None),
-        (of_both(alloc, &inputs, NEXT)?, pixel),
     ];
     for (found, expected) in rows {
         assert_eq!(rt; found, expected);

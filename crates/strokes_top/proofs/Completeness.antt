@@ -1,21 +1,20 @@
 -- Where nothing fails an input without fault has an output, if memory suffices.
-use Rattle.std.proofs.Common.{◌≡◌, ◌∙◌, ◌⊎◌, inl, inr, ℕ, ◌+◌, ◌<◌, ◌≤◌, Bool, true, false, List, [], ◌++◌, length, length-append, append-nil, Option, Some, None, is_some, IsSomeAnd, refl, sym, ap, subst, arith}
+use Rattle.std.proofs.Common.{◌≡◌, ◌∙◌, ◌⊎◌, inl, inr, ℕ, ◌+◌, ◌≤◌, true, false, List, ◌++◌, length, length-append, append-nil, Option, Some, None, IsSomeAnd, refl, sym, ap, subst, arith}
 use Rattle.std.specs.Option.{option_map_or}
-use Rattle.std.specs.Io.KnownBytes.{Consumes, IsAtEnd}
-use Rattle.script_lines.specs.declared.cause.Cause.{Cause}
+use Rattle.io_edge.specs.Told.{Rose}
 use Rattle.script_text.specs.Reading.{fault}
 use Rattle.script_text.specs.declared.script.ScriptFault.{ScriptFault}
-use Rattle.trace_forms.specs.declared.line.TraceCause.{TraceCause}
-use Rattle.trace_forms.specs.declared.line.TraceFault.{TraceFault}
-use Rattle.trace_forms.specs.Replay.{trace_fault}
+use Rattle.trace_lines.specs.declared.line.TraceFault.{TraceFault}
+use Rattle.trace_lines.specs.Replay.{trace_fault}
 use Rattle.strokes_top.specs.declared.choice.Choice.{Choice}
 use Rattle.strokes_top.specs.declared.status.Status.{Status}
 use Rattle.strokes_top.specs.declared.status.Status.TheVariants as status
 use Rattle.strokes_top.specs.Choice.{choice}
 use Rattle.strokes_top.specs.Status.{is_done}
-use Rattle.strokes_top.specs.Reading.{WasRead, IsFaulty, asks_for_demo, limit_of, limit_for, ConsumesMore, HasScript, IsGivenScript}
+use Rattle.strokes_top.specs.Reading.{WasRead, IsFaulty, limit_of, limit_for, ConsumesMore, HasScript, IsGivenScript}
 use Rattle.strokes_top.specs.Traces.{IsFaultyTrace, IsGivenTrace}
-use Rattle.strokes_top.proofs.Choices.{nothing}
+use Rattle.strokes_top.specs.Sources.{ReadsUpTo}
+use Rattle.strokes_top.specs.Ends.{Ends, read_end}
 
 -- all bytes were read that were left
 read_all : (bytes : List ℕ) (rest : Option (List ℕ)) (P : List ℕ → Type 0) → WasRead (Some bytes) rest P → P bytes
@@ -33,15 +32,11 @@ few_read bytes (Some behind) limit piece few m = omega (arith, ap length m.1, le
 abbrev pub EndsWell : Status → Type 0
 EndsWell st = (is_done st ≡ true) ⊎ (st ≡ status.NoMemory)
 
-module _ (words : List (List ℕ)) (left rest : Option (List ℕ)) (ReadRose WriteRose : Type 0) where
+module _ (words : List (List ℕ)) (left rest before after : Option (List ℕ)) (faults faults_now : ℕ) (WriteRose : Type 0) where
   -- what is known of a status
   pub record IsCaused (st : Status) : Type 0 where
-    pub usage : st ≡ status.Usage → choice words ≡ None
-    pub script : (line : ℕ) (cause : Cause) → st ≡ status.Script line cause → IsFaulty (record { line = line; cause = cause }) words left rest
-    pub trace : (line : ℕ) (cause : TraceCause) → st ≡ status.Trace line cause → IsFaultyTrace (record { line = line; cause = cause }) words left rest
-    pub too_long_reads : st ≡ status.TooLong → asks_for_demo words ≡ false
-    pub too_long : st ≡ status.TooLong → ConsumesMore (limit_for words) 16384 left rest
-    pub read_fault : st ≡ status.ReadFault → ReadRose
+    pub ends : Ends st words left rest before after
+    pub reads : ReadsUpTo (limit_for words) left rest faults faults_now (read_end st)
     pub write_fault : st ≡ status.WriteFault → WriteRose
 
   -- what rules out the status of an input that has a fault
@@ -49,20 +44,20 @@ module _ (words : List (List ℕ)) (left rest : Option (List ℕ)) (ReadRose Wri
     some : choice words ≡ None → ⊥
     script : (f : ScriptFault) → IsFaulty f words left rest → ⊥
     trace : (f : TraceFault) → IsFaultyTrace f words left rest → ⊥
-    short : asks_for_demo words ≡ false → ConsumesMore (limit_for words) 16384 left rest → ⊥
+    short : IsSomeAnd (choice words) (λ c. c.demo ≡ None) → ConsumesMore (limit_for words) 16384 left rest → ⊥
 
-  ends : (st : Status) → IsCaused st → Rules → (ReadRose → ⊥) → (WriteRose → ⊥) → EndsWell st
+  ends : (st : Status) → IsCaused st → Rules → (Rose faults faults_now → ⊥) → (WriteRose → ⊥) → EndsWell st
   ends status.Done c r no_read no_write = inl refl
   ends status.DoneWithRefusals c r no_read no_write = inl refl
-  ends status.Usage c r no_read no_write = absurd (r.some (c.usage refl))
-  ends (status.Script line cause) c r no_read no_write = absurd (r.script _ (c.script line cause refl))
-  ends status.ReadFault c r no_read no_write = absurd (no_read (c.read_fault refl))
+  ends status.Usage c r no_read no_write = absurd (r.some c.ends)
+  ends (status.Script line cause) c r no_read no_write = absurd (r.script _ c.ends)
+  ends status.ReadFault c r no_read no_write = absurd (no_read (c.reads.failed refl))
   ends status.WriteFault c r no_read no_write = absurd (no_write (c.write_fault refl))
   ends status.NoMemory c r no_read no_write = inr refl
-  ends status.TooLong c r no_read no_write = absurd (r.short (c.too_long_reads refl) (c.too_long refl))
-  ends (status.Trace line cause) c r no_read no_write = absurd (r.trace _ (c.trace line cause refl))
+  ends status.TooLong c r no_read no_write = absurd (r.short c.ends c.reads.taken)
+  ends (status.Trace line cause) c r no_read no_write = absurd (r.trace _ c.ends)
 
-  pub script_ends : (st : Status) → IsCaused st → IsGivenScript words left → (ReadRose → ⊥) → (WriteRose → ⊥) → EndsWell st
+  pub script_ends : (st : Status) → IsCaused st → IsGivenScript words left → (Rose faults faults_now → ⊥) → (WriteRose → ⊥) → EndsWell st
   script_ends st c given no_read no_write = ends st c (rules (choice words) refl given) no_read no_write
     where
       no_fault : (number : Option ℕ) (left' : Option (List ℕ)) (f : ScriptFault) → number ≡ None → HasScript number left' → WasRead left' rest (λ bytes. fault bytes ≡ Some f) → ⊥
@@ -84,11 +79,11 @@ module _ (words : List (List ℕ)) (left rest : Option (List ℕ)) (ReadRose Wri
         some = λ none'. cc;
         script = λ f k. let k' = subst (λ o. IsSomeAnd o (λ d. (d.demo ≡ None) × (d.replay ≡ false) × WasRead left rest (λ bytes. fault bytes ≡ Some f))) is k in no_fault c.demo left f k'.0 h.1 k'.2;
         trace = λ f k. let k' = subst (λ o. IsSomeAnd o (λ d. (d.replay ≡ true) × WasRead left rest (λ bytes. trace_fault bytes ≡ Some f))) is k in let same : c.replay ≡ true = k'.0 in let other : c.replay ≡ false = h.0 in cc;
-        short = λ reads m. few c.demo left (nothing c.demo (subst (λ o. option_map_or (λ d. is_some d.demo) o false ≡ false) is reads)) h.1
+        short = λ reads m. few c.demo left (subst (λ o. IsSomeAnd o (λ d. d.demo ≡ None)) is reads) h.1
             (subst (λ b. ConsumesMore (limit_of b) 16384 left rest) h.0 (subst (λ o. ConsumesMore (limit_of (option_map_or (λ d. d.replay) o false)) 16384 left rest) is m));
       }
 
-  pub trace_ends : (st : Status) → IsCaused st → IsGivenTrace words left → (ReadRose → ⊥) → (WriteRose → ⊥) → EndsWell st
+  pub trace_ends : (st : Status) → IsCaused st → IsGivenTrace words left → (Rose faults faults_now → ⊥) → (WriteRose → ⊥) → EndsWell st
   trace_ends st c given no_read no_write = ends st c (rules (choice words) refl given) no_read no_write
     where
       no_fault : (left' : Option (List ℕ)) (f : TraceFault) → IsSomeAnd left' (λ bytes. (length bytes ≤ 16777216) × (trace_fault bytes ≡ None)) → WasRead left' rest (λ bytes. trace_fault bytes ≡ Some f) → ⊥
@@ -110,8 +105,3 @@ module _ (words : List (List ℕ)) (left rest : Option (List ℕ)) (ReadRose Wri
         trace = λ f k. let k' = subst (λ o. IsSomeAnd o (λ d. (d.replay ≡ true) × WasRead left rest (λ bytes. trace_fault bytes ≡ Some f))) is k in no_fault left f h.1 k'.1;
         short = λ reads m. few left h.1 (subst (λ b. ConsumesMore (limit_of b) 16384 left rest) h.0 (subst (λ o. ConsumesMore (limit_of (option_map_or (λ d. d.replay) o false)) 16384 left rest) is m));
       }
-
--- as it is told
-pub told_well : (told st : Status) → (told ≡ st) ⊎ (told ≡ status.NoMemory) → EndsWell st → EndsWell told
-told_well told st (inl same) h = subst EndsWell (sym same) h
-told_well told st (inr no_memory) h = inr no_memory

@@ -4,5 +4,6 @@ pub mod Takings
 pub mod Choices
 pub mod Outputs
 pub mod Givings
+pub mod Endings
 pub mod Ways
 pub mod Completeness

@@ -1,17 +1,10 @@
 -- A source whose bytes are taken while they come in.
-use Rattle.std.proofs.Common.{◌≡◌, ℕ, ◌+◌, ◌≤◌, List, [], ◌++◌, length, length-append, length-take-le, take, Option, true, refl, sym, subst, ap₂, arith}
-use Rattle.std.specs.Io.KnownBytes.{Consumes}
+use Rattle.std.proofs.Common.{◌≡◌, ◌∙◌, ℕ, ◌+◌, ◌≤◌, List, [], ◌∷◌, ◌++◌, length, length-append, length-take-le, append-nil, take, Option, refl, sym, subst, arith}
+use Rattle.std.specs.Io.KnownBytes.{Consumes, IsAtEnd}
 use Rattle.std.proofs.KnownBytes.{Consumes-nil, Consumes-trans}
-use Rattle.script_lines.specs.declared.cause.Cause.{Cause}
-use Rattle.script_text.specs.declared.script.ScriptFault.{ScriptFault}
 use Rattle.strokes_top.specs.declared.intake.Intake.{Intake}
-use Rattle.strokes_top.specs.declared.status.Status.{Status}
-use Rattle.strokes_top.specs.declared.status.Status.TheVariants as status
-use Rattle.strokes_top.specs.declared.transfer.ReadError.{ReadError}
-use Rattle.strokes_top.specs.declared.transfer.ReadError.TheVariants as read
-use Rattle.strokes_top.specs.Reading.{ConsumesAtMost, WasRead}
+use Rattle.strokes_top.specs.Reading.{WasRead}
 use Rattle.strokes_top.specs.Intakes.{HasTaken}
-use Rattle.strokes_top.specs.Ends.{of_read, is_of_read, is_of_replay, is_of_trace}
 use Rattle.strokes_top.proofs.Transfers.{IsCounted, more_counted}
 
 -- so many bytes of a source were read, and the intake has taken them
@@ -42,43 +35,18 @@ module _ (before now : Option (List ℕ)) (i : Intake) (count : ℕ) (t : IsTaki
     taken = taken;
   }
 
-pub at_most_counted : (before now : Option (List ℕ)) (count limit : ℕ) → IsCounted 0 before now count → count ≤ limit → ConsumesAtMost limit before now
-at_most_counted before now count limit c few = (c.got, c.consumed, omega (arith, c.size))
-
--- the only error that is told as too long a script
-pub is_long : (e : ReadError) → of_read e ≡ status.TooLong → e ≡ read.TooLong
-is_long read.TooLong h = refl
-is_long read.Failed h = cc
-
-pub same_fault : (f : ScriptFault) (line : ℕ) (cause : Cause) → status.Script f.line f.cause ≡ status.Script line cause → f ≡ record { line = line; cause = cause }
-same_fault f line cause e =
-    let same_line : f.line ≡ line = cc in
-    let same_cause : f.cause ≡ cause = cc in
-    ap₂ (λ (n : ℕ) (c : Cause). let g : ScriptFault = record { line = n; cause = c } in g) same_line same_cause
-
--- what may come of reading a trace may come of its parts
-pub read_of_trace : (s : Status) → is_of_read s ≡ true → is_of_trace s ≡ true
-read_of_trace status.ReadFault h = refl
-read_of_trace status.TooLong h = refl
-read_of_trace status.NoMemory h = refl
-read_of_trace status.Done h = cc
-read_of_trace status.DoneWithRefusals h = cc
-read_of_trace status.Usage h = cc
-read_of_trace (status.Script line cause) h = cc
-read_of_trace status.WriteFault h = cc
-read_of_trace (status.Trace line cause) h = refl
-
-pub replay_of_trace : (s : Status) → is_of_replay s ≡ true → is_of_trace s ≡ true
-replay_of_trace (status.Trace line cause) h = refl
-replay_of_trace status.NoMemory h = refl
-replay_of_trace status.ReadFault h = cc
-replay_of_trace status.TooLong h = cc
-replay_of_trace status.Done h = cc
-replay_of_trace status.DoneWithRefusals h = cc
-replay_of_trace status.Usage h = cc
-replay_of_trace (status.Script line cause) h = cc
-replay_of_trace status.WriteFault h = cc
-
 -- what was read and gives a script
 pub read_gives : (before after : Option (List ℕ)) (bytes : List ℕ) (P : List ℕ → Type 0) → WasRead before after (λ b. b ≡ bytes) → P bytes → WasRead before after P
 read_gives before after bytes P r h = (r.0, r.1, r.2, subst P (sym r.3) h)
+
+empty : (l : List ℕ) → length l ≡ 0 → l ≡ []
+empty [] h = refl
+empty (b ∷ l) h = absurd (omega arith)
+
+-- when no byte comes any more, all that was read are the bytes so far
+pub read_whole : (before now next : Option (List ℕ)) (bytes chunk : List ℕ) (n : ℕ) → n ≤ length chunk → n ≡ 0 → Consumes before now bytes → Consumes now next (take n chunk) → IsAtEnd next → WasRead before next (λ b. b ≡ bytes)
+read_whole before now next bytes chunk n within none h k end =
+    let short : length (take n chunk) ≡ 0 = length-take-le n chunk within ∙ none in
+    let last : Consumes now next [] = subst (λ l. Consumes now next l) (empty (take n chunk) short) k in
+    let all : Consumes before next (bytes ++ []) = Consumes-trans before now next bytes [] h last in
+    (bytes, subst (λ l. Consumes before next l) (append-nil bytes) all, end, refl)

@@ -1,5 +1,5 @@
 -- What a run has read and written, by what its words ask for.
-use Rattle.std.proofs.Common.{◌≡◌, ◌∙◌, ◌⊎◌, inl, inr, ℕ, ◌+◌, ◌&&◌, Bool, true, false, not, is_some, List, [], ◌++◌, Option, Some, None, IsSomeAnd, IfSome, refl, sym, ap, subst}
+use Rattle.std.proofs.Common.{◌≡◌, ◌∙◌, ℕ, ◌+◌, ◌&&◌, true, false, not, is_some, List, ◌++◌, Option, Some, None, IsSomeAnd, IfSome, refl, ap, subst}
 use Rattle.script_lines.proofs.FieldLemmas.{first, second}
 use Rattle.script_text.specs.Script.{Contents}
 use Rattle.script_text.specs.Text.{text}
@@ -9,15 +9,13 @@ use Rattle.strokes_top.specs.declared.choice.Emit.{Emit}
 use Rattle.strokes_top.specs.declared.choice.Emit.TheVariants as emit
 use Rattle.strokes_top.specs.declared.choice.Choice.{Choice}
 use Rattle.strokes_top.specs.declared.status.Status.{Status}
-use Rattle.strokes_top.specs.declared.status.Status.TheVariants as status
-use Rattle.strokes_top.specs.Choice.{choice, is_fit, is_plain, is_trace, is_of_artists, lets_draw}
-use Rattle.strokes_top.specs.Status.{may_write}
+use Rattle.strokes_top.specs.Choice.{choice, is_fit, is_trace, is_of_artists, lets_draw}
 use Rattle.strokes_top.specs.Output.{output}
 use Rattle.strokes_top.specs.Reading.{WasRead, Spells, IsOfScript}
 use Rattle.strokes_top.specs.Written.{Writes, IsPainted}
 use Rattle.strokes_top.specs.Together.{IsDrawnBy, IsPaintedTogether}
 use Rattle.strokes_top.specs.Traces.{Replays, IsTraced, IsReplayed}
-use Rattle.strokes_top.specs.Run.{IsDrawn, lead, IsWhole, IsOutput, IsBegun, Gives, IsOf, IsAnswered}
+use Rattle.strokes_top.specs.Run.{IsDrawn, lead, IsWhole, IsWritten, Gives, IsOf, IsAnswered}
 use Rattle.strokes_top.proofs.Choices.{untrue, nothing, choice_fits, fit_draws, draws_of, draws_alone, trace_alone, trace_reads, replay_alone, replay_paints}
 
 -- what holds of each script that has P
@@ -34,46 +32,6 @@ of_script P Q f None left rest h = read_weaker (Gives false P) (Spells Q) (λ b 
 
 of_trace : (P Q : Contents → Type 0) → ((s : Contents) → P s → Q s) → (left rest : Option (List ℕ)) → IsOf P None true left rest → WasRead left rest (Replays Q)
 of_trace P Q f left rest h = read_weaker (Gives true P) (Replays Q) (λ b g. (g.0, g.1, f _ g.2)) left rest h
-
--- what was written of what was drawn of a script
-pub record IsWritten (st : Status) (before after : Option (List ℕ)) (asked : Choice) (s : Contents) : Type 0 where
-  pub drawn : Contents
-  pub is_drawn : IsDrawn asked.artists s drawn
-  pub bytes : List ℕ
-  pub whole : IsWhole asked.emit asked drawn bytes
-  pub writes : Writes st before after drawn bytes
-
-module _ (before after : Option (List ℕ)) (words : List (List ℕ)) (left rest : Option (List ℕ)) where
-  abbrev Answered : (Choice → Contents → Type 0) → Type 0
-  Answered P = IsAnswered P words left rest
-
-  of_weaker : (P Q : Contents → Type 0) → ((s : Contents) → P s → Q s) → (number : Option ℕ) (replays : Bool) → IsOf P number replays left rest → IsOf Q number replays left rest
-  of_weaker P Q f (Some n) replays h = f _ h
-  of_weaker P Q f None false h = read_weaker (Gives false P) (Gives false Q) (λ b g. (g.0, some_weaker P Q f (script b) g.1)) left rest h
-  of_weaker P Q f None true h = read_weaker (Gives true P) (Gives true Q) (λ b g. (g.0, g.1, f _ g.2)) left rest h
-
-  answered_weaker : (P Q : Choice → Contents → Type 0) → ((c : Choice) (s : Contents) → P c s → Q c s) → Answered P → Answered Q
-  answered_weaker P Q f h = go (choice words) h
-    where
-      go : (o : Option Choice) → IsSomeAnd o (λ c. IsOf (P c) c.demo c.replay left rest) → IsSomeAnd o (λ c. IsOf (Q c) c.demo c.replay left rest)
-      go None h = h
-      go (Some c) h = of_weaker (P c) (Q c) (f c) c.demo c.replay h
-
-  -- under each status that may write
-  pub written : (st : Status) → (st ≡ status.Done → Answered (IsOutput false before after)) → (st ≡ status.DoneWithRefusals → Answered (IsOutput true before after))
-      → (st ≡ status.WriteFault → Answered (IsBegun before after)) → may_write st ≡ true → Answered (IsWritten st before after)
-  written status.Done done refusals begun may =
-      answered_weaker (IsOutput false before after) (IsWritten status.Done before after) (λ c s h. record { drawn = h.drawn; is_drawn = h.is_drawn; bytes = h.bytes; whole = h.whole; writes = (h.written, h.refusals_are) }) (done refl)
-  written status.DoneWithRefusals done refusals begun may =
-      answered_weaker (IsOutput true before after) (IsWritten status.DoneWithRefusals before after) (λ c s h. record { drawn = h.drawn; is_drawn = h.is_drawn; bytes = h.bytes; whole = h.whole; writes = (h.written, h.refusals_are) }) (refusals refl)
-  written status.WriteFault done refusals begun may =
-      answered_weaker (IsBegun before after) (IsWritten status.WriteFault before after) (λ c s h. record { drawn = h.0; is_drawn = h.1; bytes = h.2; whole = h.3; writes = h.4 }) (begun refl)
-  written status.Usage done refusals begun may = cc
-  written (status.Script line cause) done refusals begun may = cc
-  written status.ReadFault done refusals begun may = cc
-  written status.NoMemory done refusals begun may = cc
-  written status.TooLong done refusals begun may = cc
-  written (status.Trace line cause) done refusals begun may = cc
 
 -- what is no trace is the output behind its lead
 whole_output : (e : Emit) (asked : Choice) (drawn : Contents) (bytes : List ℕ) → is_trace e ≡ false → IsWhole e asked drawn bytes → bytes ≡ lead asked.artists drawn ++ output e drawn
@@ -173,10 +131,3 @@ module _ (st : Status) (before after : Option (List ℕ)) (words : List (List �
 
   pub replayed_way : IfSome (choice words) (IsReplayed st left rest before after)
   replayed_way = by_choice (IsReplayed st left rest before after) (λ c fit k. replayed_of st before after c left rest fit k)
-
--- a status that may write is told as it is
-pub told_as : (P : Status → Type 0) (told st : Status) → (told ≡ st) ⊎ (told ≡ status.NoMemory) → (may_write st ≡ true → P st) → may_write told ≡ true → P told
-told_as P told st (inl same) f may = subst P (sym same) (f (subst (λ s. may_write s ≡ true) same may))
-told_as P told st (inr no_memory) f may =
-    let wrong : may_write status.NoMemory ≡ true = subst (λ s. may_write s ≡ true) no_memory may in
-    cc

@@ -1,13 +1,16 @@
--- How parts of a run end.
-use Rattle.std.specs.Prelude.{Bool, true, false}
-use Rattle.script_text.specs.declared.script.ReadRefusal.{ReadRefusal}
-use Rattle.script_text.specs.declared.script.ReadRefusal.TheVariants as refusal
-use Rattle.trace_core.specs.declared.refusal.ReplayRefusal.{ReplayRefusal}
-use Rattle.trace_core.specs.declared.refusal.ReplayRefusal.TheVariants as replay
+-- How a run ends.
+use Rattle.std.specs.Prelude.{◌≡◌, ℕ, Bool, true, false, List, Option, Some, None, IsSomeAnd}
+use Rattle.std.specs.Io.KnownBytes.{Keeps}
+use Rattle.script_text.specs.Script.{Contents}
+use Rattle.strokes_top.specs.declared.choice.Choice.{Choice}
 use Rattle.strokes_top.specs.declared.transfer.ReadError.{ReadError}
 use Rattle.strokes_top.specs.declared.transfer.ReadError.TheVariants as read
 use Rattle.strokes_top.specs.declared.status.Status.{Status}
-use Rattle.strokes_top.specs.declared.status.Status.TheVariants.{Done, DoneWithRefusals, Script, ReadFault, WriteFault, NoMemory, TooLong, Trace}
+use Rattle.strokes_top.specs.declared.status.Status.TheVariants.{Usage, Script, ReadFault, NoMemory, TooLong, Trace}
+use Rattle.strokes_top.specs.Choice.{choice}
+use Rattle.strokes_top.specs.Reading.{IsFaulty}
+use Rattle.strokes_top.specs.Traces.{IsFaultyTrace}
+use Rattle.strokes_top.specs.Run.{IsWritten, IsAnswered}
 
 -- whether the script or the trace is at fault
 abbrev pub is_script : Status → Bool
@@ -15,53 +18,23 @@ is_script (Script line cause) = true
 is_script (Trace line cause) = true
 is_script s = false
 
--- whether reading all of a source may end so
-abbrev pub is_of_read : Status → Bool
-is_of_read ReadFault = true
-is_of_read TooLong = true
-is_of_read NoMemory = true
-is_of_read s = false
+-- the error of a read with which the run ended, if it did so
+abbrev pub read_end : Status → Option ReadError
+read_end ReadFault = Some read.Failed
+read_end TooLong = Some read.TooLong
+read_end s = None
 
--- whether reading a script may end so
-abbrev pub is_of_script : Status → Bool
-is_of_script (Script line cause) = true
-is_of_script s = is_of_read s
+-- what was written of a script; nothing where memory ran out
+abbrev pub Paints : Status → Option (List ℕ) → Option (List ℕ) → Choice → Contents → Type 0
+Paints NoMemory before after asked s = Keeps before after
+Paints st before after asked s = IsWritten st before after asked s
 
--- whether checking a trace may end so
-abbrev pub is_of_replay : Status → Bool
-is_of_replay (Trace line cause) = true
-is_of_replay NoMemory = true
-is_of_replay s = false
-
--- whether reading and checking one may end so
-abbrev pub is_of_trace : Status → Bool
-is_of_trace (Trace line cause) = true
-is_of_trace s = is_of_read s
-
--- whether taking the script may end so
-abbrev pub is_of_taking : Status → Bool
-is_of_taking (Trace line cause) = true
-is_of_taking s = is_of_script s
-
--- whether painting and writing may end so
-abbrev pub is_painted : Status → Bool
-is_painted Done = true
-is_painted DoneWithRefusals = true
-is_painted WriteFault = true
-is_painted NoMemory = true
-is_painted s = false
-
--- how a run ends whose source isn't read to its end
-abbrev pub of_read : ReadError → Status
-of_read read.Failed = ReadFault
-of_read read.TooLong = TooLong
-
--- how a run ends whose script isn't taken
-abbrev pub of_refusal : ReadRefusal → Status
-of_refusal (refusal.Fault f) = Script f.line f.cause
-of_refusal refusal.NoMemory = NoMemory
-
--- how a run ends whose trace isn't taken
-abbrev pub of_replay : ReplayRefusal → Status
-of_replay (replay.Fault line cause) = Trace line cause
-of_replay replay.NoMemory = NoMemory
+-- what is known of the words, of what the source gave, and of what was written of it
+abbrev pub Ends : Status → List (List ℕ) → Option (List ℕ) → Option (List ℕ) → Option (List ℕ) → Option (List ℕ) → Type 0
+Ends Usage words left rest before after = choice words ≡ None
+Ends (Script line cause) words left rest before after = IsFaulty (record { line = line; cause = cause }) words left rest
+Ends (Trace line cause) words left rest before after = IsFaultyTrace (record { line = line; cause = cause }) words left rest
+Ends ReadFault words left rest before after = IsSomeAnd (choice words) (λ c. c.demo ≡ None)
+Ends TooLong words left rest before after = IsSomeAnd (choice words) (λ c. c.demo ≡ None)
+Ends NoMemory words left rest before after = Unit {0}
+Ends st words left rest before after = IsAnswered (IsWritten st before after) words left rest

@@ -10,6 +10,7 @@ pub mod Together
 pub mod Traces
 pub mod Status
 pub mod Run
-pub mod Ends
 pub mod Parts
+pub mod Sources
+pub mod Ends
 pub mod Codes

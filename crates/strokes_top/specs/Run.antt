@@ -1,18 +1,17 @@
 -- What a run reads and writes, whatever its words ask for.
 use Rattle.std.specs.Prelude.{◌≡◌, ℕ, ◌+◌, Bool, true, false, List, [], ◌++◌, Option, Some, None, IsSomeAnd}
-use Rattle.std.specs.Io.KnownBytes.{Appends}
-use Rattle.io_edge.specs.Told.{AppendsPrefix}
-use Rattle.doc_model.specs.Meaning.{some_refused}
-use Rattle.script_text.specs.Script.{Contents, meaning_of}
+use Rattle.script_text.specs.Script.{Contents}
 use Rattle.script_text.specs.Text.{text}
 use Rattle.demo_gen.specs.Demo.{demo}
 use Rattle.trace_out.specs.Traces.{IsTraceOf}
 use Rattle.strokes_top.specs.declared.choice.Emit.{Emit}
 use Rattle.strokes_top.specs.declared.choice.Emit.TheVariants.{Trace}
 use Rattle.strokes_top.specs.declared.choice.Choice.{Choice}
+use Rattle.strokes_top.specs.declared.status.Status.{Status}
 use Rattle.strokes_top.specs.Choice.{choice}
 use Rattle.strokes_top.specs.Output.{output}
 use Rattle.strokes_top.specs.Reading.{WasRead, Spells}
+use Rattle.strokes_top.specs.Written.{Writes}
 use Rattle.strokes_top.specs.Together.{IsDrawnBy}
 use Rattle.strokes_top.specs.Traces.{Replays}
 
@@ -31,18 +30,13 @@ abbrev pub IsWhole : Emit → Choice → Contents → List ℕ → Type 0
 IsWhole Trace asked drawn bytes = IsTraceOf drawn (asked.workers + 1) bytes
 IsWhole emit asked drawn bytes = bytes ≡ lead asked.artists drawn ++ output emit drawn
 
--- all of it was written, and whether some entry was refused
-pub record IsOutput (refusals : Bool) (before after : Option (List ℕ)) (asked : Choice) (s : Contents) : Type 0 where
+-- what was written of what was drawn of a script, by how the run ended
+pub record IsWritten (st : Status) (before after : Option (List ℕ)) (asked : Choice) (s : Contents) : Type 0 where
   pub drawn : Contents
   pub is_drawn : IsDrawn asked.artists s drawn
   pub bytes : List ℕ
   pub whole : IsWhole asked.emit asked drawn bytes
-  pub written : Appends before after bytes
-  pub refusals_are : some_refused (meaning_of drawn).outcomes ≡ refusals
-
--- the first of it was written
-abbrev pub IsBegun : Option (List ℕ) → Option (List ℕ) → Choice → Contents → Type 0
-IsBegun before after asked s = (drawn : Contents) × IsDrawn asked.artists s drawn × (bytes : List ℕ) × IsWhole asked.emit asked drawn bytes × AppendsPrefix before after bytes
+  pub writes : Writes st before after drawn bytes
 
 -- the bytes are a script without a fault, or where a trace is asked for one without a fault, and the script that they give has P
 abbrev pub Gives : Bool → (Contents → Type 0) → List ℕ → Type 0

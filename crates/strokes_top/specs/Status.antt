@@ -4,8 +4,8 @@ use Rattle.std.specs.Fmt.{decimal}
 use Rattle.strokes_top.specs.declared.status.Status.{Status}
 use Rattle.strokes_top.specs.declared.status.Status.TheVariants.{Done, DoneWithRefusals, Usage, Script, ReadFault, WriteFault, NoMemory, TooLong, Trace}
 use Rattle.script_lines.specs.Values.{text}
-use Rattle.trace_forms.specs.declared.line.TraceCause.{TraceCause}
-use Rattle.trace_forms.specs.declared.line.TraceCause.TheVariants.{BadLine, NotEnabled, Unsettled}
+use Rattle.trace_lines.specs.declared.line.TraceCause.{TraceCause}
+use Rattle.trace_lines.specs.declared.line.TraceCause.TheVariants.{BadLine, NotEnabled, Unsettled}
 
 -- what is wrong with a line of a trace
 abbrev pub trace_cause : TraceCause → List ℕ

@@ -2,8 +2,8 @@
 use Rattle.std.specs.Prelude.{◌≡◌, ℕ, ◌+◌, ◌≤◌, true, List, Option, Some, None, Ok, length, IsSomeAnd}
 use Rattle.machine_model.specs.State.{State}
 use Rattle.script_text.specs.Script.{Contents}
-use Rattle.trace_forms.specs.declared.line.TraceFault.{TraceFault}
-use Rattle.trace_forms.specs.Replay.{replay, trace_fault, script_in}
+use Rattle.trace_lines.specs.declared.line.TraceFault.{TraceFault}
+use Rattle.trace_lines.specs.Replay.{replay, trace_fault, script_in}
 use Rattle.trace_out.specs.Traces.{IsTraceOf}
 use Rattle.strokes_top.specs.declared.choice.Choice.{Choice}
 use Rattle.strokes_top.specs.declared.status.Status.{Status}

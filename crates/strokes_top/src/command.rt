@@ -5,14 +5,14 @@ ghost use Rattle.std.specs.Io.KnownBytes.{Keeps, Appends};
 ghost use Rattle.io_edge.specs.Told.{AppendsPrefix, Rose};
 ghost use Rattle.script_lines.specs.declared.cause.Cause.{Cause};
 ghost use Rattle.strokes_top.specs.Choice.{choice};
-ghost use Rattle.trace_forms.specs.declared.line.TraceCause.{TraceCause};
+ghost use Rattle.trace_lines.specs.declared.line.TraceCause.{TraceCause};
 ghost use Rattle.strokes_top.specs.Reading.{IsFaulty, asks_for_demo, limit_for, ConsumesMore, ConsumesAtMost, IsGivenScript};
 ghost use Rattle.strokes_top.specs.Written.{IsPainted};
 ghost use Rattle.strokes_top.specs.Together.{IsPaintedTogether};
 ghost use Rattle.strokes_top.specs.Traces.{IsTraced, IsReplayed, IsFaultyTrace, IsGivenTrace};
-ghost use Rattle.strokes_top.specs.Run.{IsAnswered, IsOutput, IsBegun};
 ghost use Rattle.strokes_top.specs.Status.{is_done, may_write, told_by};
-ghost use Rattle.strokes_top.specs.Ends.{is_painted};
+ghost use Rattle.strokes_top.specs.Sources.{ReadsUpTo, StaysAsItWas};
+ghost use Rattle.strokes_top.specs.Ends.{Ends, Paints, read_end};
 ghost use Rattle.doc_model.specs.Meaning.{some_refused as said_refused};
 
 use crate::asked::Asked;
@@ -48,12 +48,8 @@ fn paint<R: Threads + Wait + Sync, K: Sink, G: Gate>(
     out: &mut K,
     gate: &G,
 ) -> Status
-    ensures done { result ≡ Status.Done → IsOutput false (K.taken out.old) (K.taken out.new) asked.now.choice script }
-    ensures done_with_refusals { result ≡ Status.DoneWithRefusals → IsOutput true (K.taken out.old) (K.taken out.new) asked.now.choice script }
-    ensures begun { result ≡ Status.WriteFault → IsBegun (K.taken out.old) (K.taken out.new) asked.now.choice script }
+    ensures paints { Paints result (K.taken out.old) (K.taken out.new) asked.now.choice script }
     ensures write_fault { result ≡ Status.WriteFault → Rose (K.faults out.old) (K.faults out.new) }
-    ensures nothing { may_write result ≡ false → Keeps (K.taken out.old) (K.taken out.new) }
-    ensures statuses { is_painted result ≡ true }
     ensures later { K.faults out.old ≤ K.faults out.new }
 {
     let emit = asked.choice.emit;
@@ -82,23 +78,21 @@ fn answer<R: Threads + Wait + Sync, S: Source, K: Sink, G: Gate>(
     out: &mut K,
     gate: &G,
 ) -> Status
-    ensures done { result ≡ Status.Done → IsAnswered (IsOutput false (K.taken out.old) (K.taken out.new)) words.now (S.left source.old) (S.left source.new) }
-    ensures done_with_refusals { result ≡ Status.DoneWithRefusals → IsAnswered (IsOutput true (K.taken out.old) (K.taken out.new)) words.now (S.left source.old) (S.left source.new) }
-    ensures usage { result ≡ Status.Usage → choice words.now ≡ None }
-    ensures taken_words { result ≢ Status.Usage → result ≢ Status.NoMemory → is_some (choice words.now) ≡ true }
-    ensures script { (line : ℕ) (cause : Cause) → result ≡ Status.Script line cause → IsFaulty (record { line = line; cause = cause }) words.now (S.left source.old) (S.left source.new) }
-    ensures trace { (line : ℕ) (cause : TraceCause) → result ≡ Status.Trace line cause → IsFaultyTrace (record { line = line; cause = cause }) words.now (S.left source.old) (S.left source.new) }
-    ensures too_long_reads { result ≡ Status.TooLong → asks_for_demo words.now ≡ false }
-    ensures too_long { result ≡ Status.TooLong → ConsumesMore (limit_for words.now) CHUNK (S.left source.old) (S.left source.new) }
-    ensures within_limit { result ≢ Status.TooLong → ConsumesAtMost (limit_for words.now) (S.left source.old) (S.left source.new) }
-    ensures read_fault { result ≡ Status.ReadFault → Rose (S.faults source.old) (S.faults source.new) }
-    ensures write_fault { result ≡ Status.WriteFault → Rose (K.faults out.old) (K.faults out.new) }
-    ensures usage_reads_nothing { result ≡ Status.Usage → (S.left source.new ≡ S.left source.old) × (S.faults source.new ≡ S.faults source.old) }
-    ensures demo_reads_nothing { asks_for_demo words.now ≡ true → (S.left source.new ≡ S.left source.old) × (S.faults source.new ≡ S.faults source.old) }
-    ensures begun { result ≡ Status.WriteFault → IsAnswered (IsBegun (K.taken out.old) (K.taken out.new)) words.now (S.left source.old) (S.left source.new) }
+    // What was read, and what was written of it.
+    ensures ends { Ends result words.now (S.left source.old) (S.left source.new)
+        (K.taken out.old) (K.taken out.new) }
     ensures nothing { may_write result ≡ false → Keeps (K.taken out.old) (K.taken out.new) }
-    ensures source_count { S.faults source.old ≤ S.faults source.new }
-    ensures out_count { K.faults out.old ≤ K.faults out.new }
+
+    // How far the source was read.
+    ensures reads { ReadsUpTo (limit_for words.now) (S.left source.old) (S.left source.new)
+        (S.faults source.old) (S.faults source.new) (read_end result) }
+    ensures unread { (result ≡ Status.Usage) ⊎ (asks_for_demo words.now ≡ true) →
+        StaysAsItWas (S.left source.old) (S.left source.new)
+        (S.faults source.old) (S.faults source.new) }
+
+    // Which faults the sink has.
+    ensures write_fault { result ≡ Status.WriteFault → Rose (K.faults out.old) (K.faults out.new) }
+    ensures later { K.faults out.old ≤ K.faults out.new }
 {
     let asked = match choice_of(alloc, words) {
         Ok(asked) => asked,
@@ -107,7 +101,7 @@ fn answer<R: Threads + Wait + Sync, S: Source, K: Sink, G: Gate>(
     };
     match take_script(alloc, &asked.choice, source) {
         Ok(script) => paint(rt, alloc, &asked, script, out, gate),
-        Err(status) => status,
+        Err(error) => Status::from(error),
     }
 }
 

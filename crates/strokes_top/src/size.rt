@@ -5,11 +5,17 @@ use geom_core::Rect;
 use script_text::Script;
 
 /// How many jobs are few: the holds of a lock that they take are soon over.
-const FEW: u64 = 64;
+const FEW_JOBS: u64 = 64;
 
 /// With how many points to paint and to compose each job has to come, on average, so that several threads are
 /// quicker than one.
-const POINTS: u64 = 8_000;
+const POINTS_A_JOB: u64 = 8_000;
+
+/// How many points a side of a tile has.
+const TILE_SIDE: u64 = 64;
+
+/// How many points a tile has.
+const TILE_POINTS: u64 = 4_096;
 
 /// Whether several threads are to paint: there are few jobs, or several threads are probably quicker than one.
 pub(crate) fn is_for_many(script: &Script) -> bool {
@@ -21,17 +27,17 @@ pub(crate) fn is_for_many(script: &Script) -> bool {
         match command {
             Command::Add { job, .. } => {
                 jobs = jobs.saturating_add(1);
-                points = points.saturating_add(size(job));
+                points = points.saturating_add(points_of(job));
             }
             Command::Change(Change::Layer { .. }) => points = points.saturating_add(canvas),
             _ => {}
         }
     }
-    jobs <= FEW || points >= jobs.saturating_mul(POINTS)
+    jobs <= FEW_JOBS || points >= jobs.saturating_mul(POINTS_A_JOB)
 }
 
 /// How many points a job writes, or some more.
-fn size(job: &Job) -> u64 {
+fn points_of(job: &Job) -> u64 {
     match job {
         Job::Fill { rect, .. } => area(rect),
         Job::Dab { r, .. } => {
@@ -40,15 +46,15 @@ fn size(job: &Job) -> u64 {
         }
         Job::Move { rect, .. } => area(rect).saturating_mul(2),
         Job::Blur { rect, .. } => area(rect),
-        Job::Track { track, .. } => track_size(track),
+        Job::Track { track, .. } => track_points(track),
     }
 }
 
 /// How many points the dabs of a track paint in one tile, if it goes straight through it.
-fn track_size(track: &Track) -> u64 {
+fn track_points(track: &Track) -> u64 {
     let side = 2 * u64::from(track.stamp().r) + 1;
-    let dabs = (64 + side) / u64::from(track.gap()).max(1) + 1;
-    (side * side).min(4096) * dabs
+    let dabs = (TILE_SIDE + side) / u64::from(track.gap()).max(1) + 1;
+    (side * side).min(TILE_POINTS) * dabs
 }
 
 /// How many points a rectangle has.

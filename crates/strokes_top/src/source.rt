@@ -1,44 +1,108 @@
 //! Taking the script: what the source spells, as a script or as a trace, or a generated one.
 
-ghost use Rattle.std.specs.Prelude.{◌≡◌, ◌≢◌, ◌≤◌, ◌+◌, ℕ, true, false, None, Err, IfOk, IfErr, IsErrOf, is_some, length};
-ghost use Rattle.io_edge.specs.Told.{Rose};
-ghost use Rattle.script_lines.specs.declared.cause.Cause.{Cause};
-ghost use Rattle.trace_forms.specs.declared.line.TraceCause.{TraceCause};
-ghost use Rattle.strokes_top.specs.Reading.{WasRead, Spells, limit_of, ConsumesMore, ConsumesAtMost};
+ghost use Rattle.std.specs.Prelude.{◌≡◌, true, false, None, IfOk, IfErr, is_some, length};
+ghost use Rattle.strokes_top.specs.Reading.{WasRead, Spells, limit_of};
 ghost use Rattle.strokes_top.specs.Traces.{Replays};
 ghost use Rattle.strokes_top.specs.Run.{Gives, IsOf};
-ghost use Rattle.strokes_top.specs.Parts.{HasFault, HasTraceFault, IsRefused, IsRefusedTrace};
-ghost use Rattle.strokes_top.specs.Ends.{is_of_read, is_of_script, is_of_replay, is_of_trace, is_of_taking};
+ghost use Rattle.strokes_top.specs.Sources.{ReadsUpTo, StaysAsItWas, IsNoScript, error_of};
 
 use crate::choice::Choice;
 use crate::intake::Intake;
-use crate::status::Status;
-use crate::transfer::{CHUNK, LIMIT, TRACE_LIMIT, next_piece, skip_rest};
+use crate::transfer::{CHUNK, LIMIT, ReadError, TRACE_LIMIT, next_piece, skip_rest};
 use demo_gen::script_of;
+use geom_core::NoMemory;
 use io_edge::Source;
-use script_text::{ReadRefusal, Script};
-use std::alloc::Global;
-use trace_core::replay;
+use script_text::{ReadRefusal, Script, ScriptFault};
+use std::alloc::{AllocError, Global};
+use trace_core::{ReplayRefusal, TraceCause, replay};
+
+/// Why there is no script.
+#[derive(Clone, Copy)]
+pub(crate) enum SourceError {
+    /// The first bad line of the script's text, and its cause.
+    Script(ScriptFault),
+    /// The trace's first line that is refused, whose number counts from 1, and its cause.
+    Trace { line: u32, cause: TraceCause },
+    /// The source wasn't read to its end.
+    Read(ReadError),
+    /// Memory ran out.
+    NoMemory,
+}
+
+impl From<AllocError> for SourceError {
+    ghost use Rattle.strokes_top.specs.declared.source.SourceError.TheVariants as error;
+
+    ghost from_gives = { λ _ e. e ≡ error.NoMemory };
+
+    fn from(_: AllocError) -> SourceError {
+        SourceError::NoMemory
+    }
+}
+
+impl From<NoMemory> for SourceError {
+    ghost use Rattle.strokes_top.specs.declared.source.SourceError.TheVariants as error;
+
+    ghost from_gives = { λ _ e. e ≡ error.NoMemory };
+
+    fn from(_: NoMemory) -> SourceError {
+        SourceError::NoMemory
+    }
+}
+
+impl From<ReadError> for SourceError {
+    ghost use Rattle.strokes_top.specs.declared.source.SourceError.TheVariants as error;
+
+    ghost from_gives = { λ cause e. e ≡ error.Read cause };
+
+    fn from(error: ReadError) -> SourceError {
+        SourceError::Read(error)
+    }
+}
+
+impl From<ReadRefusal> for SourceError {
+    ghost use Rattle.strokes_top.specs.Sources.{of_refusal};
+
+    ghost from_gives = { λ refusal e. e ≡ of_refusal refusal };
+
+    fn from(refusal: ReadRefusal) -> SourceError {
+        match refusal {
+            ReadRefusal::Fault(fault) => SourceError::Script(fault),
+            ReadRefusal::NoMemory => SourceError::NoMemory,
+        }
+    }
+}
+
+impl From<ReplayRefusal> for SourceError {
+    ghost use Rattle.strokes_top.specs.Sources.{of_replay};
+
+    ghost from_gives = { λ refusal e. e ≡ of_replay refusal };
+
+    fn from(refusal: ReplayRefusal) -> SourceError {
+        match refusal {
+            ReplayRefusal::Fault { line, cause } => SourceError::Trace { line, cause },
+            ReplayRefusal::NoMemory => SourceError::NoMemory,
+        }
+    }
+}
 
 /// Reads the script that the source spells, while it comes in, by pieces of at most what the chunk has
 /// room for. Where a line has a fault the source is still read to its end, since a longer one is no
 /// script whatever its lines say.
 ///
 /// # Errors
-/// The status of a run that has no script.
-fn read_script<S: Source>(alloc: Global, source: &mut S, chunk: &mut [u8]) -> Result<Script, Status>
+/// `Script` where the text is no script, `Read` where it wasn't read to its end, and `NoMemory`.
+fn read_script<S: Source>(
+    alloc: Global,
+    source: &mut S,
+    chunk: &mut [u8],
+) -> Result<Script, SourceError>
     requires { length chunk.old ≡ CHUNK }
     ensures ok { IfOk result (λ s. WasRead (S.left source.old) (S.left source.new) (Spells (λ t. t ≡ s))) }
-    ensures script { (line : ℕ) (cause : Cause) → IsErrOf result (Status.Script line cause) → WasRead (S.left source.old) (S.left source.new) (HasFault (record { line = line; cause = cause })) }
-    ensures too_long { IsErrOf result Status.TooLong → ConsumesMore LIMIT CHUNK (S.left source.old) (S.left source.new) }
-    ensures within_limit { result ≢ Err Status.TooLong → ConsumesAtMost LIMIT (S.left source.old) (S.left source.new) }
-    ensures read_fault { IsErrOf result Status.ReadFault → Rose (S.faults source.old) (S.faults source.new) }
-    ensures later { S.faults source.old ≤ S.faults source.new }
-    ensures statuses { IfErr result (λ status. is_of_script status ≡ true) }
+    ensures err { IfErr result (IsNoScript None false (S.left source.old) (S.left source.new)) }
+    ensures reads { ReadsUpTo LIMIT (S.left source.old) (S.left source.new)
+        (S.faults source.old) (S.faults source.new) (error_of result) }
 {
-    let Ok(mut intake) = Intake::new(alloc) else {
-        return Err(Status::NoMemory);
-    };
+    let mut intake = Intake::new(alloc)?;
     let mut count = 0;
     loop {
         let n = next_piece(source, chunk, count, LIMIT)?;
@@ -49,143 +113,89 @@ fn read_script<S: Source>(alloc: Global, source: &mut S, chunk: &mut [u8]) -> Re
         count += n;
         intake = match intake.take(&chunk[..n]) {
             Ok(more) => more,
-            Err(ReadRefusal::NoMemory) => return Err(Status::NoMemory),
+            Err(ReadRefusal::NoMemory) => return Err(SourceError::NoMemory),
             Err(ReadRefusal::Fault(fault)) => {
                 skip_rest(source, chunk, count)?;
-                return Err(Status::of_fault(fault));
+                return Err(SourceError::Script(fault));
             }
         };
     }
 }
 
-/// The same with a chunk of its own, which stands in a block of memory: it is too large for the stack.
+/// Reads the trace that the source spells, by pieces of at most what the chunk has room for, and when all of it
+/// is there checks it. The script is that of its commands.
 ///
 /// # Errors
-/// The status of a run that has no script.
-fn read_source<S: Source>(alloc: Global, source: &mut S) -> Result<Script, Status>
-    ensures ok { IfOk result (λ s. WasRead (S.left source.old) (S.left source.new) (Spells (λ t. t ≡ s))) }
-    ensures script { (line : ℕ) (cause : Cause) → IsErrOf result (Status.Script line cause) → WasRead (S.left source.old) (S.left source.new) (HasFault (record { line = line; cause = cause })) }
-    ensures too_long { IsErrOf result Status.TooLong → ConsumesMore LIMIT CHUNK (S.left source.old) (S.left source.new) }
-    ensures within_limit { result ≢ Err Status.TooLong → ConsumesAtMost LIMIT (S.left source.old) (S.left source.new) }
-    ensures read_fault { IsErrOf result Status.ReadFault → Rose (S.faults source.old) (S.faults source.new) }
-    ensures later { S.faults source.old ≤ S.faults source.new }
-    ensures statuses { IfErr result (λ status. is_of_script status ≡ true) }
-{
-    let Ok(mut chunk) = vec![in alloc; 0u8; CHUNK] else {
-        return Err(Status::NoMemory);
-    };
-    read_script(alloc, source, &mut chunk)
-}
-
-/// Reads all bytes of the source, of which a trace may have so many, by pieces of at most what the chunk has
-/// room for.
-///
-/// # Errors
-/// The status of a run that has no script.
-fn read_all<S: Source>(alloc: Global, source: &mut S, chunk: &mut [u8]) -> Result<Vec<u8>, Status>
+/// `Trace` where a line is refused, `Read` where the source wasn't read to its end, and `NoMemory`.
+fn read_trace<S: Source>(
+    alloc: Global,
+    source: &mut S,
+    chunk: &mut [u8],
+) -> Result<Script, SourceError>
     requires { length chunk.old ≡ CHUNK }
-    ensures ok { IfOk result (λ v. WasRead (S.left source.old) (S.left source.new) (λ bytes. bytes ≡ v.items)) }
-    ensures few { IfOk result (λ v. length v.items ≤ TRACE_LIMIT) }
-    ensures too_long { IsErrOf result Status.TooLong → ConsumesMore TRACE_LIMIT CHUNK (S.left source.old) (S.left source.new) }
-    ensures within_limit { result ≢ Err Status.TooLong → ConsumesAtMost TRACE_LIMIT (S.left source.old) (S.left source.new) }
-    ensures read_fault { IsErrOf result Status.ReadFault → Rose (S.faults source.old) (S.faults source.new) }
-    ensures later { S.faults source.old ≤ S.faults source.new }
-    ensures statuses { IfErr result (λ status. is_of_read status ≡ true) }
+    ensures ok { IfOk result (λ s. WasRead (S.left source.old) (S.left source.new) (Replays (λ t. t ≡ s))) }
+    ensures err { IfErr result (IsNoScript None true (S.left source.old) (S.left source.new)) }
+    ensures reads { ReadsUpTo TRACE_LIMIT (S.left source.old) (S.left source.new)
+        (S.faults source.old) (S.faults source.new) (error_of result) }
 {
     let mut bytes = Vec::new(alloc);
     loop {
         let n = next_piece(source, chunk, bytes.len(), TRACE_LIMIT)?;
         if n == 0 {
-            return Ok(bytes);
+            let replayed = replay(alloc, &bytes)?;
+            return Ok(replayed.into_script());
         }
-        let Ok(()) = bytes.extend_from_slice(&chunk[..n]) else {
-            return Err(Status::NoMemory);
-        };
+        bytes.extend_from_slice(&chunk[..n])?;
     }
 }
 
-/// The script of a trace.
+/// The script that the source spells, as a script's text or as a trace. The source is read to its end, by pieces
+/// that stand in a block of memory: they are too large for the stack.
 ///
 /// # Errors
-/// `Trace`, for the first line that is refused, and `NoMemory`.
-fn replayed(alloc: Global, bytes: &[u8]) -> Result<Script, Status>
-    requires { length bytes.now ≤ TRACE_LIMIT }
-    ensures ok { IfOk result (λ s. Replays (λ t. t ≡ s) bytes.now) }
-    ensures trace { (line : ℕ) (cause : TraceCause) → IsErrOf result (Status.Trace line cause) → HasTraceFault (record { line = line; cause = cause }) bytes.now }
-    ensures statuses { IfErr result (λ status. is_of_replay status ≡ true) }
-{
-    let replayed = replay(alloc, bytes)?;
-    Ok(replayed.into_script())
-}
-
-/// The script of the trace that the source spells, which is read to its end before it is checked.
-///
-/// # Errors
-/// The status of a run that has no script.
-fn read_trace<S: Source>(alloc: Global, source: &mut S) -> Result<Script, Status>
-    ensures ok { IfOk result (λ s. WasRead (S.left source.old) (S.left source.new) (Replays (λ t. t ≡ s))) }
-    ensures trace { (line : ℕ) (cause : TraceCause) → IsErrOf result (Status.Trace line cause) → WasRead (S.left source.old) (S.left source.new) (HasTraceFault (record { line = line; cause = cause })) }
-    ensures too_long { IsErrOf result Status.TooLong → ConsumesMore TRACE_LIMIT CHUNK (S.left source.old) (S.left source.new) }
-    ensures within_limit { result ≢ Err Status.TooLong → ConsumesAtMost TRACE_LIMIT (S.left source.old) (S.left source.new) }
-    ensures read_fault { IsErrOf result Status.ReadFault → Rose (S.faults source.old) (S.faults source.new) }
-    ensures later { S.faults source.old ≤ S.faults source.new }
-    ensures statuses { IfErr result (λ status. is_of_trace status ≡ true) }
-{
-    let Ok(mut chunk) = vec![in alloc; 0u8; CHUNK] else {
-        return Err(Status::NoMemory);
-    };
-    let bytes = read_all(alloc, source, &mut chunk)?;
-    replayed(alloc, &bytes)
-}
-
-/// The script that the source spells, as a script or as a trace. The source is read to its end.
-///
-/// # Errors
-/// The status of a run that has no script.
-fn read_given<S: Source>(alloc: Global, replays: bool, source: &mut S) -> Result<Script, Status>
+/// As of `read_trace` where a trace is read, and else as of `read_script`.
+fn read_given<S: Source>(
+    alloc: Global,
+    replays: bool,
+    source: &mut S,
+) -> Result<Script, SourceError>
     ensures ok { IfOk result (λ s. WasRead (S.left source.old) (S.left source.new) (Gives replays (λ t. t ≡ s))) }
-    ensures script { (line : ℕ) (cause : Cause) → IsErrOf result (Status.Script line cause) → (replays ≡ false) × WasRead (S.left source.old) (S.left source.new) (HasFault (record { line = line; cause = cause })) }
-    ensures trace { (line : ℕ) (cause : TraceCause) → IsErrOf result (Status.Trace line cause) → IsRefusedTrace (record { line = line; cause = cause }) replays (S.left source.old) (S.left source.new) }
-    ensures too_long { IsErrOf result Status.TooLong → ConsumesMore (limit_of replays) CHUNK (S.left source.old) (S.left source.new) }
-    ensures within_limit { result ≢ Err Status.TooLong → ConsumesAtMost (limit_of replays) (S.left source.old) (S.left source.new) }
-    ensures read_fault { IsErrOf result Status.ReadFault → Rose (S.faults source.old) (S.faults source.new) }
-    ensures later { S.faults source.old ≤ S.faults source.new }
-    ensures statuses { IfErr result (λ status. is_of_taking status ≡ true) }
+    ensures err { IfErr result (IsNoScript None replays (S.left source.old) (S.left source.new)) }
+    ensures reads { ReadsUpTo (limit_of replays) (S.left source.old) (S.left source.new)
+        (S.faults source.old) (S.faults source.new) (error_of result) }
 {
+    let mut chunk = vec![in alloc; 0u8; CHUNK]?;
     if replays {
-        read_trace(alloc, source)
+        read_trace(alloc, source, &mut chunk)
     } else {
-        read_source(alloc, source)
+        read_script(alloc, source, &mut chunk)
     }
 }
 
 /// The generated script of the number that is asked for, or where there is none the script that the source
-/// spells, as a script or as a trace.
+/// spells, as a script's text or as a trace.
 ///
 /// # Errors
-/// The status of a run that has no script.
+/// As of `read_given`; `NoMemory` alone where the script is generated.
 pub(crate) fn take_script<S: Source>(
     alloc: Global,
     choice: &Choice,
     source: &mut S,
-) -> Result<Script, Status>
-    ensures ok { IfOk result (λ s. IsOf (λ t. t ≡ s) choice.now.demo choice.now.replay (S.left source.old) (S.left source.new)) }
-    ensures script { (line : ℕ) (cause : Cause) → IsErrOf result (Status.Script line cause) → IsRefused (record { line = line; cause = cause }) choice.now.demo choice.now.replay (S.left source.old) (S.left source.new) }
-    ensures trace { (line : ℕ) (cause : TraceCause) → IsErrOf result (Status.Trace line cause) → IsRefusedTrace (record { line = line; cause = cause }) choice.now.replay (S.left source.old) (S.left source.new) }
-    ensures too_long_reads { IsErrOf result Status.TooLong → choice.now.demo ≡ None }
-    ensures too_long { IsErrOf result Status.TooLong → ConsumesMore (limit_of choice.now.replay) CHUNK (S.left source.old) (S.left source.new) }
-    ensures within_limit { result ≢ Err Status.TooLong → ConsumesAtMost (limit_of choice.now.replay) (S.left source.old) (S.left source.new) }
-    ensures read_fault { IsErrOf result Status.ReadFault → Rose (S.faults source.old) (S.faults source.new) }
-    ensures later { S.faults source.old ≤ S.faults source.new }
-    ensures statuses { IfErr result (λ status. is_of_taking status ≡ true) }
-    ensures left { is_some choice.now.demo ≡ true → S.left source.new ≡ S.left source.old }
-    ensures faults { is_some choice.now.demo ≡ true → S.faults source.new ≡ S.faults source.old }
+) -> Result<Script, SourceError>
+    ensures ok { IfOk result (λ s. IsOf (λ t. t ≡ s) choice.now.demo choice.now.replay
+        (S.left source.old) (S.left source.new)) }
+    ensures err { IfErr result (IsNoScript choice.now.demo choice.now.replay
+        (S.left source.old) (S.left source.new)) }
+    ensures reads { ReadsUpTo (limit_of choice.now.replay) (S.left source.old) (S.left source.new)
+        (S.faults source.old) (S.faults source.new) (error_of result) }
+    ensures demo { is_some choice.now.demo ≡ true → StaysAsItWas (S.left source.old) (S.left source.new)
+        (S.faults source.old) (S.faults source.new) }
 {
     match choice.demo {
-        Some(number) => match script_of(alloc, number) {
-            Ok(script) => Ok(script),
-            Err(_) => Err(Status::NoMemory),
-        },
+        Some(number) => {
+            let script = script_of(alloc, number)?;
+            Ok(script)
+        }
         None => read_given(alloc, choice.replay, source),
     }
 }

@@ -2,9 +2,10 @@
 
 ghost use Rattle.std.specs.Prelude.{◌≡◌};
 
+use crate::source::SourceError;
 use crate::transfer::ReadError;
-use script_text::{Cause, ReadRefusal, ScriptFault};
-use trace_core::{ReplayRefusal, TraceCause};
+use script_text::Cause;
+use trace_core::TraceCause;
 
 /// How a run ended.
 #[derive(Clone, Copy, Debug, PartialEq, Eq)]
@@ -32,16 +33,6 @@ pub enum Status {
 impl Status {
     ghost use Rattle.strokes_top.specs.Codes.{code_of};
 
-    /// That of a script with that fault.
-    pub(crate) fn of_fault(fault: ScriptFault) -> Status
-        ensures { result ≡ Status.Script fault.line fault.cause }
-    {
-        Status::Script {
-            line: fault.line,
-            cause: fault.cause,
-        }
-    }
-
     /// The program's exit status.
     pub fn code(self) -> u8
         ensures { result ≡ code_of self }
@@ -60,41 +51,21 @@ impl Status {
     }
 }
 
-impl From<ReadError> for Status {
-    ghost use Rattle.strokes_top.specs.Ends.{of_read};
+impl From<SourceError> for Status {
+    ghost use Rattle.strokes_top.specs.Sources.{of_source};
 
-    ghost from_gives = { λ error status. status ≡ of_read error };
+    ghost from_gives = { λ error status. status ≡ of_source error };
 
-    fn from(error: ReadError) -> Status {
+    fn from(error: SourceError) -> Status {
         match error {
-            ReadError::Failed => Status::ReadFault,
-            ReadError::TooLong => Status::TooLong,
-        }
-    }
-}
-
-impl From<ReadRefusal> for Status {
-    ghost use Rattle.strokes_top.specs.Ends.{of_refusal};
-
-    ghost from_gives = { λ refusal status. status ≡ of_refusal refusal };
-
-    fn from(refusal: ReadRefusal) -> Status {
-        match refusal {
-            ReadRefusal::Fault(fault) => Status::of_fault(fault),
-            ReadRefusal::NoMemory => Status::NoMemory,
-        }
-    }
-}
-
-impl From<ReplayRefusal> for Status {
-    ghost use Rattle.strokes_top.specs.Ends.{of_replay};
-
-    ghost from_gives = { λ refusal status. status ≡ of_replay refusal };
-
-    fn from(refusal: ReplayRefusal) -> Status {
-        match refusal {
-            ReplayRefusal::Fault { line, cause } => Status::Trace { line, cause },
-            ReplayRefusal::NoMemory => Status::NoMemory,
+            SourceError::Script(fault) => Status::Script {
+                line: fault.line,
+                cause: fault.cause,
+            },
+            SourceError::Trace { line, cause } => Status::Trace { line, cause },
+            SourceError::Read(ReadError::Failed) => Status::ReadFault,
+            SourceError::Read(ReadError::TooLong) => Status::TooLong,
+            SourceError::NoMemory => Status::NoMemory,
         }
     }
 }

@@ -1,9 +1,9 @@
 //! Reading a source piece by piece, as far as the limit.
 
-ghost use Rattle.std.specs.Prelude.{◌≡◌, ◌≢◌, ◌+◌, ◌-◌, ◌≤◌, length, take, Ok, Err, IfOk, OnOk, IsErrOf};
+ghost use Rattle.std.specs.Prelude.{◌≡◌, ◌+◌, ◌-◌, ◌≤◌, length, take, Ok, IfOk, OnOk};
+ghost use Rattle.std.specs.Result.{result_err};
 ghost use Rattle.std.specs.Io.KnownBytes.{Consumes, IsAtEnd};
-ghost use Rattle.io_edge.specs.Told.{Rose};
-ghost use Rattle.strokes_top.specs.Reading.{ConsumesMore, ConsumesAtMost};
+ghost use Rattle.strokes_top.specs.Sources.{ReadsUpTo};
 
 use io_edge::{Failed, Source};
 
@@ -27,6 +27,9 @@ pub enum ReadError {
 
 /// Reads the next bytes into the front of the chunk, where `count` were read before, and says how
 /// many: 0 only at the end. There may be `limit` in all.
+///
+/// # Errors
+/// `Failed` only where the source's count of faults rose, and `TooLong` only where there are more bytes.
 pub fn next_piece<S: Source>(
     source: &mut S,
     chunk: &mut [u8],
@@ -39,10 +42,8 @@ pub fn next_piece<S: Source>(
     ensures bound { IfOk result (λ n. n ≤ length chunk.new) }
     ensures short { IfOk result (λ n. count + n ≤ limit) }
     ensures to_the_end { result ≡ Ok 0 → IsAtEnd (S.left source.new) }
-    ensures too_long { IsErrOf result ReadError.TooLong → ConsumesMore (limit - count) CHUNK (S.left source.old) (S.left source.new) }
-    ensures within_limit { result ≢ Err ReadError.TooLong → ConsumesAtMost (limit - count) (S.left source.old) (S.left source.new) }
-    ensures failed { IsErrOf result ReadError.Failed → Rose (S.faults source.old) (S.faults source.new) }
-    ensures later { S.faults source.old ≤ S.faults source.new }
+    ensures reads { ReadsUpTo (limit - count) (S.left source.old) (S.left source.new)
+        (S.faults source.old) (S.faults source.new) (result_err result) }
 {
     match source.read(chunk) {
         Ok(n) if n > limit - count => Err(ReadError::TooLong),
@@ -52,6 +53,9 @@ pub fn next_piece<S: Source>(
 }
 
 /// Reads the source to its end, where `count` bytes were read before, and lets the bytes go.
+///
+/// # Errors
+/// As of `next_piece`.
 pub fn skip_rest<S: Source>(
     source: &mut S,
     chunk: &mut [u8],
@@ -60,10 +64,8 @@ pub fn skip_rest<S: Source>(
     requires room { length chunk.old ≡ CHUNK }
     requires count { count ≤ LIMIT }
     ensures to_the_end { OnOk result (IsAtEnd (S.left source.new)) }
-    ensures too_long { IsErrOf result ReadError.TooLong → ConsumesMore (LIMIT - count) CHUNK (S.left source.old) (S.left source.new) }
-    ensures within_limit { result ≢ Err ReadError.TooLong → ConsumesAtMost (LIMIT - count) (S.left source.old) (S.left source.new) }
-    ensures failed { IsErrOf result ReadError.Failed → Rose (S.faults source.old) (S.faults source.new) }
-    ensures later { S.faults source.old ≤ S.faults source.new }
+    ensures reads { ReadsUpTo (LIMIT - count) (S.left source.old) (S.left source.new)
+        (S.faults source.old) (S.faults source.new) (result_err result) }
 {
     loop {
         let n = next_piece(source, chunk, count, LIMIT)?;

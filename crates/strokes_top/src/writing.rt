@@ -1,10 +1,12 @@
 //! Writing what is asked for of a painted script.
 
-ghost use Rattle.std.specs.Prelude.{◌≡◌, ◌≤◌, ◌++◌, IfOk, OnOk, OnErr, length};
+ghost use Rattle.std.specs.Prelude.{◌≤◌, ◌++◌, min, max, IfOk, OnOk, OnErr, length};
+ghost use Rattle.std.specs.List.{flat_map};
 ghost use Rattle.std.specs.Io.KnownBytes.{Appends};
 ghost use Rattle.io_edge.specs.Told.{AppendsPrefix};
 ghost use Rattle.io_edge.specs.Faults.{HasCause};
-ghost use Rattle.strokes_top.specs.Room.{HasRoom, ShowsFor, rows_at_once as said_rows};
+ghost use Rattle.ppm_out.specs.Scenes.{scene_bytes};
+ghost use Rattle.strokes_top.specs.Room.{ArePictures, HasRoom, ShowsFor, Suffices, rows_at_once as said_rows};
 ghost use Rattle.strokes_top.specs.Output.{output};
 
 use crate::choice::Emit;
@@ -17,22 +19,51 @@ use ppm_out::{write_frame_by, write_frames_by};
 use script_text::Script;
 use std::alloc::{AllocError, Global};
 use std::thread::Threads;
-use tile_core::Film;
+use tile_core::{Film, Frame};
 
-/// How many of the rows of a film's pictures are laid before they are written: all of them where a later
-/// picture follows from the one before, and otherwise those of one row of tiles for each thread.
-fn rows_at_once(film: &Film, rows: u16, threads: u8) -> u16
-    ensures { said_rows (length film.now) rows ≤ result }
+/// The pictures that a film has.
+#[derive(Clone, Copy)]
+enum Pictures<'f> {
+    /// None.
+    None,
+    /// One alone.
+    One(&'f Frame),
+    /// Several: a later one follows from the one before.
+    Series(&'f Film),
+}
+
+/// The pictures of a film.
+fn pictures_of(film: &Film) -> Pictures<'_>
+    ensures { ArePictures result film.now }
 {
-    if film.frames().len() > 1 {
-        rows
-    } else {
-        rows.clamp(1, 64 * u16::from(threads.max(1)))
+    match film.frames() {
+        [] => Pictures::None,
+        [frame] => Pictures::One(frame),
+        _ => Pictures::Series(film),
+    }
+}
+
+/// How many rows of a picture that goes out by bands are laid at once: those of one row of tiles for each thread.
+fn band_rows(rows: u16, threads: u8) -> u16
+    ensures { max 1 (min rows 64) ≤ result }
+{
+    rows.clamp(1, 64 * u16::from(threads.max(1)))
+}
+
+/// How many of the rows of a film's pictures are laid before they are written: all of one of them where there
+/// are several, and a band of them where there is one alone.
+fn rows_at_once(film: &Film, rows: u16, threads: u8) -> u16
+    ensures { said_rows film.now rows ≤ result }
+{
+    match pictures_of(film) {
+        Pictures::None => 0,
+        Pictures::One(_) => band_rows(rows, threads),
+        Pictures::Series(_) => rows,
     }
 }
 
 /// Room for what has to be kept while the output is written: for several pictures the colours of one of
-/// them, and for a single one those of a band of its rows for each thread.
+/// them, for a single one those of a band of its rows for each thread, and else none.
 pub(crate) fn room_for(
     alloc: Global,
     emit: Emit,
@@ -46,6 +77,29 @@ pub(crate) fn room_for(
     match emit {
         Emit::Picture | Emit::Live => vec![in alloc; 0; colours],
         Emit::Log | Emit::Sum | Emit::Trace => Ok(Vec::new(alloc)),
+    }
+}
+
+/// Writes the pictures of a film, with that room. Their rows are laid by at most so many threads.
+///
+/// # Errors
+/// `Failed` only where the sink's count of faults rose. The sink then took the first of the bytes.
+fn write_pictures<R: Threads + Sync, K: Sink>(
+    rt: &R,
+    threads: u8,
+    film: &Film,
+    room: &mut [u8],
+    out: &mut K,
+) -> Result<(), Failed>
+    requires room { Suffices film.now (length room.old) }
+    ensures ok { OnOk result (Appends (K.taken out.old) (K.taken out.new) (flat_map scene_bytes film.now)) }
+    ensures err { OnErr result (AppendsPrefix (K.taken out.old) (K.taken out.new) (flat_map scene_bytes film.now)) }
+    ensures cause { HasCause (K.faults out.old) (K.faults out.new) result }
+{
+    match pictures_of(film) {
+        Pictures::None => Ok(()),
+        Pictures::One(frame) => write_frame_by(rt, threads, frame, room, out),
+        Pictures::Series(film) => write_frames_by(rt, threads, film, room, out),
     }
 }
 
@@ -70,10 +124,7 @@ fn write_output<R: Threads + Sync, K: Sink>(
     ensures cause { HasCause (K.faults out.old) (K.faults out.new) result }
 {
     match emit {
-        Emit::Picture | Emit::Live => match shown.film.frames() {
-            [frame] => write_frame_by(rt, threads, frame, room, out),
-            _ => write_frames_by(rt, threads, &shown.film, room, out),
-        },
+        Emit::Picture | Emit::Live => write_pictures(rt, threads, &shown.film, room, out),
         Emit::Log => write_log(script, &shown.outcomes, out),
         Emit::Sum => write_sum(shown.film.frames(), &shown.outcomes, out),
         Emit::Trace => Ok(()),

@@ -11,7 +11,7 @@ use Rattle.geom_core.specs.Areas.{Area, area, right, bottom, meets, lies_in, poi
 use Rattle.geom_core.specs.Overlaps.{bound, common, clipped, length_between}
 use Rattle.geom_core.specs.Rects.{IsWithin}
 use Rattle.geom_core.specs.Grid.{Key, key, same_key, tile, keys_of, floor_by, how_many}
-use Rattle.geom_core.proofs.Tests.{and_left, and_right, both_true, taken}
+use Rattle.geom_core.proofs.Tests.{and_left, and_right, both_true, taken, and-false}
 use Rattle.geom_core.proofs.Tiles.{own_tile, key_same, key_is}
 use Rattle.geom_core.proofs.Keys.{any_key_in_rows, any_count}
 use Rattle.geom_core.proofs.Lying.{bound_lies, common_lies_left, common_lies_right, lies_trans}
@@ -209,11 +209,6 @@ all_parts whole old new e f h k = h k ∙ ap (λ g. cond (on_canvas k) (grown (p
 pub none_fit : FitTiles intact
 none_fit k a e = cc (none_intact k)
 
--- one part is another
-and_false : (b : Bool) → (b && false) ≡ false
-and_false true = refl
-and_false false = refl
-
 placed_once : (a b c d : ℤ) (i : ℕ) → place_at a b ≡ Some i → place_at c d ≡ Some i → (a ≡ c) × (b ≡ d)
 placed_once (pos a) (pos b) (pos c) (pos d) i e f = grind arith
 placed_once (pos a) (pos b) (pos c) (negsuc d) i e f = cc
@@ -228,7 +223,7 @@ pub part_set : (parts : Parts) (m : Key) (place : ℕ) (x : Option Area) → Som
 part_set parts m place x e l k = go (place_at k.col k.row) refl (same_key k m) refl
   where
     go : (p : Option ℕ) → place_at k.col k.row ≡ p → (s : Bool) → same_key k m ≡ s → part_in (set parts place x) p ≡ cond (s && is_some p) x (part_in parts p)
-    go None f s h = ap (λ b. cond b x None) (sym (and_false s))
+    go None f s h = ap (λ b. cond b x None) (sym (and-false s))
     go (Some i) f true h = ap (λ j. get_or (set parts place x) j None) (at_place (sym f ∙ ap (λ (q : Key). place_at q.col q.row) (key_same k m h) ∙ sym e)) ∙ get_or-set_same parts place x None l
       where
         at_place : {i j : ℕ} → Some i ≡ Some j → i ≡ j

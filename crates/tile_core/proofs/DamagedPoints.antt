@@ -10,12 +10,8 @@ use Rattle.geom_core.proofs.Tiles.{own_tile}
 use Rattle.geom_core.proofs.Common.{Sized, common_held, meets_held}
 use Rattle.geom_core.proofs.Bounds.{bound_first, bound_second}
 use Rattle.tile_core.specs.Marks.{on_canvas}
-use Rattle.tile_core.specs.Damage.{Parts, part_at, part_has, is_damaged, grown, intact}
+use Rattle.tile_core.specs.Damage.{Parts, Adds, part_at, part_has, is_damaged, grown, intact}
 use Rattle.tile_core.proofs.DamagedParts.{none_intact, no_part}
-
--- the rectangle's points on the largest canvas are damaged too
-abbrev pub Adds : Area → Parts → Parts → Type 0
-Adds a old new = (k : Key) → part_at new k ≡ cond (on_canvas k) (grown (part_at old k) (clipped a (tile k))) None
 
 -- what grows keeps the points of both
 pub grown_first : (o c : Option Area) (p : Point) → part_has o p ≡ true → part_has (grown o c) p ≡ true

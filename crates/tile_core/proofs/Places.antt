@@ -1,5 +1,5 @@
 -- Points of a rectangle and their places in row order.
-use Rattle.std.proofs.Common.{◌≡◌, ℕ, ◌+◌, ◌*◌, ◌<◌, Bool, true, false, ◌&&◌, cond, List, length, get_or, refl, sym, ap, ◌∙◌, arith, ◌⊎◌, inl, inr}
+use Rattle.std.proofs.Common.{◌≡◌, ℕ, ◌+◌, ◌*◌, ◌<◌, true, false, ◌&&◌, cond, List, length, get_or, refl, sym, ap, ◌∙◌, arith, ◌⊎◌, inl, inr}
 use Rattle.std.proofs.Math.ListN.{set}
 use Rattle.std.specs.Prelude.{ℤ, pos, ◌+ℤ◌, ◌-ℤ◌, int_le, int_lt, nat_abs}
 use Rattle.std.specs.Ordering.{int_eq}
@@ -8,16 +8,11 @@ use Rattle.pixel_core.specs.Rgba.{Rgba, clear}
 use Rattle.geom_core.specs.Areas.{Area, holds, Point, point}
 use Rattle.geom_core.specs.Same.{same_point}
 use Rattle.geom_core.specs.Rects.{place_in}
+use Rattle.geom_core.proofs.Tests.{and_left, and_right, true_or_false}
 use Rattle.std.proofs.lemmas.List.{get_or-set_same, get_or-set_other}
 use Rattle.std.proofs.Common.{subst}
 use Rattle.tile_core.specs.Blocks.{Piece, piece, IsPiece, SetsAt}
 use Rattle.tile_core.proofs.LaidRows.{next_fits}
-
-and_left : (a b : Bool) → (a && b) ≡ true → a ≡ true
-and_left a b e = grind arith
-
-and_right : (a b : Bool) → (a && b) ≡ true → b ≡ true
-and_right a b e = grind arith
 
 step_small : (a x : ℤ) (n : ℕ) → (int_le a x && int_lt x (a +ℤ pos n)) ≡ true → nat_abs (x -ℤ a) < n
 step_small a x n h = grind (arith, ints)
@@ -56,10 +51,6 @@ place_same a p q h k e =
     let r : nat_abs (p.y -ℤ a.y) ≡ nat_abs (q.y -ℤ a.y) = row_same a.w _ _ _ _ (step_small a.x p.x a.w hx) (step_small a.x q.x a.w kx) e in
     point_same p q (step_same a.x p.x q.x a.w hx kx (col_same a.w _ _ _ _ r e)) (step_same a.y p.y q.y a.h hy ky r)
 
-test_cases : (b : Bool) → (b ≡ true) ⊎ (b ≡ false)
-test_cases true = inl refl
-test_cases false = inr refl
-
 same_point-same : (p q : Point) → same_point p q ≡ true → p ≡ q
 same_point-same p q t = let u : (int_eq p.x q.x && int_eq p.y q.y) ≡ true = sym (same_point-parts p q) ∙ t in point_same p q (int_same _ _ (and_left _ _ u)) (int_same _ _ (and_right _ _ u))
   where
@@ -68,7 +59,7 @@ same_point-same p q t = let u : (int_eq p.x q.x && int_eq p.y q.y) ≡ true = sy
 
 pub sets_at : (a : Area) (ps : List Rgba) (q : Point) (c : Rgba) (p : Point) → holds a q ≡ true → holds a p ≡ true → place_in a q < length ps
     → get_or (set ps (place_in a q) c) (place_in a p) clear ≡ cond (same_point p q) c (get_or ps (place_in a p) clear)
-sets_at a ps q c p hq hp small = elim (test_cases (same_point p q)) [
+sets_at a ps q c p hq hp small = elim (true_or_false (same_point p q)) [
   | inl t ↦ let e : p ≡ q = same_point-same p q t in rw t (rw e (get_or-set_same ps (place_in a q) c clear small))
   | inr f ↦ rw f (get_or-set_other ps (place_in a q) (place_in a p) c clear (λ e. let u : same_point p q ≡ true = rw (place_same a p q hp hq e) (same_point-refl q) in
       let v : true ≡ false = sym u ∙ f in cc))

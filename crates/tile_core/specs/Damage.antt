@@ -1,10 +1,10 @@
 -- Damaged parts of the tiles of a canvas.
-use Rattle.std.specs.Prelude.{◌≡◌, ℕ, Bool, false, Option, Some, None, List, slice_index_or, replicate}
+use Rattle.std.specs.Prelude.{◌≡◌, ℕ, Bool, false, ◌&&◌, if◌then◌else◌, Option, Some, None, List, slice_index_or, replicate}
 use Rattle.geom_core.specs.Areas.{Area, holds, lies_in, Point}
-use Rattle.geom_core.specs.Overlaps.{bound}
+use Rattle.geom_core.specs.Overlaps.{bound, clipped}
 use Rattle.geom_core.specs.Rects.{IsWithin}
-use Rattle.geom_core.specs.Grid.{Key, key_of, tile}
-use Rattle.tile_core.specs.Marks.{place_at}
+use Rattle.geom_core.specs.Grid.{Key, key_of, same_key, tile}
+use Rattle.tile_core.specs.Marks.{place_at, on_canvas}
 
 -- for each of the 32 by 32 tiles of the largest canvas its damaged part, if any, in row order
 abbrev pub Parts : Type 0
@@ -42,6 +42,14 @@ has_all (Some part) a = lies_in a part
 -- no tile is damaged
 abbrev pub intact : Parts
 intact = replicate 1024 None
+
+-- the rectangle's points on the largest canvas are damaged too
+abbrev pub Adds : Area → Parts → Parts → Type 0
+Adds a old new = (k : Key) → part_at new k ≡ (if on_canvas k then grown (part_at old k) (clipped a (tile k)) else None)
+
+-- its points in one tile of the largest canvas are
+abbrev pub AddsInTile : Key → Area → Parts → Parts → Type 0
+AddsInTile key a old new = (k : Key) → part_at new k ≡ (if same_key k key && on_canvas k then grown (part_at old k) (clipped a (tile k)) else part_at old k)
 
 -- each part lies in its tile
 abbrev pub FitTiles : Parts → Type 0

@@ -3,7 +3,7 @@ use Rattle.std.specs.Prelude.{◌≡◌, ℕ, ◌+◌, ◌-◌, ◌<◌, pos, fa
 use Rattle.geom_core.specs.Areas.{point}
 use Rattle.geom_core.specs.Grid.{key_of}
 use Rattle.tile_core.specs.Marks.{Grid, has_mark}
-use Rattle.tile_core.specs.Frames.{Scene, put_at}
+use Rattle.tile_core.specs.Frames.{Scene, SameCanvas, Shows, put_at}
 
 -- at each point that both frames have, where its tile isn't marked, the frame has the pixel of the frame before
 abbrev pub Renews : Scene → Scene → Grid → Type 0
@@ -12,6 +12,15 @@ Renews s before fresh = (x y : ℕ) → x < s.width → y < s.height → x < bef
 -- the newest of the frames, if there is one
 abbrev pub newest : List Scene → Option Scene
 newest scenes = slice_get scenes (length scenes - 1)
+
+-- a frame of the canvas of the one before it, which it renews on these tiles
+pub record IsAfter (s before : Scene) (fresh : Grid) : Type 0 where
+  pub alike : SameCanvas s before
+  pub renews : Renews s before fresh
+
+-- where there is a frame before that place, the picture shows it
+abbrev pub ShowsBefore : List Scene → ℕ → List ℕ → Type 0
+ShowsBefore scenes i picture = (k : ℕ) (before : Scene) → i ≡ k + 1 → slice_get scenes k ≡ Some before → Shows before picture
 
 -- marks for each frame; where its tiles aren't marked, a frame shows what the frame before shows
 pub record IsFilm (scenes : List Scene) (fresh : List Grid) : Type 0 where

@@ -1,5 +1,5 @@
 -- A frame as contracts see it: its sides, its paper, and tiles under some keys.
-use Rattle.std.specs.Prelude.{◌≡◌, ℕ, ◌+◌, ◌*◌, ◌≤◌, ◌<◌, pos, ◌*ℤ◌, ◌≤ℤ◌, ◌<ℤ◌, List, [], ◌∷◌, take, drop, ◌++◌, refl}
+use Rattle.std.specs.Prelude.{◌≡◌, ℕ, ◌+◌, ◌-◌, ◌*◌, ◌≤◌, ◌<◌, min, Option, pos, ◌*ℤ◌, ◌≤ℤ◌, ◌<ℤ◌, List, [], ◌∷◌, take, drop, ◌++◌, refl}
 use Rattle.std.specs.List.{flat_map}
 use Rattle.std.specs.FinMap as map
 use Rattle.std.specs.FinMap.{FinMap}
@@ -35,6 +35,18 @@ pub record IsScene (s : Scene) : Type 0 where
 abbrev pub colours : Rgba → List ℕ
 colours p = p.r ∷ p.g ∷ p.b ∷ []
 
+-- the colours of pixels on a paper, one after another
+abbrev pub colours_on : Rgba → List Rgba → List ℕ
+colours_on paper ps = flat_map (λ p. on_paper p paper) ps
+
+-- so many bytes from one on are these, and the others are as they were
+abbrev pub WritesAt : List ℕ → List ℕ → ℕ → ℕ → List ℕ → Type 0
+WritesAt old new at n bytes = new ≡ take at old ++ bytes ++ drop (at + n) old
+
+-- what was put under the key of a point
+abbrev pub put_under : Scene → Point → Option Pixels
+put_under s p = map.get s.tiles (key_of p)
+
 -- the pixel put at a point, clear where none was put
 abbrev pub put_at : Scene → Point → Rgba
 put_at s p = pixel_or (map.get s.tiles (key_of p)) clear p
@@ -55,6 +67,14 @@ rows_colours s y n = flat_map (colours_at s) (rows (pos 0) (pos y) s.width n)
 abbrev pub picture_colours : Scene → List ℕ
 picture_colours s = flat_map (colours_at s) (points_of (area (pos 0) (pos 0) s.width s.height))
 
+-- how many bytes the colours of all points are
+abbrev pub byte_count : Scene → ℕ
+byte_count s = 3 * (s.width * s.height)
+
+-- the bytes behind those of the colours are the same
+abbrev pub SameBehind : Scene → List ℕ → List ℕ → Type 0
+SameBehind s old new = drop (byte_count s) new ≡ drop (byte_count s) old
+
 -- the first bytes are the colours of all points, in row order
 abbrev pub Shows : Scene → List ℕ → Type 0
 Shows s bytes = take (3 * (s.width * s.height)) bytes ≡ picture_colours s
@@ -64,6 +84,10 @@ pub record SameCanvas (s before : Scene) : Type 0 where
   pub width : before.width ≡ s.width
   pub height : before.height ≡ s.height
   pub paper : before.paper ≡ s.paper
+
+-- how many columns of points the tiles of a column have on the canvas
+abbrev pub columns_in : Scene → ℕ → ℕ
+columns_in s col = min 64 (s.width - 64 * col)
 
 -- in rows of colours, the new one has those of the n points from x on, and the old one's elsewhere
 abbrev pub LaysPoints : Scene → ℕ → List ℕ → List ℕ → ℕ → ℕ → Type 0

@@ -1,7 +1,7 @@
 -- Marks of the tiles of a canvas.
-use Rattle.std.specs.Prelude.{ℕ, ◌+◌, ◌*◌, ℤ, pos, negsuc, nat_lt, Bool, ◌&&◌, false, if◌then◌else◌, Option, Some, None, is_some, List, slice_index_or, take, drop, replicate}
+use Rattle.std.specs.Prelude.{ℕ, ◌+◌, ◌*◌, ℤ, pos, negsuc, nat_lt, Bool, ◌&&◌, ◌||◌, ◌≡◌, false, if◌then◌else◌, Option, Some, None, is_some, List, slice_index_or, take, drop, replicate}
 use Rattle.std.specs.List.{list_any}
-use Rattle.geom_core.specs.Grid.{Key}
+use Rattle.geom_core.specs.Grid.{Key, same_key}
 
 -- a mark for each of the 32 by 32 tiles of the largest canvas, in row order
 abbrev pub Grid : Type 0
@@ -29,6 +29,10 @@ some_mark g row = list_any (λ mark. mark) (take 32 (drop (32 * row) g))
 -- whether the key is that of a tile of the largest canvas
 abbrev pub on_canvas : Key → Bool
 on_canvas k = is_some (place_at k.col k.row)
+
+-- the key's tile is marked too, if it is one of the largest canvas
+abbrev pub AddsMark : Grid → Grid → Key → Type 0
+AddsMark old new key = (k : Key) → has_mark new k ≡ (has_mark old k || (same_key k key && on_canvas k))
 
 -- no tile is marked
 abbrev pub no_marks : Grid

@@ -1,6 +1,6 @@
 //! The pixels that a job leaves in one tile.
 
-ghost use Rattle.std.specs.Prelude.{vec_len, ◌*◌, ◌≡◌, ℕ, true, IfOk};
+ghost use Rattle.std.specs.Prelude.{vec_len, ◌*◌, ◌≡◌, true, IfOk};
 ghost use Rattle.geom_core.specs.Grid.{tile};
 ghost use Rattle.geom_core.specs.Keys.{IsWorldKey};
 ghost use Rattle.geom_core.specs.Rects.{IsWithin};
@@ -32,7 +32,8 @@ impl Model for Block {
 }
 
 impl Block {
-    /// Clear pixels on a rectangle inside the key's tile.
+    /// Clear pixels on a rectangle inside the key's tile. For hosts that make pixels one by one, by
+    /// `set`: `Tile::with_region` lays them on a tile.
     pub fn new(alloc: Global, key: TileKey, rect: Rect) -> Result<Block, NoMemory>
         requires key { IsWorldKey key }
         requires inside { IsWithin rect (tile key) }

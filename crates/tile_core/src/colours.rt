@@ -1,10 +1,9 @@
 //! Colours of pixels on an opaque paper, a row of a tile at a time.
 
-ghost use Rattle.std.specs.Prelude.{◌≡◌, ◌+◌, ◌*◌, ◌≤◌, ◌++◌, length, replicate, take, drop};
+ghost use Rattle.std.specs.Prelude.{◌≡◌, ◌+◌, ◌*◌, ◌≤◌, length, replicate, take};
 ghost use Rattle.std.specs.List.{flat_map};
-ghost use Rattle.pixel_core.specs.Compose.{on_paper};
 ghost use Rattle.pixel_core.specs.Rgba.{clear};
-ghost use Rattle.tile_core.specs.Frames.{colours};
+ghost use Rattle.tile_core.specs.Frames.{colours, colours_on, WritesAt};
 
 use pixel_core::Pixel;
 use pixel_rows::lay_on_paper;
@@ -14,7 +13,7 @@ pub fn lay_colours(row: &mut [u8], at: usize, pixels: &[Pixel], paper: Pixel)
     requires opaque { paper.a ≡ 255 }
     requires few { length pixels.now ≤ 64 }
     requires room { at + 3 * length pixels.now ≤ length row.old }
-    ensures { row.new ≡ take at row.old ++ flat_map (λ p. on_paper p paper) pixels.now ++ drop (at + 3 * length pixels.now) row.old }
+    ensures { WritesAt row.old row.new at (3 * length pixels.now) (colours_on paper pixels.now) }
 {
     let mut laid = [paper; 64];
     let count = pixels.len();
@@ -27,7 +26,7 @@ pub fn lay_paper(row: &mut [u8], at: usize, n: usize, paper: Pixel)
     requires opaque { paper.a ≡ 255 }
     requires few { n ≤ 64 }
     requires room { at + 3 * n ≤ length row.old }
-    ensures { row.new ≡ take at row.old ++ flat_map (λ p. on_paper p paper) (replicate n clear) ++ drop (at + 3 * n) row.old }
+    ensures { WritesAt row.old row.new at (3 * n) (colours_on paper (replicate n clear)) }
 {
     put_colours(row, at, &[paper; 64], n);
 }
@@ -36,7 +35,7 @@ pub fn lay_paper(row: &mut [u8], at: usize, n: usize, paper: Pixel)
 fn put_colours(row: &mut [u8], at: usize, pixels: &[Pixel; 64], n: usize)
     requires few { n ≤ 64 }
     requires room { at + 3 * n ≤ length row.old }
-    ensures { row.new ≡ take at row.old ++ flat_map colours (take n pixels.now) ++ drop (at + 3 * n) row.old }
+    ensures { WritesAt row.old row.new at (3 * n) (flat_map colours (take n pixels.now)) }
 {
     let mut bytes = [0; 193];
     write_colours(&mut bytes, pixels);

@@ -1,13 +1,12 @@
 //! Damaged parts of the tiles of a canvas.
 
-ghost use Rattle.std.specs.Prelude.{◌≡◌, ◌&&◌, pos, if◌then◌else◌, Some, None, IfSome};
+ghost use Rattle.std.specs.Prelude.{◌≡◌, pos, if◌then◌else◌, Some, None, IfSome};
 ghost use Rattle.geom_core.specs.Areas.{area};
-ghost use Rattle.geom_core.specs.Overlaps.{clipped};
 ghost use Rattle.geom_core.specs.Rects.{IsWithin};
-ghost use Rattle.geom_core.specs.Grid.{Key, same_key, tile};
+ghost use Rattle.geom_core.specs.Grid.{Key, tile};
 ghost use Rattle.geom_core.specs.Keys.{IsWorldKey};
 ghost use Rattle.tile_core.specs.Marks.{on_canvas};
-ghost use Rattle.tile_core.specs.Damage.{part_at, grown, has_all, intact};
+ghost use Rattle.tile_core.specs.Damage.{part_at, grown, has_all, intact, Adds, AddsInTile};
 
 use crate::marks::place_of;
 use crate::piece::{Piece, piece_of, rect_of};
@@ -65,7 +64,7 @@ impl Damage {
     /// The points of the rectangle are damaged too. In each tile of the largest canvas the part
     /// becomes the least rectangle round both.
     pub fn add(&mut self, rect: &Rect)
-        ensures { (k : Key) → part_at self.new k ≡ (if on_canvas k then grown (part_at self.old k) (clipped rect.now (tile k)) else None) }
+        ensures { Adds rect.now self.old self.new }
     {
         for i in 0..rect.tile_count() {
             self.add_in(rect.tile_at(i), rect);
@@ -75,7 +74,7 @@ impl Damage {
     /// The points of the rectangle in the key's tile are damaged too.
     fn add_in(&mut self, key: TileKey, rect: &Rect)
         requires { IsWorldKey key }
-        ensures { (k : Key) → part_at self.new k ≡ (if same_key k key && on_canvas k then grown (part_at self.old k) (clipped rect.now (tile k)) else part_at self.old k) }
+        ensures { AddsInTile key rect.now self.old self.new }
     {
         if let Some(place) = place_of(key) {
             let part = rect_of(&self.parts[place]);
@@ -108,9 +107,8 @@ fn has_all(part: &Option<Rect>, rect: &Rect) -> bool
 fn grown(old: Option<Rect>, more: Option<Rect>) -> Option<Rect>
     ensures { result ≡ grown old more }
 {
-    match (old, more) {
-        (Some(a), Some(b)) => Some(a.bound(&b)),
-        (Some(a), None) => Some(a),
-        (None, more) => more,
+    match more {
+        Some(more) => Some(Rect::round(old, &more)),
+        None => old,
     }
 }

@@ -1,8 +1,8 @@
 //! Frames of one canvas, one after another.
 
-ghost use Rattle.std.specs.Prelude.{◌≡◌, ◌∷◌, ◌++◌, [], ℕ, ◌+◌, ◌-◌, ◌*◌, ◌<◌, ◌≤◌, Some, OnOk, OnErr, length, drop, slice_get};
-ghost use Rattle.tile_core.specs.Films.{Renews, newest};
-ghost use Rattle.tile_core.specs.Frames.{Scene, Shows};
+ghost use Rattle.std.specs.Prelude.{◌≡◌, ◌∷◌, ◌++◌, [], ◌+◌, ◌-◌, ◌*◌, ◌<◌, ◌≤◌, Some, OnOk, OnErr, length, slice_get};
+ghost use Rattle.tile_core.specs.Films.{Renews, ShowsBefore, newest};
+ghost use Rattle.tile_core.specs.Frames.{Scene, Shows, SameBehind, byte_count};
 
 use crate::{Frame, Marks};
 use geom_core::NoMemory;
@@ -69,10 +69,12 @@ impl Film {
     /// to the first 3 * width * height places, where the colours of the frame before stand.
     pub fn lay(&self, i: usize, picture: &mut [u8])
         requires there { i < length self.now }
-        requires room { (s : Scene) → slice_get self.now i ≡ Some s → 3 * (s.width * s.height) ≤ length picture.old }
-        requires shown { (k : ℕ) (before : Scene) → i ≡ k + 1 → slice_get self.now k ≡ Some before → Shows before picture.old }
+        requires room { (s : Scene) → slice_get self.now i ≡ Some s
+            → byte_count s ≤ length picture.old }
+        requires shown { ShowsBefore self.now i picture.old }
         ensures shown { (s : Scene) → slice_get self.now i ≡ Some s → Shows s picture.new }
-        ensures rest { (s : Scene) → slice_get self.now i ≡ Some s → drop (3 * (s.width * s.height)) picture.new ≡ drop (3 * (s.width * s.height)) picture.old }
+        ensures rest { (s : Scene) → slice_get self.now i ≡ Some s
+            → SameBehind s picture.old picture.new }
     {
         if i == 0 {
             self.frames[0].picture_into(picture);

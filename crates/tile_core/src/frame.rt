@@ -4,15 +4,17 @@ ghost use Rattle.std.specs.Prelude.{◌≡◌, ◌+◌, ◌*◌, ◌<◌, ◌≤
 ghost use Rattle.std.specs.FinMap as map;
 ghost use Rattle.std.specs.Option.{option_copied};
 ghost use Rattle.geom_core.specs.Areas.{row as points, point};
-ghost use Rattle.geom_core.specs.Grid.{key_of};
-ghost use Rattle.tile_core.specs.Frames.{IsScene, scene, colours_at, row_colours, IsTileOf, with_put, LaysPoints};
+ghost use Rattle.tile_core.specs.Frames.{IsScene, scene, colours_at, row_colours, IsTileOf, with_put, LaysPoints, columns_in, put_under};
 
 use crate::Tile;
 use crate::colours::{lay_colours, lay_paper};
-use geom_core::{NoMemory, TileKey};
+use geom_core::{NoMemory, TILE_SIDE, TileKey};
 use pixel_core::{Pixel, on_paper};
 use std::alloc::Global;
 use std::marker::Model;
+
+/// How many columns, and how many rows, of points a tile has: `TILE_SIDE`.
+pub(crate) const TILE: u16 = TILE_SIDE as u16;
 
 /// A picture of the canvas: shared tiles over an opaque paper. The canvas has its corner at (0, 0).
 #[derive(Drop)]
@@ -49,7 +51,7 @@ impl Frame {
             width: w,
             height: h,
             paper,
-            tiles: no_tiles(alloc, place((w - 1) / 64, (h - 1) / 64) + 1)?,
+            tiles: no_tiles(alloc, place((w - 1) / TILE, (h - 1) / TILE) + 1)?,
         })
     }
 
@@ -70,7 +72,7 @@ impl Frame {
     }
 
     /// The opaque paper.
-    pub fn paper(&self) -> Pixel
+    pub(crate) fn paper(&self) -> Pixel
         ensures value { result ≡ self.now.paper }
         ensures opaque { result.a ≡ 255 }
     {
@@ -107,23 +109,23 @@ impl Frame {
         requires room { 3 * self.now.width ≤ length row.old }
         ensures { row.new ≡ row_colours self.now y ++ drop (3 * self.now.width) row.old }
     {
-        for col in 0..self.width.div_ceil(64) {
+        for col in 0..self.width.div_ceil(TILE) {
             self.tile_row_into(col, y, row);
         }
     }
 
-    /// The same for the row's points in the tiles of one column.
+    /// Writes the colours of a row's points in the tiles of one column to their places in the row.
     pub(crate) fn tile_row_into(&self, col: u16, y: u16, row: &mut [u8])
         requires col { 64 * col < self.now.width }
         requires y { y < self.now.height }
         requires room { 3 * self.now.width ≤ length row.old }
-        ensures { LaysPoints self.now y row.old row.new (64 * col) (min 64 (self.now.width - 64 * col)) }
+        ensures { LaysPoints self.now y row.old row.new (64 * col) (columns_in self.now col) }
     {
-        let left = 64 * col as usize;
-        let n = (self.width as usize - left).min(64);
-        match self.tile(64 * col, y) {
+        let left = TILE_SIDE * col as usize;
+        let n = (self.width as usize - left).min(TILE_SIDE);
+        match self.tile(TILE * col, y) {
             Some(tile) => {
-                let from = 64 * (y as usize % 64);
+                let from = TILE_SIDE * (y as usize % TILE_SIDE);
                 lay_colours(row, 3 * left, &tile.pixels()[from..from + n], self.paper);
             }
             None => lay_paper(row, 3 * left, n, self.paper),
@@ -134,10 +136,10 @@ impl Frame {
     fn tile(&self, x: u16, y: u16) -> Option<&Tile>
         requires x { x < self.now.width }
         requires y { y < self.now.height }
-        ensures value { option_copied result ≡ map.get self.now.tiles (key_of (point (pos x) (pos y))) }
+        ensures value { option_copied result ≡ put_under self.now (point (pos x) (pos y)) }
         ensures known { IsScene self.now }
     {
-        self.tiles[place(x / 64, y / 64)].as_ref()
+        self.tiles[place(x / TILE, y / TILE)].as_ref()
     }
 }
 

@@ -27,7 +27,7 @@ pub fn put_under(
     Ok(())
 }
 
-/// The same tiles under the same keys once more, each shared.
+/// A map of its own with these tiles under these keys. Each tile is shared.
 pub fn shared_tiles(
     alloc: Global,
     tiles: &BTreeMap<TileKey, Tile>,
@@ -51,7 +51,8 @@ pub fn tile_under(tiles: &BTreeMap<TileKey, Tile>, key: TileKey) -> Option<&Tile
 /// The pixel at a point, which is `default_pixel` where no tile stands.
 pub fn pixel_under(tiles: &BTreeMap<TileKey, Tile>, default_pixel: Pixel, x: i32, y: i32) -> Pixel
     requires { holds world (point x y) ≡ true }
-    ensures { result ≡ pixel_or (tree.get key_cmp tiles.now (key_of (point x y))) default_pixel (point x y) }
+    ensures { result
+        ≡ pixel_or (tree.get key_cmp tiles.now (key_of (point x y))) default_pixel (point x y) }
 {
     match tiles.get(&tile_of(x, y)) {
         Some(tile) => tile.at(x, y),

@@ -1,8 +1,7 @@
 //! Marked tiles of a canvas.
 
-ghost use Rattle.std.specs.Prelude.{◌≡◌, ◌<◌, ◌&&◌, ◌||◌, true, pos, IfSome};
-ghost use Rattle.geom_core.specs.Grid.{Key, same_key};
-ghost use Rattle.tile_core.specs.Marks.{place_at, mark_at, has_mark, some_mark, on_canvas, no_marks};
+ghost use Rattle.std.specs.Prelude.{◌≡◌, ◌<◌, true, pos, IfSome};
+ghost use Rattle.tile_core.specs.Marks.{place_at, mark_at, has_mark, some_mark, no_marks, AddsMark};
 
 use geom_core::TileKey;
 use std::marker::Model;
@@ -62,7 +61,7 @@ impl Marks {
         self.tiles[at..at + 32].iter().any(|mark| *mark)
     }
 
-    /// The same marks once more.
+    /// A copy: 1,024 bytes, and no memory is taken.
     pub fn copy(&self) -> Marks
         ensures { result ≡ self.now }
     {
@@ -71,7 +70,7 @@ impl Marks {
 
     /// Marks the key's tile, if it is one of the largest canvas.
     pub fn mark(&mut self, key: TileKey)
-        ensures { (k : Key) → has_mark self.new k ≡ (has_mark self.old k || (same_key k key && on_canvas k)) }
+        ensures { AddsMark self.old self.new key }
     {
         if let Some(place) = place_of(key) {
             self.tiles[place] = true;

@@ -35,7 +35,7 @@ impl Model for Piece {
 }
 
 impl Piece {
-    /// The same rectangle in few bytes.
+    /// The rectangle in few bytes.
     fn of(rect: &Rect) -> Piece
         requires { IsPiece rect.now }
         ensures { result ≡ rect.now }
@@ -48,7 +48,7 @@ impl Piece {
         }
     }
 
-    /// The same rectangle as one of the world.
+    /// The rectangle as one of the world.
     fn rect(&self) -> Rect
         ensures { result ≡ self.now }
     {

@@ -1,10 +1,11 @@
 //! Rows of pixels in parts of tiles.
 
-ghost use Rattle.std.specs.Prelude.{◌^◌, IfOk, vec_len, ◌≡◌, ℕ, ◌+◌, ◌*◌, ◌<◌, ◌≤◌, ◌↔◌, IsTrue, length, take, drop, ◌++◌, replicate, slice_index_or};
+ghost use Rattle.std.specs.Prelude.{◌^◌, IfOk, vec_len, ◌≡◌, ◌+◌, ◌*◌, ◌<◌, ◌≤◌, ◌↔◌, IsTrue, length, take, drop, ◌++◌, replicate, slice_index_or};
 ghost use Rattle.tile_core.specs.Parts.{LaysPart, TakesPart, LaysTile};
 ghost use Rattle.tile_core.specs.Same.{PartIs, RowIs};
 ghost use Rattle.pixel_core.specs.Rgba.{clear};
 
+use geom_core::{TILE_POINTS, TILE_SIDE};
 use pixel_core::Pixel;
 use pixel_rows::all_are;
 use std::alloc::{AllocError, Global};
@@ -36,11 +37,11 @@ pub fn lay_part(tile: &mut [Pixel], part: Part, src: &[Pixel])
     ensures { LaysPart tile.old tile.new part.left part.top part.w part.h src.now }
 {
     let mut from = 0;
-    let mut to = 64 * part.top + part.left;
+    let mut to = TILE_SIDE * part.top + part.left;
     for _row in 0..part.h {
         put_row(tile, to, &src[from..from + part.w]);
         from += part.w;
-        to += 64;
+        to += TILE_SIDE;
     }
 }
 
@@ -56,9 +57,10 @@ pub fn with_part(
     requires down { part.top + part.h ≤ 64 }
     requires pixels { length src.now ≡ part.h * part.w }
     ensures whole { IfOk result (λ v. vec_len v ≡ 4096) }
-    ensures laid { IfOk result (λ v. LaysPart tile.now v.items part.left part.top part.w part.h src.now) }
+    ensures laid { IfOk result
+        (λ v. LaysPart tile.now v.items part.left part.top part.w part.h src.now) }
 {
-    if part.w == 64 && part.h == 64 {
+    if part.w == TILE_SIDE && part.h == TILE_SIDE {
         return Vec::from_slice(alloc, src);
     }
     let mut pixels = Vec::from_slice(alloc, tile)?;
@@ -75,10 +77,10 @@ pub fn part_of(alloc: Global, tile: &[Pixel], part: Part) -> Result<Vec<Pixel>, 
     ensures taken { IfOk result (λ v. TakesPart tile.now part.left part.top part.w part.h v.items) }
 {
     let mut pixels = Vec::with_capacity(alloc, part.h * part.w)?;
-    let mut from = 64 * part.top + part.left;
+    let mut from = TILE_SIDE * part.top + part.left;
     for _row in 0..part.h {
         pixels.extend_from_slice(&tile[from..from + part.w])?;
-        from += 64;
+        from += TILE_SIDE;
     }
     Ok(pixels)
 }
@@ -89,14 +91,15 @@ pub fn same_part(tile: &[Pixel], other: &[Pixel], part: Part) -> bool
     requires other { length other.now ≡ 4096 }
     requires across { part.left + part.w ≤ 64 }
     requires down { part.top + part.h ≤ 64 }
-    ensures { IsTrue result ↔ PartIs tile.now (λ k. slice_index_or other.now k clear) part.left part.top part.w part.h }
+    ensures { IsTrue result
+        ↔ PartIs tile.now (λ k. slice_index_or other.now k clear) part.left part.top part.w part.h }
 {
-    let mut from = 64 * part.top + part.left;
+    let mut from = TILE_SIDE * part.top + part.left;
     for _row in 0..part.h {
         if !same_row(tile, other, from, part.w) {
             return false;
         }
-        from += 64;
+        from += TILE_SIDE;
     }
     true
 }
@@ -124,12 +127,12 @@ pub fn is_plain_part(tile: &[Pixel], part: Part, p: Pixel) -> bool
     requires down { part.top + part.h ≤ 64 }
     ensures { IsTrue result ↔ PartIs tile.now (λ _. p) part.left part.top part.w part.h }
 {
-    let mut from = 64 * part.top + part.left;
+    let mut from = TILE_SIDE * part.top + part.left;
     for _row in 0..part.h {
         if !is_plain_row(tile, from, part.w, p) {
             return false;
         }
-        from += 64;
+        from += TILE_SIDE;
     }
     true
 }
@@ -162,7 +165,7 @@ fn ends_are(tile: &[Pixel], p: Pixel) -> bool
     requires { length tile.now ≡ 4096 }
     ensures { tile.now ≡ replicate 4096 p → IsTrue result }
 {
-    tile[0] == p && tile[4095] == p
+    tile[0] == p && tile[TILE_POINTS - 1] == p
 }
 
 /// Lays a part of a tile, from its column `tile_left` and its row `tile_top` on, over a part of
@@ -175,19 +178,23 @@ pub fn lay_tile_rows(
     tile_left: usize,
     tile_top: usize,
 )
+    // The part lies in the pixels ..
     requires across { part.left + part.w ≤ width }
     requires down { (part.top + part.h) * width ≤ length pixels.old }
     requires small { length pixels.old < 2 ^ 32 }
+
+    // .. and has the tile's columns and rows from these on.
     requires whole { length tile.now ≡ 4096 }
     requires tile_across { tile_left + part.w ≤ 64 }
     requires tile_down { tile_top + part.h ≤ 64 }
-    ensures { LaysTile pixels.old pixels.new width part.left part.top part.w part.h tile.now tile_left tile_top }
+    ensures { LaysTile pixels.old pixels.new width part.left part.top part.w part.h
+        tile.now tile_left tile_top }
 {
-    let mut from = 64 * tile_top + tile_left;
+    let mut from = TILE_SIDE * tile_top + tile_left;
     let mut to = part.top * width + part.left;
     for _row in 0..part.h {
         put_row(pixels, to, &tile[from..from + part.w]);
-        from += 64;
+        from += TILE_SIDE;
         to += width;
     }
 }

@@ -1,6 +1,6 @@
 //! The pixels that a job reads, kept as they were when it started.
 
-ghost use Rattle.std.specs.Prelude.{List, [], ◌∷◌, ◌++◌, length, replicate, ◌≡◌, ℕ, ◌*◌, true, IfOk, IfSome, OnOk, OnErr, vec_len, ◌+◌, ◌≤◌, IsTrue, ◌↔◌};
+ghost use Rattle.std.specs.Prelude.{List, [], ◌∷◌, ◌++◌, length, replicate, ◌≡◌, ◌*◌, true, IfOk, IfSome, OnOk, OnErr, vec_len, ◌+◌, IsTrue, ◌↔◌};
 ghost use Rattle.std.specs.List.{list_any};
 ghost use Rattle.std.specs.Option.{option_copied};
 ghost use Rattle.std.specs.FinMap as map;
@@ -14,7 +14,7 @@ ghost use Rattle.tile_core.specs.Shots.{sight, sight_at, with_seen, LaysKey, Rea
 use crate::Tile;
 use crate::keyed::{pixel_under, put_under, shared_tiles, tile_under};
 use crate::rows::{Part, lay_tile_rows};
-use geom_core::{NoMemory, Rect, TileKey};
+use geom_core::{NoMemory, Rect, TILE_SIDE, TileKey};
 use pixel_core::Pixel;
 use std::alloc::Global;
 use std::collections::BTreeMap;
@@ -84,7 +84,7 @@ impl Shot {
         }
     }
 
-    /// The same where somebody shares the shot: it gets rectangles and tiles of its own.
+    /// Puts a tile into a shot that somebody shares: it gets rectangles and tiles of its own first.
     fn put_apart(&mut self, key: TileKey, tile: Tile) -> Result<(), NoMemory>
         ensures ok { OnOk result (self.new ≡ with_seen self.old key tile) }
         ensures err { OnErr result (self.new ≡ self.old) }
@@ -94,7 +94,7 @@ impl Shot {
         Ok(())
     }
 
-    /// The same shot once more. `NoMemory` only where the count of references is full.
+    /// One more reference to the shot. `NoMemory` only where the count of references is full.
     pub fn share(&self) -> Result<Shot, NoMemory>
         ensures { IfOk result (λ s. s ≡ self.now) }
     {
@@ -226,7 +226,7 @@ impl Shot {
         }
     }
 
-    /// The same, tile by tile.
+    /// The pixels on any rectangle of the world, in row order, gathered tile by tile.
     fn gathered(&self, alloc: Global, rect: &Rect) -> Result<Vec<Pixel>, NoMemory>
         ensures all { IfOk result (λ v. vec_len v ≡ rect.now.h * rect.now.w) }
         ensures has { IfOk result (λ v. HasPixels rect.now (sight_at self.now) v.items) }
@@ -251,7 +251,8 @@ impl Shot {
     fn read_tile(&self, pixels: &mut [Pixel], rect: &Rect, key: TileKey)
         requires key { IsWorldKey key }
         requires all { length pixels.old ≡ rect.now.h * rect.now.w }
-        ensures { (ks : List Key) → ReadsKeys self.now rect.now pixels.old ks → ReadsKeys self.now rect.now pixels.new (ks ++ key ∷ []) }
+        ensures { (ks : List Key) → ReadsKeys self.now rect.now pixels.old ks
+            → ReadsKeys self.now rect.now pixels.new (ks ++ key ∷ []) }
     {
         match self.tile(key) {
             Some(tile) => lay_tile(pixels, rect, key, tile),
@@ -260,10 +261,11 @@ impl Shot {
     }
 }
 
-/// The same rectangles and tiles once more, with that tile under the key. Tiles are shared.
+/// Rectangles and tiles like these, with that tile under the key. Tiles are shared.
 fn seen_with(alloc: Global, seen: &Seen, key: TileKey, tile: Tile) -> Result<Seen, NoMemory>
     ensures rects { IfOk result (λ s. s.rects.items ≡ seen.now.rects.items) }
-    ensures tiles { IfOk result (λ s. map.from_entries s.tiles.entries ≡ map.insert (map.from_entries {R = key_cmp} seen.now.tiles.entries) key tile) }
+    ensures tiles { IfOk result (λ s. map.from_entries s.tiles.entries
+        ≡ map.insert (map.from_entries {R = key_cmp} seen.now.tiles.entries) key tile) }
 {
     let rects = Vec::from_slice(alloc, &seen.rects)?;
     let mut tiles = shared_tiles(alloc, &seen.tiles)?;
@@ -295,7 +297,7 @@ fn lay_tile(pixels: &mut [Pixel], rect: &Rect, key: TileKey, tile: &Tile)
     }
 }
 
-/// The same, where `part` is what the rectangle has of the key's tile.
+/// Lays `part`, which is what the rectangle has of the key's tile, over the rectangle's pixels.
 fn lay_common(pixels: &mut [Pixel], rect: &Rect, key: TileKey, part: &Rect, tile: &Tile)
     requires key { IsWorldKey key }
     requires all { length pixels.old ≡ rect.now.h * rect.now.w }
@@ -316,8 +318,8 @@ fn lay_common(pixels: &mut [Pixel], rect: &Rect, key: TileKey, part: &Rect, tile
         width,
         place,
         tile.pixels(),
-        left as usize % 64,
-        top as usize % 64,
+        left as usize % TILE_SIDE,
+        top as usize % TILE_SIDE,
     );
 }
 

@@ -1,6 +1,6 @@
 //! Tiles of 64 by 64 pixels, shared copy on write.
 
-ghost use Rattle.std.specs.Prelude.{vec_len, ◌≡◌, ℕ, ◌+◌, ◌*◌, ◌<◌, ◌↔◌, IsTrue, length, IfOk, replicate, true, false, negsuc, pos, ◌≤ℤ◌, ◌+ℤ◌, ◌%◌, nat_abs};
+ghost use Rattle.std.specs.Prelude.{vec_len, ◌≡◌, ◌+◌, ◌*◌, ◌<◌, ◌↔◌, IsTrue, length, IfOk, replicate, true, false, negsuc, pos, ◌≤ℤ◌, ◌+ℤ◌, ◌%◌, nat_abs};
 ghost use Rattle.tile_core.specs.Pixels.{Pixels, pixel_of, pixel_at, HasPixels, SameOn, IsPlainOn};
 ghost use Rattle.tile_core.specs.Parts.{IsPartOf};
 ghost use Rattle.geom_core.specs.Grid.{tile};
@@ -12,7 +12,7 @@ ghost use Rattle.pixel_core.specs.Rgba.{clear};
 
 use crate::Block;
 use crate::rows::{Part, is_plain, is_plain_part, lay_part, part_of, same_part, with_part};
-use geom_core::{NoMemory, Rect, TileKey};
+use geom_core::{CORNER, NoMemory, Rect, TILE_POINTS, TILE_SIDE, TileKey};
 use pixel_core::Pixel;
 use std::alloc::Global;
 use std::marker::Model;
@@ -59,7 +59,7 @@ impl Tile {
     pub fn plain(alloc: Global, p: Pixel) -> Result<Tile, NoMemory>
         ensures { IfOk result (λ t. t ≡ replicate 4096 p) }
     {
-        Tile::from_pixels(alloc, vec![in alloc; p; 4096]?)
+        Tile::from_pixels(alloc, vec![in alloc; p; TILE_POINTS]?)
     }
 
     /// A tile of these pixels in row order, which are not copied.
@@ -93,7 +93,7 @@ impl Tile {
         requires row { row < 64 }
         ensures { result ≡ pixel_of self.now col row }
     {
-        self.pixels()[64 * row as usize + col as usize]
+        self.pixels()[TILE_SIDE * row as usize + col as usize]
     }
 
     /// The pixel at a point of the world, where the tile is that of the point's key.
@@ -184,8 +184,8 @@ pub fn part_in_tile(rect: &Rect) -> Part
     ensures { IsPartOf rect.now result }
 {
     Part {
-        left: rect.left() as usize % 64,
-        top: rect.top() as usize % 64,
+        left: rect.left() as usize % TILE_SIDE,
+        top: rect.top() as usize % TILE_SIDE,
         w: rect.w() as usize,
         h: rect.h() as usize,
     }
@@ -198,5 +198,5 @@ fn place_in_tile(x: i32) -> u8
     ensures value { result ≡ nat_abs (x +ℤ pos 16384) % 64 }
     ensures small { result < 64 }
 {
-    ((x + 16384) as u32 % 64) as u8
+    ((x + CORNER) as usize % TILE_SIDE) as u8
 }

@@ -5,9 +5,9 @@ use Rattle.geom_core.specs.declared.NoMemory.{NoMemory}
 use Rattle.doc_model.specs.declared.job.Job.{Job}
 use Rattle.doc_model.specs.declared.job.Kind.{Kind}
 use Rattle.trace_model.specs.Replays.{first_of}
-use Rattle.trace_parts.specs.declared.head.Head.{Head}
+use Rattle.entry_queue.specs.declared.head.HeadStroke.{HeadStroke}
 use Rattle.trace_parts.specs.declared.slot.Slot.TheVariants.{Free}
-use Rattle.trace_parts.specs.Waits.{head_in, jobs_in}
+use Rattle.entry_queue.specs.Heads.{head_in, jobs_in}
 use Rattle.trace_core.specs.Outline.{Outline}
 use Rattle.trace_core.specs.Moves as move
 use Rattle.trace_core.specs.Moves.{Follows}
@@ -19,7 +19,7 @@ stays (y ∷ xs) zero x h = let same : y ≡ x = cc in ap (λ z. z ∷ xs) (sym 
 stays (y ∷ xs) (suc i) x h = ap (λ t. y ∷ t) (stays xs i x h)
 
 -- a job starts
-pub started_is : (o : Outline) (place : ℕ) (h : Head) (n : ℕ) (j : Option (Kind × Job)) → head_in o.left ≡ Some h → o.way ≡ Some n → slice_get o.slots place ≡ Some Free → slice_get (jobs_in o.left) n ≡ j → move.started o place ≡ move.job_started o place h n j
+pub started_is : (o : Outline) (place : ℕ) (h : HeadStroke) (n : ℕ) (j : Option (Kind × Job)) → head_in o.left ≡ Some h → o.way ≡ Some n → slice_get o.slots place ≡ Some Free → slice_get (jobs_in o.left) n ≡ j → move.started o place ≡ move.job_started o place h n j
 started_is o place h n j e w f g = (λ i. move.started_by o place (e i) (w i) (f i)) ∙ ap (move.job_started o place h n) g
 
 -- of four moves the first that may happen, where those before it may not and left all as it was

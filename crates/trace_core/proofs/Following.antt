@@ -9,16 +9,16 @@ use Rattle.script_forms.specs.Ranges.{in_limits}
 use Rattle.machine_model.specs.State.{State, new_state}
 use Rattle.machine_model.specs.Sound.{IsOrderly}
 use Rattle.machine_model.proofs.RunsOrderly.{step_keeps, new_orderly}
-use Rattle.trace_forms.specs.declared.line.Line.{Line}
-use Rattle.trace_forms.specs.declared.line.Line.TheVariants as line
-use Rattle.trace_forms.specs.declared.line.TraceFault.{TraceFault}
-use Rattle.trace_forms.specs.declared.line.TraceCause.TheVariants.{Unsettled}
-use Rattle.trace_forms.specs.Forms.{line_of, slots, canvas_line}
-use Rattle.trace_forms.specs.Replay as trace
-use Rattle.trace_forms.specs.Replay.{Told, fault, and_then, of_form, replayed, replayed_behind, settled}
-use Rattle.trace_forms.specs.ReplayLaws.{IsRunThatSettles}
-use Rattle.trace_forms.proofs.ReplayedLines.{line_event, replayed_runs}
-use Rattle.trace_forms.proofs.Heads.{slots_ok, canvas_line_ok}
+use Rattle.trace_lines.specs.declared.line.Line.{Line}
+use Rattle.trace_lines.specs.declared.line.Line.TheVariants as line
+use Rattle.trace_lines.specs.declared.line.TraceFault.{TraceFault}
+use Rattle.trace_lines.specs.declared.line.TraceCause.TheVariants.{Unsettled}
+use Rattle.trace_lines.specs.Forms.{line_of, slots, canvas_line}
+use Rattle.trace_lines.specs.Replay as trace
+use Rattle.trace_lines.specs.Replay.{Told, fault, and_then, of_form, replayed, replayed_behind, settled}
+use Rattle.trace_lines.specs.ReplayLaws.{IsRunThatSettles}
+use Rattle.trace_lines.proofs.ReplayedLines.{line_event, replayed_runs}
+use Rattle.trace_lines.proofs.Heads.{slots_ok, canvas_line_ok}
 use Rattle.machine_model.proofs.Continuing.{runs_continue}
 use Rattle.trace_core.specs.declared.refusal.ReplayRefusal.{ReplayRefusal}
 use Rattle.trace_core.specs.declared.refusal.ReplayRefusal.TheVariants.{Fault, NoMemory}

@@ -32,7 +32,7 @@ use Rattle.doc_model.specs.Strokes.{Stroke, Fate, Open, Ended, Cancelled, Jobs, 
 use Rattle.doc_model.proofs.Feeding.{lawful_last}
 use Rattle.entry_queue.specs.Pushed.{queued, pushed}
 use Rattle.entry_queue.proofs.Standing.{stands_pushed}
-use Rattle.update_queue.specs.Waiting.{waiting as patches_of}
+use Rattle.update_queue.specs.Waiting.{waiting as patches_of, widened_by}
 use Rattle.machine_model.specs.State as state
 use Rattle.machine_model.specs.State.{State, Reach, Child, Free, Paints, Walks, waiting, first, stroke_of, head_stroke, new_state}
 use Rattle.machine_model.specs.Event.{Feed, Init, Start, Publish, End, Finish, Cancel, Act, WalkStart, WalkPublish, WalkEnd}
@@ -53,14 +53,16 @@ use Rattle.trace_parts.specs.declared.slot.Slot.TheVariants as slot
 use Rattle.trace_parts.specs.Histories.{former}
 use Rattle.trace_parts.specs.Trees.{paints, group_of, tree_path}
 use Rattle.trace_parts.specs.Tiles.{round}
-use Rattle.trace_parts.specs.Waits.{jobs_in, other_in, is_done}
+use Rattle.entry_queue.specs.Heads.{jobs_in}
+use Rattle.entry_queue.proofs.Heads.{told, head_told, jobs_told}
+use Rattle.trace_parts.specs.Waits.{other_in, is_done}
 use Rattle.trace_parts.specs.Painting.{lacks_tile, with_tile}
 use Rattle.trace_parts.specs.Walking.{lacks_pair, with_pair}
 use Rattle.trace_parts.specs.Slots.{is_free, is_painter, is_walker, blocks, meets_walker}
 use Rattle.trace_core.specs.Outline.{Outline, outline, shape, former_of, reach_of, slot_of, composed_of}
 use Rattle.trace_core.specs.Moves as move
 use Rattle.trace_core.proofs.DocShapes.{paints_shape, group_shape, walk_shape, adjusted_shape, shape_result, changed_shape}
-use Rattle.trace_core.proofs.HeadOutlines.{told, head_told, jobs_told, other_stroke, left_popped, all_kept}
+use Rattle.trace_core.proofs.HeadOutlines.{other_stroke, left_popped, all_kept}
 use Rattle.trace_core.proofs.SlotOutlines.{any_slots, all_slots, set_slots, free_slot, painter_slot, walker_slot, blocks_slot, meets_slot, painting, lacks_told, painted_told, walking, lacks_pair_told, with_pair_told, composed_told, fresh_groups}
 
 -- two tests that agree, of what is one where they pass
@@ -206,7 +208,7 @@ popped_told : (s : State) (o : Outcome) → map queued (drop (length (s.outcomes
 popped_told s o = left_popped s.outcomes o (entries s.fed)
 
 -- what waits after a rectangle or none
-widened_told : (s : State) (g : ℕ) (b : Option Area) → patches_of (canvas_area s.canvas) (updates_with s g b) ≡ move.widened (patches_of (canvas_area s.canvas) s.updates) g b
+widened_told : (s : State) (g : ℕ) (b : Option Area) → patches_of (canvas_area s.canvas) (updates_with s g b) ≡ widened_by (patches_of (canvas_area s.canvas) s.updates) g b
 widened_told s g None = refl
 widened_told s g (Some rect) = refl
 
@@ -260,9 +262,9 @@ cancelled_told s = go (head_stroke s) refl ∙ ap (move.cancelled_by (outline s)
     started_by t (Some n) = refl
 
     waits : (t : Stroke) → head_stroke s ≡ Some t → patches_of (canvas_area s.canvas) (updates_with s (parent_of t.layer s.present) (bound_of (set.items (key_set (writes_of (started_jobs s t))))))
-        ≡ move.widened (patches_of (canvas_area s.canvas) s.updates) (group_of t.layer (shape s.present)) (round (move.started_of (jobs_in (map queued (waiting s))) s.way))
+        ≡ widened_by (patches_of (canvas_area s.canvas) s.updates) (group_of t.layer (shape s.present)) (round (move.started_of (jobs_in (map queued (waiting s))) s.way))
     waits t e = widened_told s (parent_of t.layer s.present) _
-        ∙ (λ i. move.widened (patches_of (canvas_area s.canvas) s.updates) (sym (group_shape t.layer s.present) i) (round ((started_by t s.way ∙ ap (λ js. move.started_of js s.way) (sym (jobs_told (waiting s) t e))) i)))
+        ∙ (λ i. widened_by (patches_of (canvas_area s.canvas) s.updates) (sym (group_shape t.layer s.present) i) (round ((started_by t s.way ∙ ap (λ js. move.started_of js s.way) (sym (jobs_told (waiting s) t e))) i)))
 
     go : (h : Option Stroke) → head_stroke s ≡ h → option_map outline (next.cancelled s h) ≡ move.cancelled_by (outline s) (option_map told h)
     go None e = refl
@@ -272,7 +274,7 @@ cancelled_told s = go (head_stroke s) refl ∙ ap (move.cancelled_by (outline s)
 -- the document becomes another
 moved_told : (s : State) (new : Doc) (r : Reach) → outline (effect.moved_to s new r) ≡ move.moved_to (outline s) (shape new) (reach_of r)
 moved_told s new state.Whole = refl
-moved_told s new (state.Part id keys) = λ i. record (outline s) { base = shape new; present = shape new; updates = (widened_told s (parent_of id new) (bound_of (set.items keys)) ∙ ap (λ g. move.widened (patches_of (canvas_area s.canvas) s.updates) g (bound_of (set.items keys))) (sym (group_shape id new))) i }
+moved_told s new (state.Part id keys) = λ i. record (outline s) { base = shape new; present = shape new; updates = (widened_told s (parent_of id new) (bound_of (set.items keys)) ∙ ap (λ g. widened_by (patches_of (canvas_area s.canvas) s.updates) g (bound_of (set.items keys))) (sym (group_shape id new))) i }
 
 -- the outline once the entry at the head, which is no stroke, has left the queue
 abbrev rest : State → Outline

@@ -8,10 +8,10 @@ use Rattle.doc_model.specs.declared.canvas.Patch.{Patch}
 use Rattle.doc_model.specs.declared.job.Job.{Job}
 use Rattle.doc_model.specs.declared.job.Kind.{Kind}
 use Rattle.trace_model.specs.Next.{when, place_of}
-use Rattle.trace_parts.specs.declared.head.Head.{Head}
+use Rattle.entry_queue.specs.declared.head.HeadStroke.{HeadStroke}
 use Rattle.trace_parts.specs.declared.slot.Slot.{Slot}
 use Rattle.trace_parts.specs.declared.slot.Slot.TheVariants.{Free, Paints, Walks}
-use Rattle.trace_parts.specs.Waits.{head_in, jobs_in}
+use Rattle.entry_queue.specs.Heads.{head_in, jobs_in}
 use Rattle.trace_parts.specs.Painting.{Painting, is_painted}
 use Rattle.trace_parts.specs.Walking.{Walking, is_composed}
 use Rattle.trace_parts.specs.Slots.{published_in, composed_in, SlotFollows}
@@ -20,7 +20,7 @@ use Rattle.trace_core.specs.Moves as move
 use Rattle.trace_core.specs.Moves.{Follows}
 use Rattle.trace_core.proofs.Events.{started_is, stays}
 
-module _ (o : Outline) (place : ℕ) (h : Head) (n : ℕ) (job : Kind × Job) (e : head_in o.left ≡ Some h) (w : o.way ≡ Some n) (f : slice_get o.slots place ≡ Some Free) (g : slice_get (jobs_in o.left) n ≡ Some job) where
+module _ (o : Outline) (place : ℕ) (h : HeadStroke) (n : ℕ) (job : Kind × Job) (e : head_in o.left ≡ Some h) (w : o.way ≡ Some n) (f : slice_get o.slots place ≡ Some Free) (g : slice_get (jobs_in o.left) n ≡ Some job) where
   -- a job that may not start beside what is at work
   pub start_waits : move.may_start o h job.0 ≡ false → move.started o place ≡ None
   start_waits may = started_is o place h n (Some job) e w f g ∙ ap (λ b. when b (move.with_painter o place n job.1)) may
@@ -29,7 +29,7 @@ module _ (o : Outline) (place : ℕ) (h : Head) (n : ℕ) (job : Kind × Job) (e
   pub starts : (new : Outline) → move.may_start o h job.0 ≡ true → new ≡ move.with_painter o place n job.1 → move.started o place ≡ Some new
   starts new may is = started_is o place h n (Some job) e w f g ∙ ap (λ b. when b (move.with_painter o place n job.1)) may ∙ ap Some (sym is)
 
-module _ (o : Outline) (place : ℕ) (h : Head) (w : Painting) (e : head_in o.left ≡ Some h) (at : slice_get o.slots place ≡ Some (Paints w)) where
+module _ (o : Outline) (place : ℕ) (h : HeadStroke) (w : Painting) (e : head_in o.left ≡ Some h) (at : slice_get o.slots place ≡ Some (Paints w)) where
   ended_is : move.ended o place ≡ when (is_painted w) (move.without_painter o place h w.job)
   ended_is = λ i. move.ended_by o place (e i) (at i)
 
@@ -68,7 +68,7 @@ slot_follows o new place next inside x y (Err e) told at so is = tt
 pub publishes : (o new : Outline) (place : ℕ) (key : Key) (x y : Slot) (r : Result Bool NoMemory) → is_some (head_in o.left) ≡ true → slice_get o.slots place ≡ Some x → SlotFollows r (published_in key x) x y → new ≡ move.with_slot o place y → Follows r (move.published o place key) o new
 publishes o new place key x y r waits at so is = slot_follows o new place (move.published o place key) (published_in key x) x y r (told (head_in o.left) waits) at so is
   where
-    told : (h : Option Head) → is_some h ≡ true → move.published_by o place key h (slice_get o.slots place) ≡ option_map (move.with_slot o place) (published_in key x)
+    told : (h : Option HeadStroke) → is_some h ≡ true → move.published_by o place key h (slice_get o.slots place) ≡ option_map (move.with_slot o place) (published_in key x)
     told None t = cc
     told (Some h) t = ap (move.published_by o place key (Some h)) at
 

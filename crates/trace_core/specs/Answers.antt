@@ -6,8 +6,8 @@ use Rattle.script_forms.specs.Jobs.{Fields}
 use Rattle.script_forms.specs.Ranges.{in_limits}
 use Rattle.script_text.specs.Script.{Contents}
 use Rattle.machine_model.specs.State.{State, new_state}
-use Rattle.trace_forms.specs.Replay.{Told, and_then, follow, settled, replayed, script_in}
-use Rattle.trace_forms.specs.ReplayLaws.{IsRunThatSettles}
+use Rattle.trace_lines.specs.Replay.{Told, and_then, follow, settled, replayed, script_in}
+use Rattle.trace_lines.specs.ReplayLaws.{IsRunThatSettles}
 use Rattle.trace_core.specs.declared.refusal.ReplayRefusal.{ReplayRefusal}
 use Rattle.trace_core.specs.Following.{IsRefused}
 use Rattle.trace_core.specs.Outline.{Outline, outline}

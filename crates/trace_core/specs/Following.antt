@@ -1,11 +1,11 @@
 -- Where the lines of a trace lead an outline.
 use Rattle.std.specs.Prelude.{◌≡◌, ℕ, suc, ◌+◌, Option, Some, None, Result, Ok, Err, List, [], ◌∷◌, length}
 use Rattle.script_forms.specs.Jobs.{Fields}
-use Rattle.trace_forms.specs.declared.line.Line.{Line}
-use Rattle.trace_forms.specs.declared.line.Line.TheVariants.{Feed, Outside, Step, Start, Publish, End, Walk, Put}
-use Rattle.trace_forms.specs.declared.line.TraceCause.TheVariants.{NotEnabled}
-use Rattle.trace_forms.specs.Forms.{line_of}
-use Rattle.trace_forms.specs.Replay.{Told, fault, and_then, of_form}
+use Rattle.trace_lines.specs.declared.line.Line.{Line}
+use Rattle.trace_lines.specs.declared.line.Line.TheVariants.{Feed, Outside, Step, Start, Publish, End, Walk, Put}
+use Rattle.trace_lines.specs.declared.line.TraceCause.TheVariants.{NotEnabled}
+use Rattle.trace_lines.specs.Forms.{line_of}
+use Rattle.trace_lines.specs.Replay.{Told, fault, and_then, of_form}
 use Rattle.trace_core.specs.declared.refusal.ReplayRefusal.{ReplayRefusal}
 use Rattle.trace_core.specs.declared.refusal.ReplayRefusal.TheVariants.{Fault, NoMemory}
 use Rattle.trace_core.specs.Outline.{Outline}

@@ -9,7 +9,6 @@ use Rattle.geom_core.specs.declared.NoMemory.{NoMemory}
 use Rattle.doc_model.specs.declared.job.Job.{Job}
 use Rattle.doc_model.specs.declared.job.Kind.{Kind}
 use Rattle.doc_model.specs.declared.canvas.Patch.{Patch}
-use Rattle.doc_model.specs.declared.canvas.Walk.TheVariants.{Up}
 use Rattle.doc_model.specs.declared.command.Command.{Command}
 use Rattle.doc_model.specs.declared.command.Command.TheVariants as command
 use Rattle.doc_model.specs.declared.tree.TreeFault.{TreeFault}
@@ -17,14 +16,13 @@ use Rattle.doc_model.specs.Jobs.{writes}
 use Rattle.doc_model.specs.Changes.{changed}
 use Rattle.doc_model.specs.Lawful.{may_follow}
 use Rattle.doc_model.specs.Strokes.{Jobs, entries}
-use Rattle.doc_model.specs.Updates.{queued, refreshed}
+use Rattle.doc_model.specs.Updates.{refreshed}
 use Rattle.entry_queue.specs.Pushed.{pushed}
-use Rattle.update_queue.specs.Waiting.{Waiting, waiting}
-use Rattle.machine_model.specs.Effects.{updates_with_all}
+use Rattle.update_queue.specs.Waiting.{waiting, widened_by, widened_by_all}
 use Rattle.machine_model.specs.Guards.{is_bar}
 use Rattle.trace_model.specs.Next.{when, is_clear, is_number, place_of}
 use Rattle.trace_model.specs.Replays.{first_of}
-use Rattle.trace_parts.specs.declared.head.Head.{Head}
+use Rattle.entry_queue.specs.declared.head.HeadStroke.{HeadStroke}
 use Rattle.trace_parts.specs.declared.history.Reach.{Reach}
 use Rattle.trace_parts.specs.declared.history.Reach.TheVariants.{Whole, Part}
 use Rattle.trace_parts.specs.Histories.{Former, former}
@@ -32,7 +30,8 @@ use Rattle.trace_parts.specs.declared.slot.Slot.{Slot}
 use Rattle.trace_parts.specs.declared.slot.Slot.TheVariants.{Free, Paints, Walks}
 use Rattle.trace_parts.specs.Trees.{Shape, paints, group_of, tree_path}
 use Rattle.trace_parts.specs.Tiles.{round}
-use Rattle.trace_parts.specs.Waits.{head_in, jobs_in, other_in, is_done}
+use Rattle.entry_queue.specs.Heads.{head_in, jobs_in}
+use Rattle.trace_parts.specs.Waits.{other_in, is_done}
 use Rattle.trace_parts.specs.Painting.{is_painted}
 use Rattle.trace_parts.specs.Walking.{fresh, is_composed}
 use Rattle.trace_parts.specs.Slots.{is_free, is_painter, is_walker, blocks, meets_walker, published_in, composed_in}
@@ -56,13 +55,13 @@ abbrev pub fed : Outline → Command → Option Outline
 fed o c = when (may_follow (entries o.fed) c) (with_command o c)
 
 -- whether the stroke is neither cancelled nor refused
-abbrev pub is_alive : Head → Bool
+abbrev pub is_alive : HeadStroke → Bool
 is_alive h = not h.cancelled && not h.overlaps
 
-abbrev pub may_begin : Outline → Head → Bool
+abbrev pub may_begin : Outline → HeadStroke → Bool
 may_begin o h = is_alive h && (paints h.layer o.base && (not h.exclusive || no_walker o))
 
-abbrev pub begun_by : Outline → Option Head → Option ℕ → Option Outline
+abbrev pub begun_by : Outline → Option HeadStroke → Option ℕ → Option Outline
 begun_by o (Some h) None = when (may_begin o h) (record o { way = Some 0 })
 begun_by o (Some h) (Some n) = None
 begun_by o None way = None
@@ -70,18 +69,18 @@ begun_by o None way = None
 abbrev pub begun : Outline → Option Outline
 begun o = begun_by o (head_in o.left) o.way
 
-abbrev pub may_start : Outline → Head → Kind → Bool
+abbrev pub may_start : Outline → HeadStroke → Kind → Bool
 may_start o h kind = is_alive h && (not (list_any (blocks (jobs_in o.left) kind) o.slots) && (not (is_bar kind) || (h.exclusive || (no_walker o && is_clean o))))
 
 -- the outline with the job at work, which has that index
 abbrev pub with_painter : Outline → ℕ → ℕ → Job → Outline
 with_painter o place n job = record o { way = Some (suc n); slots = slice_set o.slots place (Paints (record { index = n; job = job; published = set.empty })) }
 
-abbrev pub job_started : Outline → ℕ → Head → ℕ → Option (Kind × Job) → Option Outline
+abbrev pub job_started : Outline → ℕ → HeadStroke → ℕ → Option (Kind × Job) → Option Outline
 job_started o place h n None = None
 job_started o place h n (Some job) = when (may_start o h job.0) (with_painter o place n job.1)
 
-abbrev pub started_by : Outline → ℕ → Option Head → Option ℕ → Option Slot → Option Outline
+abbrev pub started_by : Outline → ℕ → Option HeadStroke → Option ℕ → Option Slot → Option Outline
 started_by o place (Some h) (Some n) (Some Free) = job_started o place h n (slice_get (jobs_in o.left) n)
 started_by o place h way slot = None
 
@@ -92,7 +91,7 @@ started o place = started_by o place (head_in o.left) o.way (slice_get o.slots p
 abbrev pub with_slot : Outline → ℕ → Slot → Outline
 with_slot o place slot = record o { slots = slice_set o.slots place slot }
 
-abbrev pub published_by : Outline → ℕ → Key → Option Head → Option Slot → Option Outline
+abbrev pub published_by : Outline → ℕ → Key → Option HeadStroke → Option Slot → Option Outline
 published_by o place key None slot = None
 published_by o place key (Some h) slot = option_map (with_slot o place) (option_and_then (published_in key) slot)
 
@@ -100,13 +99,13 @@ abbrev pub published : Outline → ℕ → Key → Option Outline
 published o place key = published_by o place key (head_in o.left) (slice_get o.slots place)
 
 -- the outline without the job, whose writes wait for a walk
-abbrev pub without_painter : Outline → ℕ → Head → Job → Outline
+abbrev pub without_painter : Outline → ℕ → HeadStroke → Job → Outline
 without_painter o place h job = record o {
   slots = slice_set o.slots place Free;
-  updates = waiting o.updates.canvas (updates_with_all o.updates.canvas (group_of h.layer o.present) (writes job) o.updates.patches);
+  updates = widened_by_all o.updates (group_of h.layer o.present) (writes job);
 }
 
-abbrev pub ended_by : Outline → ℕ → Option Head → Option Slot → Option Outline
+abbrev pub ended_by : Outline → ℕ → Option HeadStroke → Option Slot → Option Outline
 ended_by o place (Some h) (Some (Paints w)) = when (is_painted w) (without_painter o place h w.job)
 ended_by o place h slot = None
 
@@ -131,7 +130,7 @@ abbrev pub composed : Outline → ℕ → ℕ → Key → Option Outline
 composed o place g key = composed_by o place g key (slice_get o.slots place)
 
 -- whether an exclusive stroke is under way
-abbrev pub is_exclusive : Option Head → Option ℕ → Bool
+abbrev pub is_exclusive : Option HeadStroke → Option ℕ → Bool
 is_exclusive (Some h) (Some n) = h.exclusive
 is_exclusive h way = false
 
@@ -156,45 +155,40 @@ walk_started o place patch = walk_started_by o place (place_of patch o.updates.p
 abbrev pub popped : Outline → Outline
 popped o = record o { left = drop 1 o.left }
 
-abbrev pub has_ended : Outline → Head → Bool
+abbrev pub has_ended : Outline → HeadStroke → Bool
 has_ended o h = is_number h.jobs o.way && no_painter o
 
-abbrev pub may_finish : Outline → Head → Bool
+abbrev pub may_finish : Outline → HeadStroke → Bool
 may_finish o h = (h.closed && not h.cancelled) && (not h.overlaps && (not (paints h.layer o.base) || has_ended o h))
 
 -- the outline with the stroke at the head as the newest change
-abbrev pub with_change : Outline → Head → Outline
+abbrev pub with_change : Outline → HeadStroke → Outline
 with_change o h = record o { past = former o.base (Part h.layer (round (jobs_in o.left))) ∷ o.past; future = []; base = o.present; way = None }
 
-abbrev pub after_finish : Outline → Head → Bool → Outline
+abbrev pub after_finish : Outline → HeadStroke → Bool → Outline
 after_finish o h false = popped o
 after_finish o h true = popped (with_change o h)
 
-abbrev pub finished_by : Outline → Option Head → Option Outline
+abbrev pub finished_by : Outline → Option HeadStroke → Option Outline
 finished_by o None = None
 finished_by o (Some h) = when (may_finish o h) (after_finish o h (paints h.layer o.base))
 
 abbrev pub finished : Outline → Option Outline
 finished o = finished_by o (head_in o.left)
 
--- the patches, with a rectangle or none for a group and those above it
-abbrev pub widened : Waiting → ℕ → Option Area → Waiting
-widened u g None = u
-widened u g (Some rect) = waiting u.canvas (queued u.canvas u.patches (Up g) rect)
-
 -- the jobs that were started
 abbrev pub started_of : Jobs → Option ℕ → Jobs
 started_of jobs None = []
 started_of jobs (Some n) = take n jobs
 
-abbrev pub may_cancel : Outline → Head → Bool
+abbrev pub may_cancel : Outline → HeadStroke → Bool
 may_cancel o h = h.closed && ((h.cancelled || h.overlaps) && no_painter o)
 
 -- the outline without what the stroke at the head has painted
-abbrev pub without_change : Outline → Head → Outline
-without_change o h = record o { present = o.base; way = None; updates = widened o.updates (group_of h.layer o.present) (round (started_of (jobs_in o.left) o.way)) }
+abbrev pub without_change : Outline → HeadStroke → Outline
+without_change o h = record o { present = o.base; way = None; updates = widened_by o.updates (group_of h.layer o.present) (round (started_of (jobs_in o.left) o.way)) }
 
-abbrev pub cancelled_by : Outline → Option Head → Option Outline
+abbrev pub cancelled_by : Outline → Option HeadStroke → Option Outline
 cancelled_by o None = None
 cancelled_by o (Some h) = when (may_cancel o h) (popped (without_change o h))
 
@@ -211,7 +205,7 @@ may_act o c = no_walker o && (not (is_export c) || is_clean o)
 -- the outline with another document, after a change of that reach
 abbrev pub moved_to : Outline → Shape → Reach → Outline
 moved_to o new Whole = record o { base = new; present = new; updates = waiting o.updates.canvas (refreshed o.updates.canvas o.updates.patches o.area) }
-moved_to o new (Part layer bound) = record o { base = new; present = new; updates = widened o.updates (group_of layer new) bound }
+moved_to o new (Part layer bound) = record o { base = new; present = new; updates = widened_by o.updates (group_of layer new) bound }
 
 -- the same, where there was such a change
 abbrev pub reached : Outline → Option Reach → Outline

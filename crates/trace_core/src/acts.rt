@@ -6,13 +6,13 @@ ghost use Rattle.trace_core.specs.Parts.{parts};
 ghost use Rattle.trace_parts.specs.Waits.{other_in};
 ghost use Rattle.trace_core.specs.Moves.{Follows, may_act, reached, after_change, after_undo, after_redo, after_command, acted, stepped};
 
-use crate::machine::Machine;
-use crate::strokes::widen;
+use crate::machine::OutlinedMachine;
 use doc_model::{Change, Command};
 use geom_core::NoMemory;
 use trace_parts::Reach;
+use update_queue::widen;
 
-impl Machine {
+impl OutlinedMachine {
     /// Whether the command at the head may take effect.
     fn may_act(&self, command: &Command) -> bool
         ensures { result ≡ may_act (parts self.now) command.now }

@@ -12,4 +12,4 @@ mod work;
 
 pub use refusal::ReplayRefusal;
 pub use replaying::{Replayed, replay};
-pub use trace_forms::TraceCause;
+pub use trace_lines::TraceCause;

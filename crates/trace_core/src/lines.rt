@@ -2,19 +2,19 @@
 
 ghost use Rattle.std.specs.Prelude.{◌≡◌, ◌<◌, ◌+◌, length};
 ghost use Rattle.script_lines.specs.Fronts.{pointed, lines_behind};
-ghost use Rattle.trace_forms.specs.Fits.{Fits};
+ghost use Rattle.trace_lines.specs.Fits.{Fits};
 ghost use Rattle.trace_core.specs.Parts.{parts};
 ghost use Rattle.trace_core.specs.Moves.{Follows};
 ghost use Rattle.trace_core.specs.Following.{happens, line_follows, follow, LeadsTo, Counts};
 
-use crate::machine::Machine;
+use crate::machine::OutlinedMachine;
 use crate::refusal::{ReplayRefusal, fault};
 use geom_core::NoMemory;
 use script_lines::next_fields;
 use std::alloc::Global;
-use trace_forms::{Line, TraceCause, line_of};
+use trace_lines::{Line, TraceCause, line_of};
 
-impl Machine {
+impl OutlinedMachine {
     /// What the line says happens. False where it may not.
     fn take(&mut self, line: &Line) -> Result<bool, NoMemory>
         requires { Fits line.now }

@@ -19,7 +19,7 @@ use update_queue::Updates;
 
 /// All of the machine's state but pixels, serials and outcomes.
 #[derive(Drop)]
-pub(crate) struct Machine {
+pub(crate) struct OutlinedMachine {
     pub(crate) alloc: Global,
     /// The canvas's points.
     pub(crate) area: Rect,
@@ -42,15 +42,15 @@ fn free_slots(alloc: Global, n: u8) -> Result<Vec<Slot>, NoMemory>
     Ok(slots)
 }
 
-impl Machine {
+impl OutlinedMachine {
     /// A machine to which nothing was fed, with n free slots.
-    pub(crate) fn new(alloc: Global, canvas: &Canvas, n: u8) -> Result<Machine, NoMemory>
+    pub(crate) fn new(alloc: Global, canvas: &Canvas, n: u8) -> Result<OutlinedMachine, NoMemory>
         requires { IsOfLimits canvas.now }
         ensures { IfOk result (λ m. parts m ≡ outline (new_state canvas.now n)) }
     {
         let slots = free_slots(alloc, n)?;
         let area = canvas.rect();
-        Ok(Machine {
+        Ok(OutlinedMachine {
             alloc,
             area,
             intake: Intake::new(alloc),

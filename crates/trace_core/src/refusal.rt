@@ -5,7 +5,7 @@ ghost use Rattle.trace_core.specs.declared.refusal.ReplayRefusal.TheVariants as 
 
 use geom_core::NoMemory;
 use std::alloc::AllocError;
-use trace_forms::TraceCause;
+use trace_lines::TraceCause;
 
 /// Why a trace wasn't followed to its end.
 #[derive(Clone, Copy, Debug, PartialEq, Eq)]

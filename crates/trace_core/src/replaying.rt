@@ -10,16 +10,16 @@ ghost use Rattle.trace_core.specs.Answers.{Answers, IsBegun};
 ghost use Rattle.trace_core.specs.Following.{IsRefused};
 ghost use Rattle.trace_core.specs.Parts.{parts};
 ghost use Rattle.trace_core.specs.declared.refusal.ReplayRefusal.TheVariants as refusal;
-ghost use Rattle.trace_forms.specs.Replay.{replay as told, trace_lines, replayed};
+ghost use Rattle.trace_lines.specs.Replay.{replay as told, lines_in, replayed};
 
-use crate::machine::Machine;
+use crate::machine::OutlinedMachine;
 use crate::refusal::{ReplayRefusal, fault};
 use doc_model::Canvas;
 use script_lines::next_fields;
 use script_text::{MakeRefusal, Script};
 use std::alloc::Global;
 use std::marker::Model;
-use trace_forms::{TraceCause, canvas_line, slots};
+use trace_lines::{TraceCause, canvas_line, slots};
 
 /// A trace without a fault.
 #[derive(Drop)]
@@ -46,7 +46,7 @@ impl Replayed {
         &self.script
     }
 
-    /// The same, given away.
+    /// Gives the canvas and the commands that were fed away.
     pub fn into_script(self) -> Script
         ensures { result ≡ self }
     {
@@ -56,14 +56,14 @@ impl Replayed {
 
 /// A machine as the first two lines say, its canvas, and what stands behind them.
 struct Beginning<'a> {
-    machine: Machine,
+    machine: OutlinedMachine,
     canvas: Canvas,
     behind: Option<&'a [u8]>,
 }
 
 /// The text of the lines: all but the line feed behind the last. None where there is no line.
 fn text_of(bytes: &[u8]) -> Option<&[u8]>
-    ensures { trace_lines bytes.now ≡ lines_behind result }
+    ensures { lines_in bytes.now ≡ lines_behind result }
 {
     match bytes {
         [] => None,
@@ -73,7 +73,7 @@ fn text_of(bytes: &[u8]) -> Option<&[u8]>
 }
 
 /// The machine of the first two lines.
-#[tactic(auto, unfolding(trace_forms::specs::Replay::replayed))]
+#[tactic(auto, unfolding(trace_lines::specs::Replay::replayed))]
 fn begin(alloc: Global, text: Option<&[u8]>) -> Result<Beginning<'_>, ReplayRefusal>
     ensures ok { IfOk result (λ b. IsBegun (parts b.machine) b.canvas (lines_behind b.behind) (lines_behind text.entry)) }
     ensures err { IfErr result (λ e. IsRefused e (replayed (lines_behind text.entry))) }
@@ -93,7 +93,7 @@ fn begin(alloc: Global, text: Option<&[u8]>) -> Result<Beginning<'_>, ReplayRefu
     let Ok(canvas) = canvas_line(&fields) else {
         return Err(fault(2, TraceCause::BadLine));
     };
-    let machine = Machine::new(alloc, &canvas, n)?;
+    let machine = OutlinedMachine::new(alloc, &canvas, n)?;
     Ok(Beginning {
         machine,
         canvas,
@@ -102,7 +102,11 @@ fn begin(alloc: Global, text: Option<&[u8]>) -> Result<Beginning<'_>, ReplayRefu
 }
 
 /// The script of a machine's commands.
-fn script_of(alloc: Global, canvas: Canvas, machine: &Machine) -> Result<Replayed, ReplayRefusal>
+fn script_of(
+    alloc: Global,
+    canvas: Canvas,
+    machine: &OutlinedMachine,
+) -> Result<Replayed, ReplayRefusal>
     requires limits { in_limits canvas ≡ true }
     requires lawful { lawful machine.now.intake.fed ≡ true }
     requires closed { all_closed machine.now.intake.fed ≡ true }

@@ -4,28 +4,19 @@ ghost use Rattle.std.specs.Prelude.{◌≡◌, Ok, OnOk, true, All, take};
 ghost use Rattle.doc_model.specs.Jobs.{checks};
 ghost use Rattle.entry_queue.specs.Pushed.{may_leave};
 ghost use Rattle.trace_core.specs.Parts.{parts};
-ghost use Rattle.trace_parts.specs.Waits.{head_in, jobs_in};
-ghost use Rattle.trace_parts.specs.declared.head.Head.{Head};
+ghost use Rattle.entry_queue.specs.Heads.{head_in, jobs_in};
+ghost use Rattle.entry_queue.specs.declared.head.HeadStroke.{HeadStroke};
 ghost use Rattle.trace_parts.specs.Trees.{group_of};
 ghost use Rattle.trace_parts.specs.Tiles.{round};
-ghost use Rattle.trace_core.specs.Moves.{Follows, may_begin, begun, may_finish, has_ended, with_change, finished, may_cancel, started_of, widened, without_change, cancelled, popped};
+ghost use Rattle.trace_core.specs.Moves.{Follows, may_begin, begun, may_finish, has_ended, with_change, finished, may_cancel, started_of, without_change, cancelled, popped};
 
-use crate::machine::Machine;
+use crate::machine::OutlinedMachine;
 use crate::work::is_alive;
-use doc_model::{Job, Kind, Walk};
-use geom_core::{NoMemory, Rect};
-use trace_parts::{Head, Reach, round};
-use update_queue::Updates;
-
-/// The rectangle, or none, waits for the group and those above it.
-pub(crate) fn widen(updates: &mut Updates, group: u16, rect: Option<Rect>)
-    ensures { updates.new ≡ widened updates.old group rect }
-{
-    match rect {
-        Some(rect) => updates.add(Walk::Up(group), rect),
-        None => {}
-    }
-}
+use doc_model::{Job, Kind};
+use entry_queue::HeadStroke;
+use geom_core::NoMemory;
+use trace_parts::{Reach, round};
+use update_queue::widen;
 
 /// Of these jobs the first so many.
 fn front(jobs: &[(Kind, Job)], n: u32) -> &[(Kind, Job)]
@@ -37,9 +28,9 @@ fn front(jobs: &[(Kind, Job)], n: u32) -> &[(Kind, Job)]
     }
 }
 
-impl Machine {
+impl OutlinedMachine {
     /// Whether the stroke at the head may begin, where none is under way.
-    fn may_begin(&self, head: &Head) -> bool
+    fn may_begin(&self, head: &HeadStroke) -> bool
         ensures { result ≡ may_begin (parts self.now) head.now }
     {
         is_alive(head) && (self.history.paints(head.layer) && (!head.exclusive || self.no_walker()))
@@ -60,7 +51,7 @@ impl Machine {
     }
 
     /// Whether all jobs of the stroke at the head have ended.
-    fn has_ended(&self, head: &Head) -> bool
+    fn has_ended(&self, head: &HeadStroke) -> bool
         ensures { result ≡ has_ended (parts self.now) head.now }
     {
         match self.way {
@@ -70,7 +61,7 @@ impl Machine {
     }
 
     /// Whether the stroke at the head may finish.
-    fn may_finish(&self, head: &Head) -> bool
+    fn may_finish(&self, head: &HeadStroke) -> bool
         ensures { result ≡ may_finish (parts self.now) head.now }
     {
         let ended = head.closed && !head.cancelled;
@@ -78,7 +69,7 @@ impl Machine {
     }
 
     /// The stroke at the head becomes the newest change, and leaves the queue.
-    fn keep_change(&mut self, head: &Head) -> Result<(), NoMemory>
+    fn keep_change(&mut self, head: &HeadStroke) -> Result<(), NoMemory>
         requires { may_leave self.old.intake.left ≡ true }
         ensures { OnOk result (parts self.new ≡ popped (with_change (parts self.old) head.now)) }
     {
@@ -108,7 +99,7 @@ impl Machine {
     }
 
     /// Whether the stroke at the head may be taken back.
-    fn may_cancel(&self, head: &Head) -> bool
+    fn may_cancel(&self, head: &HeadStroke) -> bool
         ensures { result ≡ may_cancel (parts self.now) head.now }
     {
         head.closed && ((head.cancelled || head.overlaps) && self.no_painter())
@@ -127,7 +118,7 @@ impl Machine {
     }
 
     /// What the stroke at the head has painted is taken back, and it leaves the queue.
-    fn drop_change(&mut self, head: &Head)
+    fn drop_change(&mut self, head: &HeadStroke)
         requires { may_leave self.old.intake.left ≡ true }
         ensures { parts self.new ≡ popped (without_change (parts self.old) head.now) }
     {

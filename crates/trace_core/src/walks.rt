@@ -5,12 +5,12 @@ ghost use Rattle.geom_core.specs.Keys.{IsWorldKey};
 ghost use Rattle.trace_model.specs.Next.{same_area, same_patch, place_of};
 ghost use Rattle.trace_core.specs.Parts.{parts};
 ghost use Rattle.trace_core.specs.Moves.{Follows, is_exclusive, may_walk, walk_started, composed};
-ghost use Rattle.trace_parts.specs.Waits.{head_in};
+ghost use Rattle.entry_queue.specs.Heads.{head_in};
 
-use crate::machine::Machine;
+use crate::machine::OutlinedMachine;
 use doc_model::Patch;
 use geom_core::{NoMemory, Rect, TileKey};
-use trace_parts::{Slot, Walker, fill, some_meets};
+use trace_parts::{OutlinedWalk, Slot, fill, some_meets};
 use update_queue::Updates;
 
 /// Whether the rectangles are one.
@@ -41,7 +41,7 @@ fn place_of(updates: &Updates, patch: &Patch) -> Option<usize>
     None
 }
 
-impl Machine {
+impl OutlinedMachine {
     /// Whether an exclusive stroke is under way.
     fn is_exclusive(&self) -> bool
         ensures { result ≡ is_exclusive (head_in self.now.intake.left) self.now.way }
@@ -74,7 +74,7 @@ impl Machine {
             return Ok(false);
         }
         let path = self.history.path(self.alloc, patch.walk)?;
-        let walker = Walker::new(self.alloc, patch, &path)?;
+        let walker = OutlinedWalk::new(self.alloc, patch, &path)?;
         let _patch = self.updates.take_at(i);
         fill(&mut self.slots, place, Slot::Walks(walker));
         Ok(true)

@@ -2,47 +2,26 @@
 
 ghost use Rattle.std.specs.Prelude.{◌≡◌, ◌||◌, ◌&&◌, Ok};
 ghost use Rattle.geom_core.specs.Keys.{IsWorldKey};
-ghost use Rattle.machine_model.specs.Guards.{is_bar};
-ghost use Rattle.machine_model.specs.Effects.{updates_with_all};
-ghost use Rattle.update_queue.specs.Waiting.{waiting};
 ghost use Rattle.trace_core.specs.Parts.{parts};
 ghost use Rattle.trace_core.specs.Moves.{Follows, is_alive, may_start, started, published, ended, walk_ended, work_ended, no_walker, is_clean};
 
-use crate::machine::Machine;
-use doc_model::{Kind, Walk};
-use geom_core::{NoMemory, Rect, TileKey};
-use trace_parts::{Head, Painter, Slot, fill, some_blocks};
-use update_queue::Updates;
-
-/// The rectangles wait for the group and those above it, one after another.
-fn widen_all(updates: &mut Updates, group: u16, rects: &[Rect])
-    ensures { updates.new ≡ waiting updates.old.canvas (updates_with_all updates.old.canvas group rects.now updates.old.patches) }
-{
-    for rect in rects {
-        updates.add(Walk::Up(group), *rect);
-    }
-}
+use crate::machine::OutlinedMachine;
+use doc_model::Kind;
+use entry_queue::{HeadStroke, is_bar};
+use geom_core::{NoMemory, TileKey};
+use trace_parts::{OutlinedJob, Slot, fill, some_blocks};
+use update_queue::widen_all;
 
 /// Whether a stroke is neither cancelled nor refused.
-pub(crate) fn is_alive(head: &Head) -> bool
+pub(crate) fn is_alive(head: &HeadStroke) -> bool
     ensures { result ≡ is_alive head.now }
 {
     !head.cancelled && !head.overlaps
 }
 
-/// Whether a job of that kind is a barrier.
-fn is_bar(kind: Kind) -> bool
-    ensures { result ≡ is_bar kind }
-{
-    match kind {
-        Kind::Bar => true,
-        Kind::Con | Kind::Seq | Kind::Uni => false,
-    }
-}
-
-impl Machine {
+impl OutlinedMachine {
     /// Whether a job of that kind of the stroke at the head may start beside those at work.
-    fn may_start(&self, head: &Head, kind: Kind) -> bool
+    fn may_start(&self, head: &HeadStroke, kind: Kind) -> bool
         ensures { result ≡ may_start (parts self.now) head.now kind }
     {
         let blocked = some_blocks(&self.slots, self.intake.jobs(), kind);
@@ -50,7 +29,7 @@ impl Machine {
     }
 
     /// Whether a barrier may start.
-    fn lets_bar(&self, head: &Head) -> bool
+    fn lets_bar(&self, head: &HeadStroke) -> bool
         ensures { result ≡ (head.now.exclusive || (no_walker (parts self.now) && is_clean (parts self.now))) }
     {
         head.exclusive || (self.no_walker() && self.is_clean())
@@ -75,7 +54,7 @@ impl Machine {
         if !self.may_start(&head, kind) {
             return false;
         }
-        let painter = Painter::new(self.alloc, index, job);
+        let painter = OutlinedJob::new(self.alloc, index, job);
         fill(&mut self.slots, place, Slot::Paints(painter));
         self.way = Some(index + 1);
         true

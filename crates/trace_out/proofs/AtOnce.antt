@@ -19,10 +19,10 @@ use Rattle.slot_core.specs.declared.Busy.{Busy}
 use Rattle.desk_parts.specs.declared.work.Work.{Work}
 use Rattle.desk_parts.specs.Choices.{is_done_at_once, DoesAtOnce}
 use Rattle.desk_parts.specs.Enabled.{ends, IsEnd}
-use Rattle.trace_forms.specs.declared.line.Line.{Line}
-use Rattle.trace_forms.specs.declared.line.Line.TheVariants as told
-use Rattle.trace_text.specs.Texts.{line_text}
-use Rattle.trace_text.specs.Ranges.{line_in_range, is_place}
+use Rattle.trace_lines.specs.declared.line.Line.{Line}
+use Rattle.trace_lines.specs.declared.line.Line.TheVariants as told
+use Rattle.trace_lines.specs.Texts.{line_text}
+use Rattle.trace_lines.specs.Ranges.{line_in_range, is_place}
 use Rattle.trace_out.specs.declared.scribe.Scribe.{Scribe}
 use Rattle.trace_out.specs.Writing.{IsTied}
 use Rattle.trace_out.specs.Lent.{IsLent}

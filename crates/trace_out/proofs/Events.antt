@@ -14,12 +14,12 @@ use Rattle.machine_model.proofs.Continuing.{runs_continue}
 use Rattle.desk_parts.proofs.SettlingRuns.{run_then}
 use Rattle.trace_model.proofs.GivenSteps.{steps_are_next}
 use Rattle.trace_model.proofs.Turns.{turns_are_steps}
-use Rattle.trace_forms.specs.declared.line.Line.{Line}
-use Rattle.trace_forms.specs.declared.line.Line.TheVariants as told
-use Rattle.trace_forms.specs.Replay.{happens}
-use Rattle.trace_text.specs.Texts.{line_text}
-use Rattle.trace_text.specs.Ranges.{line_in_range}
-use Rattle.trace_text.specs.Leads.{led_to}
+use Rattle.trace_lines.specs.declared.line.Line.{Line}
+use Rattle.trace_lines.specs.declared.line.Line.TheVariants as told
+use Rattle.trace_lines.specs.Replay.{happens}
+use Rattle.trace_lines.specs.Texts.{line_text}
+use Rattle.trace_lines.specs.Ranges.{line_in_range}
+use Rattle.trace_lines.specs.Leads.{led_to}
 use Rattle.trace_out.specs.Writing.{Writes}
 
 -- what a trace says of an event

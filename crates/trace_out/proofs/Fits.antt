@@ -17,7 +17,7 @@ use Rattle.doc_model.specs.Queues.{in_place}
 use Rattle.machine_model.specs.State.{State, Slot}
 use Rattle.machine_model.specs.Sound.{IsOrderly}
 use Rattle.machine_model.proofs.Lists.{each_get}
-use Rattle.trace_text.specs.Ranges.{is_place, is_key}
+use Rattle.trace_lines.specs.Ranges.{is_place, is_key}
 
 -- a slot's place
 pub place_fits : (s : State) (p : ℕ) (x : Slot) → IsOrderly s → slice_get s.slots p ≡ Some x → is_place p ≡ true

@@ -21,9 +21,9 @@ use Rattle.desk_parts.specs.declared.work.Work.{Work}
 use Rattle.desk_parts.specs.Choices.{is_done_at_once}
 use Rattle.desk_parts.specs.Settles.{Settles, GoesOn}
 use Rattle.desk_parts.proofs.SettlingRuns.{goes_on, goes_less, run_then, settles_none, settles_then}
-use Rattle.trace_forms.specs.declared.line.Line.TheVariants as told
-use Rattle.trace_text.specs.Texts.{line_text}
-use Rattle.trace_text.specs.Ranges.{line_in_range}
+use Rattle.trace_lines.specs.declared.line.Line.TheVariants as told
+use Rattle.trace_lines.specs.Texts.{line_text}
+use Rattle.trace_lines.specs.Ranges.{line_in_range}
 use Rattle.trace_out.specs.declared.scribe.Scribe.{Scribe}
 use Rattle.trace_out.specs.Writing.{IsTied, Writes}
 use Rattle.trace_out.specs.Goes.{GoesOnWriting, SettlesWriting, GoesOnPutting, SettlesPutting}

@@ -15,9 +15,9 @@ use Rattle.desk_parts.specs.declared.work.Walker.{Walker}
 use Rattle.desk_parts.specs.declared.work.Work.{Work}
 use Rattle.desk_parts.specs.After.{busy_painter, busy_walker}
 use Rattle.desk_machine.specs.declared.tickets.SlotId.{SlotId}
-use Rattle.trace_forms.specs.declared.line.Line.TheVariants as told
-use Rattle.trace_text.specs.Texts.{line_text}
-use Rattle.trace_text.specs.Ranges.{is_group_number, is_key, is_place}
+use Rattle.trace_lines.specs.declared.line.Line.TheVariants as told
+use Rattle.trace_lines.specs.Texts.{line_text}
+use Rattle.trace_lines.specs.Ranges.{is_group_number, is_key, is_place}
 use Rattle.trace_out.specs.declared.scribe.Scribe.{Scribe}
 use Rattle.trace_out.specs.Writing.{IsTied}
 use Rattle.trace_out.specs.Lent.{IsLent, IsLentWalk, walk_of}

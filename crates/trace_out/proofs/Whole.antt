@@ -14,11 +14,11 @@ use Rattle.doc_model.specs.Feeding.{lawful}
 use Rattle.machine_model.specs.State.{State, new_state}
 use Rattle.machine_model.specs.Settled.{IsSettled}
 use Rattle.trace_model.proofs.Turns.{settled_tells}
-use Rattle.trace_forms.specs.Replay.{replay, slots_in}
-use Rattle.trace_text.specs.Texts.{head_text, line_text, trace_text}
-use Rattle.trace_text.specs.Laws.{IsSettlingText}
-use Rattle.trace_text.specs.Leads.{led_to}
-use Rattle.trace_text.proofs.PrintedTraces.{printed_replays}
+use Rattle.trace_lines.specs.Replay.{replay, slots_in}
+use Rattle.trace_lines.specs.Texts.{head_text, line_text, trace_lines}
+use Rattle.trace_lines.specs.PrintLaws.{IsSettlingText}
+use Rattle.trace_lines.specs.Leads.{led_to}
+use Rattle.trace_lines.proofs.PrintedTraces.{printed_replays}
 use Rattle.trace_out.specs.Writing.{Writes}
 use Rattle.trace_out.specs.Traces.{IsTraceOf}
 
@@ -31,8 +31,8 @@ pub commands_fit : (s : Contents) → is_script s ≡ true → list_all in_range
 unfolding is_script
 commands_fit s h = second (in_limits s.canvas) (list_all in_range s.commands) (first (in_limits s.canvas && list_all in_range s.commands) (lawful s.commands && all_closed s.commands) h)
 
-text_is : (n : ℕ) (c : Canvas) (t : State) (bytes : List ℕ) (w : Writes (new_state c n) (head_text n c) t bytes) → bytes ≡ trace_text n c w.lines
-unfolding trace_text
+text_is : (n : ℕ) (c : Canvas) (t : State) (bytes : List ℕ) (w : Writes (new_state c n) (head_text n c) t bytes) → bytes ≡ trace_lines n c w.lines
+unfolding trace_lines
 text_is n c t bytes w = w.text
 
 pub is_trace : (script : Contents) (n : ℕ) (t : State) (bytes : List ℕ) → is_script script ≡ true → 1 ≤ n → n ≤ 17 → Writes (new_state script.canvas n) (head_text n script.canvas) t bytes → IsSettled t → t.fed ≡ script.commands → IsTraceOf script n bytes
@@ -46,7 +46,7 @@ is_trace script n t bytes is some few w rests fed = record {
     settling : IsSettlingText n script.canvas w.lines t
     settling = record { some_slot = some; few_slots = few; canvas_fits = canvas_fits script is; lines_fit = w.fit; leads = w.leads; settled = settled_tells.told t rests }
 
-    text : bytes ≡ trace_text n script.canvas w.lines
+    text : bytes ≡ trace_lines n script.canvas w.lines
     text = text_is n script.canvas t bytes w
 
 -- what was written since nothing was fed, by the canvas that was given

@@ -2,7 +2,7 @@
 use Rattle.std.specs.Prelude.{◌≡◌, ℕ, List, Ok}
 use Rattle.machine_model.specs.State.{State}
 use Rattle.script_text.specs.Script.{Contents}
-use Rattle.trace_forms.specs.Replay.{replay, script_in, slots_in}
+use Rattle.trace_lines.specs.Replay.{replay, script_in, slots_in}
 
 -- the bytes are a trace without a fault, its script is that one, and its first line says that number of slots
 pub record IsTraceOf (script : Contents) (slots : ℕ) (bytes : List ℕ) : Type 0 where

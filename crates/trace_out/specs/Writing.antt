@@ -8,10 +8,10 @@ use Rattle.slot_core.specs.declared.Busy.{Busy}
 use Rattle.desk_parts.specs.declared.work.Work.{Work}
 use Rattle.desk_parts.specs.Parts.{slot_of}
 use Rattle.desk_parts.specs.Tied.{IsKept}
-use Rattle.trace_forms.specs.declared.line.Line.{Line}
-use Rattle.trace_text.specs.Texts.{line_text}
-use Rattle.trace_text.specs.Ranges.{line_in_range}
-use Rattle.trace_text.specs.Leads.{led_to}
+use Rattle.trace_lines.specs.declared.line.Line.{Line}
+use Rattle.trace_lines.specs.Texts.{line_text}
+use Rattle.trace_lines.specs.Ranges.{line_in_range}
+use Rattle.trace_lines.specs.Leads.{led_to}
 
 -- what is held is what is at work, as it was taken; and some run leads there
 pub record IsTied (held : List (Option (Busy Work))) (s : State) : Type 0 where

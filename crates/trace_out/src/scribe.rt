@@ -7,7 +7,7 @@ ghost use Rattle.doc_model.specs.Lawful.{may_follow};
 ghost use Rattle.doc_model.specs.Strokes.{entries};
 ghost use Rattle.script_forms.specs.Ranges.{in_range};
 ghost use Rattle.machine_model.specs.State.{new_state, is_free};
-ghost use Rattle.trace_text.specs.Texts.{head_text};
+ghost use Rattle.trace_lines.specs.Texts.{head_text};
 ghost use Rattle.trace_out.specs.Writing.{IsTied, Writes};
 
 use desk_core::Desk;
@@ -16,8 +16,7 @@ use doc_model::{Canvas, Command};
 use geom_core::NoMemory;
 use slot_core::Slots;
 use std::alloc::Global;
-use trace_forms::Line;
-use trace_text::{add_head, add_line};
+use trace_lines::{Line, add_head, add_line};
 
 /// A desk, what it has at work, as it was taken, and the trace of its events so far.
 #[derive(Drop)]

@@ -5,9 +5,9 @@ ghost use Rattle.geom_core.specs.Areas.{lies_in, world};
 ghost use Rattle.machine_model.specs.Settled.{IsSettled};
 ghost use Rattle.desk_parts.specs.Choices.{IsIdle};
 ghost use Rattle.desk_parts.specs.After.{busy_painter, busy_walker};
-ghost use Rattle.trace_forms.specs.declared.line.Line.TheVariants.{Start as StartLine, Walk as WalkLine};
-ghost use Rattle.trace_text.specs.Texts.{line_text};
-ghost use Rattle.trace_text.specs.Ranges.{line_in_range, patch_in_range, walk_in_range, is_place};
+ghost use Rattle.trace_lines.specs.declared.line.Line.TheVariants.{Start as StartLine, Walk as WalkLine};
+ghost use Rattle.trace_lines.specs.Texts.{line_text};
+ghost use Rattle.trace_lines.specs.Ranges.{line_in_range, patch_in_range, walk_in_range, is_place};
 ghost use Rattle.trace_out.specs.declared.takes.Took.TheVariants as took;
 ghost use Rattle.trace_out.specs.Writing.{IsTied};
 ghost use Rattle.trace_out.specs.Lent.{IsLent, taken_job, taken_walk};
@@ -20,8 +20,7 @@ use doc_model::{Patch, Walk};
 use geom_core::NoMemory;
 use memento_core::Steps;
 use std::sync::ledger::Ledger;
-use trace_forms::Line;
-use trace_text::add_line;
+use trace_lines::{Line, add_line};
 
 /// Whether something was taken.
 pub(crate) enum Took {

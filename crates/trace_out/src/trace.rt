@@ -154,7 +154,7 @@ pub fn trace_of(alloc: Global, script: &Script, slots: u8) -> Result<Traced, NoM
     Ok(traced)
 }
 
-/// The same, with a count of exchanged tiles on that ledger.
+/// A trace of the script, and its outcomes, with a count of exchanged tiles on that ledger.
 fn trace_on<L: Ledger>(
     alloc: Global,
     script: &Script,

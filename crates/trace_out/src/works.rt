@@ -21,8 +21,7 @@ use desk_work::{next_pair, next_tile};
 use geom_core::{NoMemory, TileKey};
 use job_core::paint_tile;
 use std::alloc::Global;
-use trace_forms::Line;
-use trace_text::add_line;
+use trace_lines::{Line, add_line};
 use walker_core::{Composed, compose_key};
 
 impl Scribe {
@@ -39,7 +38,7 @@ impl Scribe {
         }
     }
 
-    /// The same of a job.
+    /// Publishes one more tile of a job, or ends it where all are published.
     fn paint_at(&mut self, place: u8, painter: Painter) -> Result<(), NoMemory>
         requires { IsLent self.old.held place (busy_painter painter) self.old.desk }
         ensures { OnOk result (GoesOnWriting self.old.desk self.old.out.items self.new) }
@@ -112,7 +111,7 @@ impl Scribe {
         Ok(())
     }
 
-    /// The same, while the walk is out of its place.
+    /// Publishes a tile of a walk that is out of its place, first of the given group and then of the others.
     fn put_all(
         &mut self,
         place: u8,

@@ -1,29 +1,8 @@
--- The entry at the head of a queue.
-use Rattle.std.specs.Prelude.{Bool, true, false, Option, Some, None, is_some, List, [], ◌∷◌, length}
+-- The entry at the head of a queue, where it is no stroke.
+use Rattle.std.specs.Prelude.{Bool, true, false, Option, Some, None, List, [], ◌∷◌}
 use Rattle.doc_model.specs.declared.command.Command.{Command}
-use Rattle.doc_model.specs.Strokes.{Jobs}
-use Rattle.stroke_core.specs.Fed.{Fed}
 use Rattle.entry_queue.specs.declared.entry.Entry.{Entry}
 use Rattle.entry_queue.specs.declared.entry.Entry.TheVariants.{Waiting, Whole, Other}
-use Rattle.trace_parts.specs.declared.head.Head.{Head}
-
--- what guards ask of a stroke
-abbrev pub head_of : Fed → Bool → Bool → Head
-head_of s closed cancelled = record { layer = s.layer; exclusive = s.exclusive; overlaps = is_some s.overlap; closed = closed; cancelled = cancelled; jobs = length s.jobs }
-
--- the stroke at the head
-abbrev pub head_in : List Entry → Option Head
-head_in [] = None
-head_in (Waiting s ∷ es) = Some (head_of s false false)
-head_in (Whole c ∷ es) = Some (head_of c.stroke true c.cancelled)
-head_in (Other c ∷ es) = None
-
--- its kept jobs
-abbrev pub jobs_in : List Entry → Jobs
-jobs_in [] = []
-jobs_in (Waiting s ∷ es) = s.jobs
-jobs_in (Whole c ∷ es) = c.stroke.jobs
-jobs_in (Other c ∷ es) = []
 
 -- the entry at the head, where it is no stroke
 abbrev pub other_in : List Entry → Option Command

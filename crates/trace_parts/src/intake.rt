@@ -5,14 +5,14 @@ ghost use Rattle.std.specs.List.{list_all};
 ghost use Rattle.doc_model.specs.Jobs.{checks};
 ghost use Rattle.doc_model.specs.Lawful.{may_follow};
 ghost use Rattle.doc_model.specs.Strokes.{entries};
+ghost use Rattle.entry_queue.specs.Heads.{head_in, jobs_in};
 ghost use Rattle.entry_queue.specs.Pushed.{pushed, may_leave};
 ghost use Rattle.script_forms.specs.Ranges.{in_range};
-ghost use Rattle.trace_parts.specs.Waits.{head_in, jobs_in, other_in, is_done};
+ghost use Rattle.trace_parts.specs.Waits.{other_in, is_done};
 
-use crate::head::Head;
 use command_log::CommandLog;
 use doc_model::{Command, Job, Kind, Outcome};
-use entry_queue::{Entry, Queue};
+use entry_queue::{Entry, HeadStroke, Queue};
 use geom_core::NoMemory;
 use std::alloc::Global;
 use std::marker::Model;
@@ -63,28 +63,10 @@ impl Intake {
     }
 
     /// The stroke at the head. None exactly where none is.
-    pub fn head(&self) -> Option<Head>
+    pub fn head(&self) -> Option<HeadStroke>
         ensures { result ≡ head_in self.now.left }
     {
-        match self.queue.head() {
-            Some(Entry::Waiting(stroke)) => Some(Head {
-                layer: stroke.layer(),
-                exclusive: stroke.exclusive(),
-                overlaps: stroke.overlap().is_some(),
-                closed: false,
-                cancelled: false,
-                jobs: stroke.job_count(),
-            }),
-            Some(Entry::Whole(stroke)) => Some(Head {
-                layer: stroke.layer(),
-                exclusive: stroke.exclusive(),
-                overlaps: stroke.overlap().is_some(),
-                closed: true,
-                cancelled: stroke.cancelled(),
-                jobs: stroke.job_count(),
-            }),
-            Some(Entry::Other(_)) | None => None,
-        }
+        self.queue.head_stroke()
     }
 
     /// The kept jobs of the stroke at the head, or none.
@@ -93,11 +75,7 @@ impl Intake {
         ensures checked { All (λ job. checks job.1 ≡ true) result.now }
         ensures few { length result.now ≤ 4096 }
     {
-        match self.queue.head() {
-            Some(Entry::Waiting(stroke)) => stroke.jobs(),
-            Some(Entry::Whole(stroke)) => stroke.jobs(),
-            Some(Entry::Other(_)) | None => &[],
-        }
+        self.queue.head_jobs()
     }
 
     /// The entry at the head, where it is no stroke.

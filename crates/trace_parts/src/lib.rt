@@ -2,19 +2,17 @@
 #![tactic(auto)]
 
 mod composed;
-mod head;
 mod history;
 mod intake;
-mod painter;
+mod job;
 mod paths;
 mod slot;
 mod tiles;
-mod walker;
+mod walk;
 
-pub use head::Head;
 pub use history::{History, Reach};
 pub use intake::Intake;
-pub use painter::Painter;
+pub use job::OutlinedJob;
 pub use slot::{Slot, all_free, fill, some_blocks, some_meets, some_painter, some_walker};
 pub use tiles::round;
-pub use walker::Walker;
+pub use walk::OutlinedWalk;

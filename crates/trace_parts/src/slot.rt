@@ -2,13 +2,13 @@
 
 ghost use Rattle.std.specs.Prelude.{◌≡◌, slice_set};
 ghost use Rattle.std.specs.List.{list_any, list_all};
-ghost use Rattle.machine_model.specs.Guards.{excludes as guard_excludes, kind_at};
 ghost use Rattle.geom_core.specs.Keys.{IsWorldKey};
 ghost use Rattle.trace_parts.specs.Slots.{is_free, is_painter, is_walker, meets_walker, blocks, published_in, composed_in, SlotFollows};
 
-use crate::painter::Painter;
-use crate::walker::Walker;
+use crate::job::OutlinedJob;
+use crate::walk::OutlinedWalk;
 use doc_model::{Job, Kind};
+use entry_queue::{excludes, kind_at};
 use geom_core::{NoMemory, Rect, TileKey};
 
 /// A slot: free, or with a job or a walk at work.
@@ -17,31 +17,9 @@ pub enum Slot {
     /// Nothing is at work there.
     Free,
     /// A job of the stroke at the head.
-    Paints(Painter),
+    Paints(OutlinedJob),
     /// A walk that composes a patch.
-    Walks(Walker),
-}
-
-/// Whether a job of the first kind may not run beside one of the second.
-fn excludes(kind: Kind, beside: Option<Kind>) -> bool
-    ensures { result ≡ guard_excludes kind beside }
-{
-    match (kind, beside) {
-        (Kind::Seq | Kind::Bar, _) => true,
-        (Kind::Con | Kind::Uni, Some(Kind::Seq | Kind::Bar)) => true,
-        (Kind::Uni, Some(Kind::Uni)) => true,
-        _ => false,
-    }
-}
-
-/// The kind of the job with that index.
-fn kind_at(jobs: &[(Kind, Job)], index: u32) -> Option<Kind>
-    ensures { result ≡ kind_at jobs.now index }
-{
-    match jobs.get(index as usize) {
-        Some((kind, _)) => Some(*kind),
-        None => None,
-    }
+    Walks(OutlinedWalk),
 }
 
 impl Slot {

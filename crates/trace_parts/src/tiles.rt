@@ -23,7 +23,7 @@ pub fn is_tile_of(rect: &Rect, key: TileKey) -> bool
     rect.meets(&key.rect())
 }
 
-/// The same, as a test of each rectangle.
+/// Whether some of the rectangles meets the tile.
 fn some_has(rects: &[Rect], key: TileKey) -> bool
     requires { IsWorldKey key }
     ensures { result ≡ list_any (λ r. list_any (same_key key) (keys_of r)) rects.now }
@@ -51,7 +51,7 @@ pub fn has_all(keys: &KeySet, rect: &Rect) -> bool
     true
 }
 
-/// The same, as a test of each rectangle.
+/// Whether of each rectangle all tiles are in the set.
 fn each_has(keys: &KeySet, rects: &[Rect]) -> bool
     ensures { result ≡ list_all (λ r. has_all keys.now (keys_of r)) rects.now }
 {
@@ -65,7 +65,7 @@ pub fn has_all_of(keys: &KeySet, rects: &[Rect]) -> bool
     each_has(keys, rects)
 }
 
-/// The least rectangle round both.
+/// The least rectangle round one that may be there and another.
 fn wider(bound: Option<Rect>, rect: Rect) -> Option<Rect>
     ensures { result ≡ Some (widened bound rect) }
 {
@@ -75,7 +75,7 @@ fn wider(bound: Option<Rect>, rect: Rect) -> Option<Rect>
     }
 }
 
-/// The same, with all tiles of the rectangle.
+/// The least rectangle round one that may be there and all tiles of a rectangle.
 fn round_tiles(bound: Option<Rect>, rect: &Rect) -> Option<Rect>
     ensures { result ≡ rounded (keys_of rect.now) bound }
 {
@@ -86,7 +86,7 @@ fn round_tiles(bound: Option<Rect>, rect: &Rect) -> Option<Rect>
     round
 }
 
-/// The same, with all tiles of the rectangles.
+/// The least rectangle round one that may be there and all tiles of the rectangles.
 fn round_all_tiles(bound: Option<Rect>, rects: &[Rect]) -> Option<Rect>
     ensures { result ≡ rounded (all_keys_of rects.now) bound }
 {
@@ -97,7 +97,7 @@ fn round_all_tiles(bound: Option<Rect>, rects: &[Rect]) -> Option<Rect>
     round
 }
 
-/// The same, with all tiles that the job may change.
+/// The least rectangle round one that may be there and all tiles that the job may change.
 fn round_writes(bound: Option<Rect>, job: &Job) -> Option<Rect>
     requires { checks job.now ≡ true }
     ensures { result ≡ rounded (all_keys_of (writes job.now)) bound }

@@ -58,3 +58,7 @@ pub record HasTurn {E X : Type 0} (artist : E → ℕ) (lawful : List E → E �
   pub history : List E
   pub continues : Continues artist lawful numbers made seen history
   pub answers : Answers lawful history entry answer after
+
+-- a call of this pass
+abbrev pub PassHasTurn : {E X : Type 0} → (E → ℕ) → (List E → E → Bool) → Known E → E → Result Sent X → List E → Type 0
+PassHasTurn artist lawful p entry answer after = HasTurn artist lawful p.numbers p.made p.seen entry answer after

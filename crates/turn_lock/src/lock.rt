@@ -4,7 +4,8 @@ ghost use Rattle.std.specs.List.{range_with_len};
 ghost use Rattle.turn_lock.specs.History.{Has, IsLegal, made_by};
 ghost use Rattle.turn_lock.specs.Answers.{added};
 ghost use Rattle.turn_lock.specs.Turns.{start_view};
-ghost use Rattle.turn_lock.specs.Passes.{IsOwn, fresh, all_fresh, called, joined, HasTurn};
+ghost use Rattle.turn_lock.specs.Passes.{IsOwn, fresh, all_fresh, called, joined, PassHasTurn};
+ghost use Rattle.turn_lock.specs.Steps.{SitsAt};
 
 use crate::board::Board;
 use crate::calls::call;
@@ -98,7 +99,7 @@ fn deal<E: Drop, F: Drop, D: Board<E, F> + Drop>(
     mut seat: Place<E, F, D>,
     artists: u8,
 ) -> Result<Vec<Pass<E, F, D>>, NoMemory>
-    requires table { (seat.table_id ≡ table.now.table_id) × (0 < table.now.table_id.words) }
+    requires table { SitsAt seat.table_id table.now.table_id }
     requires start { seat.me ≡ (start_view 0 artists, []) }
     ensures { IfOk result (λ passes. passes.items ≡ all_fresh table.now.table_id artists) }
 {
@@ -159,7 +160,7 @@ impl<E, F, D: Board<E, F>> TurnLock<E, F, D> {
         requires lock { pass.old.lock ≡ self.now.id }
         requires own { Has pass.old.numbers (D.artist entry.now) }
         requires few { pass.old.calls < 1048576 }
-        ensures turn { HasTurn D.artist D.lawful pass.old.numbers pass.old.made pass.old.seen entry.now result pass.new.seen }
+        ensures turn { PassHasTurn D.artist D.lawful pass.old entry.now result pass.new.seen }
         ensures pass { pass.new ≡ called pass.old (added entry.now result) pass.new.seen }
     {
         let answer = call(rt, &self.table.shared, &mut pass.seat, entry);

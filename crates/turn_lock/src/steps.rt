@@ -1,7 +1,7 @@
 //! The steps of a call at the table.
-ghost use Rattle.std.specs.Prelude.{◌≡◌, ◌<◌, ◌≤◌, ◌+◌, ◌==◌, ℕ, ◌∷◌, [], Some, None, length, MatchBool};
+ghost use Rattle.std.specs.Prelude.{◌≡◌, ◌<◌, ◌≤◌, ◌+◌, ℕ, ◌∷◌, [], Some, None, length};
 ghost use Rattle.turn_lock.specs.Turns.{kept_count, start_view, joined_view};
-ghost use Rattle.turn_lock.specs.Steps.{begun, ended, Finds, MayGive};
+ghost use Rattle.turn_lock.specs.Steps.{SitsAt, BothSitAt, TakesFree, MayEnd, EndsTurn, CutsFirst};
 
 use crate::board::Board;
 use crate::rule::{AWAITED, Begin, Count, Cut, End, FREE, Law, Merge, TAKEN};
@@ -14,23 +14,24 @@ pub(crate) type Place<E, F, D> = Seat<Option<D>, View<E, F>>;
 
 /// Takes the turn where nobody has it, which a 0 tells.
 pub(crate) fn begin<E, F, D: Board<E, F>>(table: &Steps<E, F, D>, seat: &mut Place<E, F, D>) -> u64
-    requires table { (seat.old.table_id ≡ table.now.table_id) × (0 < table.now.table_id.words) }
+    requires table { SitsAt seat.old.table_id table.now.table_id }
     requires number { 0 < kept_count seat.old.me.0 }
     ensures table { seat.new.table_id ≡ seat.old.table_id }
-    ensures turn { MatchBool (result == 0) ((x : D) × (seat.new.me ≡ (begun seat.old.me.0 (D.history x) (D.fixed x), (0, Some x) ∷ seat.old.me.1)) × Finds D.artist D.lawful D.history D.fixed seat.old.me.0 x) (seat.new.me ≡ seat.old.me) }
+    ensures turn { TakesFree D.artist D.lawful D.history D.fixed seat.old.me result seat.new.me }
 {
     table.compare_exchange::<Begin<D>>(seat, 0, FREE, TAKEN)
 }
 
-/// The same. Where somebody has the turn, the word tells from now on that others may wait.
+/// Takes the turn where nobody has it, which a 0 tells. Where somebody has it, the word tells from now
+/// on that others may wait.
 pub(crate) fn begin_or_queue<E, F, D: Board<E, F>>(
     table: &Steps<E, F, D>,
     seat: &mut Place<E, F, D>,
 ) -> u64
-    requires table { (seat.old.table_id ≡ table.now.table_id) × (0 < table.now.table_id.words) }
+    requires table { SitsAt seat.old.table_id table.now.table_id }
     requires number { 0 < kept_count seat.old.me.0 }
     ensures table { seat.new.table_id ≡ seat.old.table_id }
-    ensures turn { MatchBool (result == 0) ((x : D) × (seat.new.me ≡ (begun seat.old.me.0 (D.history x) (D.fixed x), (0, Some x) ∷ seat.old.me.1)) × Finds D.artist D.lawful D.history D.fixed seat.old.me.0 x) (seat.new.me ≡ seat.old.me) }
+    ensures turn { TakesFree D.artist D.lawful D.history D.fixed seat.old.me result seat.new.me }
 {
     table.swap::<Begin<D>>(seat, 0, AWAITED)
 }
@@ -66,10 +67,10 @@ pub(crate) fn give<E, F, D: Board<E, F>>(
 
 /// Ends the turn, and wakes one of those who may wait.
 pub(crate) fn end<E, F, D: Board<E, F>>(table: &Steps<E, F, D>, seat: &mut Place<E, F, D>)
-    requires table { (seat.old.table_id ≡ table.now.table_id) × (0 < table.now.table_id.words) }
-    requires turn { (x : D) × (seat.old.me.1 ≡ (0, Some x) ∷ []) × MayGive D.artist D.lawful D.history D.fixed seat.old.me.0 x }
+    requires table { SitsAt seat.old.table_id table.now.table_id }
+    requires turn { MayEnd D.artist D.lawful D.history D.fixed seat.old.me }
     ensures table { seat.new.table_id ≡ seat.old.table_id }
-    ensures view { (x : D) → seat.old.me.1 ≡ (0, Some x) ∷ [] → seat.new.me ≡ (ended seat.old.me.0 (D.history x), []) }
+    ensures view { EndsTurn D.history seat.old.me seat.new.me }
 {
     if table.swap::<End<D>>(seat, 0, FREE) == AWAITED {
         table.wake_one(0);
@@ -78,7 +79,7 @@ pub(crate) fn end<E, F, D: Board<E, F>>(table: &Steps<E, F, D>, seat: &mut Place
 
 /// Tells that a seat keeps no more numbers than there may be artists.
 pub(crate) fn count<E, F, D: Board<E, F>>(table: &Steps<E, F, D>, seat: &mut Place<E, F, D>)
-    requires table { (seat.old.table_id ≡ table.now.table_id) × (0 < table.now.table_id.words) }
+    requires table { SitsAt seat.old.table_id table.now.table_id }
     ensures table { seat.new.table_id ≡ seat.old.table_id }
     ensures same { seat.new.me ≡ seat.old.me }
     ensures few { length seat.new.me.0.kept ≤ 16 }
@@ -91,10 +92,11 @@ pub(crate) fn cut<E, F, D: Board<E, F>>(
     table: &Steps<E, F, D>,
     seat: &mut Place<E, F, D>,
 ) -> Place<E, F, D>
-    requires table { (seat.old.table_id ≡ table.now.table_id) × (0 < table.now.table_id.words) }
+    requires table { SitsAt seat.old.table_id table.now.table_id }
     requires start { (n : ℕ) × (more : ℕ) × (seat.old.me ≡ (start_view n (more + 1), [])) }
-    ensures table { (seat.new.table_id ≡ seat.old.table_id) × (result.table_id ≡ seat.old.table_id) }
-    ensures views { (n : ℕ) (more : ℕ) → seat.old.me ≡ (start_view n (more + 1), []) → (result.me ≡ (start_view n 1, [])) × (seat.new.me ≡ (start_view (n + 1) more, [])) }
+    ensures table { (seat.new.table_id ≡ seat.old.table_id)
+        × (result.table_id ≡ seat.old.table_id) }
+    ensures views { CutsFirst seat.old.me result.me seat.new.me }
 {
     table.split_seat::<Cut>(seat)
 }
@@ -105,7 +107,7 @@ pub(crate) fn merge<E, F, D: Board<E, F>>(
     seat: &mut Place<E, F, D>,
     other: Place<E, F, D>,
 )
-    requires table { (seat.old.table_id ≡ table.now.table_id) × (other.table_id ≡ table.now.table_id) × (0 < table.now.table_id.words) }
+    requires table { BothSitAt seat.old.table_id other.table_id table.now.table_id }
     requires rests { (seat.old.me.0.turn ≡ None) × (other.me.0.turn ≡ None) × (other.me.1 ≡ []) }
     ensures table { seat.new.table_id ≡ seat.old.table_id }
     ensures view { seat.new.me ≡ (joined_view seat.old.me.0 other.me.0, seat.old.me.1) }

@@ -3,5 +3,7 @@
 
 mod places;
 mod updates;
+mod widening;
 
 pub use updates::Updates;
+pub use widening::{widen, widen_all};

@@ -43,7 +43,7 @@ fn first_place_of(patches: &[Patch], walk: Walk, part: &Rect) -> Option<usize>
     None
 }
 
-/// The same where there is one such place at most. It looks at the guess first.
+/// The place of a patch that takes the part in, where one does at most, from 0. It looks at the guess first.
 fn place_of(patches: &[Patch], walk: Walk, part: &Rect, guess: usize) -> Option<usize>
     requires unlike { all_unlike patches.now ≡ true }
     ensures { result ≡ position (λ p. same_walk p.walk walk && one_cell p.rect part.now) patches.now }
@@ -55,7 +55,7 @@ fn place_of(patches: &[Patch], walk: Walk, part: &Rect, guess: usize) -> Option<
 }
 
 /// Makes the patch at a place the bounding rectangle of itself and the part.
-fn widen(patches: &mut [Patch], i: usize, part: &Rect)
+fn grow(patches: &mut [Patch], i: usize, part: &Rect)
     requires { i < length patches.old }
     ensures { (p : Patch) → slice_get patches.old i ≡ Some p → patches.new ≡ slice_set patches.old i (patch p.walk (bound p.rect part.now)) }
 {
@@ -79,7 +79,7 @@ fn add_part(
 {
     match place_of(patches.as_slice(), walk, part, guess) {
         Some(i) => {
-            widen(patches.as_mut_slice(), i, part);
+            grow(patches.as_mut_slice(), i, part);
             Some(i)
         }
         None => {

@@ -1,6 +1,6 @@
 -- The rows of a composition.
 use Rattle.std.proofs.Common.{◌≡◌, ℕ, zero, suc, ◌+◌, ◌<◌, Bool, true, false, ◌||◌, ◌&&◌, cond, List, [], ◌∷◌, ◌++◌, take, length, get_or, Option, Some, None, is_some, refl, sym, ap, subst, ◌∙◌, arith, eqb}
-use Rattle.std.specs.Prelude.{slice_get, IfSome, pos}
+use Rattle.std.specs.Prelude.{IfSome, pos}
 use Rattle.std.specs.Borrow.{Bor}
 use Rattle.std.specs.Ordering.{int_eq}
 use Rattle.std.specs.List.{list_any}
@@ -8,7 +8,6 @@ use Rattle.std.specs.Option.{option_copied, unwrap_or}
 use Rattle.std.proofs.lemmas.List.{take_more, map-append, length-map, get_or-map}
 use Rattle.std.proofs.lemmas.List.Elements.{All-append}
 use Rattle.std.proofs.lemmas.List.Folds.{list_any_at}
-use Rattle.std.proofs.lemmas.Option.{get_or_from_slice_get, slice_get_within, slice_get-get_or}
 use borrow.Author.Differences.{ints}
 use Rattle.pixel_core.specs.Rgba.{Rgba, clear}
 use Rattle.geom_core.specs.Areas.{Point, point}
@@ -34,14 +33,9 @@ keys_same a b e =
     λ i. key (c i) (r i)
 
 -- one tile more
-pub keys_more : (rows : List Row) (new : List Row) (row : Row) (keys : List Key) (i : ℕ) (k : Key) → new ≡ rows ++ row ∷ [] → keys_in rows ≡ take i keys → slice_get keys i ≡ Some k → row.key ≡ k → keys_in new ≡ take (i + 1) keys
-keys_more rows new row keys i k e so_far at same =
-    ap keys_in e ∙ map-append (λ (r : Row). r.key) rows (row ∷ []) ∙ (λ j. so_far j ++ same j ∷ [])
-    ∙ sym (take_more keys i k (slice_get_within keys i k at) ∙ ap (λ (x : Key). take i keys ++ x ∷ []) (get_or_from_slice_get keys i k k at))
-
--- the same, by the key that stands at the place
 pub keys_next : (rows new : List Row) (row : Row) (keys : List Key) (i : ℕ) (d : Key) → new ≡ rows ++ row ∷ [] → keys_in rows ≡ take i keys → i < length keys → row.key ≡ get_or keys i d → keys_in new ≡ take (i + 1) keys
-keys_next rows new row keys i d e so_far h same = keys_more rows new row keys i (get_or keys i d) e so_far (slice_get-get_or keys i d h) same
+keys_next rows new row keys i d e so_far h same =
+    ap keys_in e ∙ map-append (λ (r : Row). r.key) rows (row ∷ []) ∙ (λ j. so_far j ++ same j ∷ []) ∙ sym (take_more keys i d h)
 
 lone : (r : Readings) (row : Row) → IsRow r row.key row.given.items → (k : ℕ) (d : Row) → k < 1 → IsRow r (get_or (row ∷ []) k d).key (get_or (row ∷ []) k d).given.items
 lone r row is zero d h = is

@@ -9,6 +9,7 @@ use Rattle.doc_model.specs.Shots.{in_tile}
 use Rattle.machine_model.specs.State.{Child}
 use Rattle.machine_model.specs.Walks.{walk_folded, walk_values}
 use Rattle.compose_core.specs.Spots.{IsSpot, given_on}
+use Rattle.compose_core.specs.declared.children.Given.{Given}
 use Rattle.walker_core.specs.declared.known.Damaged.{Damaged}
 use Rattle.walker_core.specs.declared.known.Known.{Known}
 use Rattle.walker_core.specs.declared.known.Kept.{Kept}
@@ -43,10 +44,14 @@ IfKnown r (Some k) = IsKnown r k
 abbrev pub value_at : List (ℕ × List Child) → ℕ → Point → Rgba
 value_at groups i p = walk_folded (walk_values (take i groups) [] p) (slice_index_or groups i (0, [])).1 p clear
 
--- what is kept of the group at a place of the path has the walk's value at the points of the patch in the tile
+-- what is given has the walk's value of the group at a place of the path at the points of the patch in the tile
+abbrev pub HasValue : Readings → ℕ → Key → Given → Type 0
+HasValue r i key given = (p : Point) → holds r.patch.rect p ≡ true → in_tile key p ≡ true → given_on given p ≡ value_at r.groups i p
+
+-- what is kept of the group at a place of the path has the walk's value there
 abbrev pub IsKept : Readings → ℕ → Key → Kept → Type 0
 IsKept r i key Nothing = Unit {0}
-IsKept r i key (Whole given) = (p : Point) → holds r.patch.rect p ≡ true → in_tile key p ≡ true → given_on given p ≡ value_at r.groups i p
+IsKept r i key (Whole given) = HasValue r i key given
 IsKept r i key (Outside spot given) =
     IsSpot spot
     × (spot.key ≡ key)

@@ -66,7 +66,8 @@ impl Gathered {
         look: Look,
         layer: &Device,
     ) -> Result<(), NoMemory>
-        ensures ok { OnOk result (self.new ≡ with_child self.old group (child_on self.old.patch.rect id look (layer_of layer.now))) }
+        ensures ok { OnOk result (self.new ≡ with_child self.old group
+            (child_on self.old.patch.rect id look (layer_of layer.now))) }
         ensures err { OnErr result (self.new ≡ self.old) }
     {
         let shot = layer.grab(alloc, &[self.patch.rect])?;

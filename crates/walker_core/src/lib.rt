@@ -10,7 +10,7 @@ mod paths;
 mod row;
 mod same;
 
-pub use composed::{Composed, compose_key, compose_keys, compose_walk};
+pub use composed::{Composed, compose_key, compose_keys};
 pub use gathered::Gathered;
 pub use inputs::Inputs;
 pub use known::{Damaged, Known};

@@ -13,7 +13,8 @@ use tile_core::{Block, Shot, Tile};
 
 /// What a shot has on a tile: its tile, shared, or its default pixel.
 pub(crate) fn shown_on(shot: &Shot, key: TileKey) -> Result<Given, NoMemory>
-    ensures { IfOk result (λ g. (p : Point) → in_tile key p ≡ true → given_on g p ≡ sight_at shot.now p) }
+    ensures { IfOk result (λ g. (p : Point) → in_tile key p ≡ true
+        → given_on g p ≡ sight_at shot.now p) }
 {
     match shot.tile(key) {
         Some(tile) => Ok(Given::Held(tile.share()?)),
@@ -30,7 +31,8 @@ pub(crate) fn overlaid(
     spot: &Spot,
 ) -> Result<Given, NoMemory>
     requires { IsSpot spot.now }
-    ensures { IfOk result (λ g. (p : Point) → in_tile spot.now.key p ≡ true → given_on g p ≡ (if holds spot.now.part p then given_on fresh.now p else given_on given p)) }
+    ensures { IfOk result (λ g. (p : Point) → in_tile spot.now.key p ≡ true
+        → given_on g p ≡ (if holds spot.now.part p then given_on fresh.now p else given_on given p)) }
 {
     if given.is_clear() && fresh.is_clear() {
         return Ok(given);

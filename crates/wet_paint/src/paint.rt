@@ -3,6 +3,7 @@
 ghost use Rattle.std.specs.Prelude.{◌≡◌, ◌≤◌, ◌-◌, ◌^◌, length};
 
 use crate::screen::watch;
+use doc_model::MOST_COMMANDS;
 use geom_core::NoMemory;
 use io_edge::{Failed, NoGate};
 use live_run::{live_frame, paint_live};
@@ -18,9 +19,6 @@ use tile_core::Frame;
 
 /// How many threads paint beside the caller.
 const WORKERS: u8 = 3;
-
-/// How many commands a desk takes at most.
-const MOST: usize = 4_294_967_295;
 
 /// Why there is no picture.
 #[derive(Debug, Drop)]
@@ -112,7 +110,7 @@ fn named_picture<K: Naming + Send + Sync, R: Threads + Wait + Print + Sync>(
 ) -> Result<Frame, WetError>
     requires { opened ≡ K.book }
 {
-    if script.len() > MOST {
+    if script.len() > MOST_COMMANDS {
         return Err(WetError::NoMemory);
     }
     let mut live: LiveWriter<K> = opened.named(alloc, 2)?;

@@ -6,7 +6,7 @@ use Rattle.desk_machine.proofs.Barriers.{front_passes}
 use Rattle.desk_machine.proofs.small_jobs.next_jobs.Goals as goal
 
 pub returns-clause-front : goal.returns-clause-front
-returns-clause-front c = c.before_bar.ensures.front ∙ ap (take (length c.before_bar.result.now)) (c.split_at.ensures.back ∙ ap (drop c.args.from) c.queued_jobs.ensures.value)
+returns-clause-front c = c.before_bar.ensures.front ∙ ap (take (length c.before_bar.result.now)) (c.split_at.ensures.back ∙ ap (drop c.args.from) c.head_jobs.ensures.value)
 
 pub returns-clause-checked : goal.returns-clause-checked
-returns-clause-checked c = front_passes (λ (j : Kind × Job). checks j.1 ≡ true) c.queued_jobs.result.now _ (length c.before_bar.result.now) c.args.from (c.before_bar.ensures.front ∙ ap (take (length c.before_bar.result.now)) c.split_at.ensures.back) c.queued_jobs.ensures.checked
+returns-clause-checked c = front_passes (λ (j : Kind × Job). checks j.1 ≡ true) c.head_jobs.result.now _ (length c.before_bar.result.now) c.args.from (c.before_bar.ensures.front ∙ ap (take (length c.before_bar.result.now)) c.split_at.ensures.back) c.head_jobs.ensures.checked

@@ -1,6 +1,6 @@
 use Rattle.std.proofs.Common.{rules, ◌≡◌, ◌∷◌, Ok, ap, ◌∙◌}
 use Rattle.script_lines.specs.Fronts.{pointed, lines_behind}
-use Rattle.trace_forms.specs.Forms.{slots, canvas_line}
+use Rattle.trace_lines.specs.Forms.{slots, canvas_line}
 use Rattle.trace_core.proofs.Following.{begins}
 use Rattle.trace_core.proofs.replaying.begin.Goals as goal
 

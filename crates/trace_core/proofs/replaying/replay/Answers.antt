@@ -1,7 +1,7 @@
 use Rattle.std.proofs.Common.{rules, ◌≡◌, false, Result, Err, length, sym, ap, ◌∙◌, subst, arith}
 use Rattle.script_text.specs.Script.{Contents}
-use Rattle.trace_forms.specs.declared.line.TraceCause.TheVariants.{Unsettled}
-use Rattle.trace_forms.specs.Replay.{fault, replay as told, replayed}
+use Rattle.trace_lines.specs.declared.line.TraceCause.TheVariants.{Unsettled}
+use Rattle.trace_lines.specs.Replay.{fault, replay as told, replayed}
 use Rattle.trace_core.specs.Answers.{Answers}
 use Rattle.trace_core.specs.Following.{IsRefused}
 use Rattle.trace_core.specs.Moves.{is_settled}

@@ -4,7 +4,7 @@ use Rattle.doc_model.specs.Feeding.{is_closed_entry}
 use Rattle.doc_model.specs.Strokes.{entries}
 use Rattle.doc_model.specs.Meaning.{meaning}
 use Rattle.machine_model.specs.State.{State, new_state}
-use Rattle.trace_text.specs.Texts.{head_text}
+use Rattle.trace_lines.specs.Texts.{head_text}
 use Rattle.trace_out.specs.Writing.{Writes}
 use Rattle.trace_out.specs.Traces.{IsTraceOf}
 use Rattle.desk_parts.proofs.SettlingRuns.{fed_stays}

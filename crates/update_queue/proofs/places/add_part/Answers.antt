@@ -25,9 +25,9 @@ returns-then-is_full-clause-full c =
 pub returns-in-Some-clause-merged : goal.returns-in-Some-clause-merged
 returns-in-Some-clause-merged c =
     let found : position (fits c.args.walk c.args.part.now) c.args.patches.now.items ≡ Some c.in-Some.i = ap (position (fits c.args.walk c.args.part.now)) (sym c.as_slice.ensures.value) ∙ sym c.place_of.ensures ∙ c.in-Some.is in
-    let is = widened_is c.args.walk c.args.part.now c.args.patches.now.items c.widen.new.patches c.in-Some.i c.requires.unlike found
-    (λ (p : Patch) (e : slice_get c.args.patches.now.items c.in-Some.i ≡ Some p). c.widen.ensures p (ap (λ xs. slice_get xs c.in-Some.i) c.as_mut_slice.ensures.value ∙ e) ∙ ap (λ xs. slice_set xs c.in-Some.i (patch p.walk (bound p.rect c.args.part.now))) c.as_mut_slice.ensures.value) in
-    λ h. refilled c.args.patches.now.items c.widen.new.patches (ap length is ∙ length_map (merged c.args.walk c.args.part.now) c.args.patches.now.items) ∙ is
+    let is = widened_is c.args.walk c.args.part.now c.args.patches.now.items c.grow.new.patches c.in-Some.i c.requires.unlike found
+    (λ (p : Patch) (e : slice_get c.args.patches.now.items c.in-Some.i ≡ Some p). c.grow.ensures p (ap (λ xs. slice_get xs c.in-Some.i) c.as_mut_slice.ensures.value ∙ e) ∙ ap (λ xs. slice_set xs c.in-Some.i (patch p.walk (bound p.rect c.args.part.now))) c.as_mut_slice.ensures.value) in
+    λ h. refilled c.args.patches.now.items c.grow.new.patches (ap length is ∙ length_map (merged c.args.walk c.args.part.now) c.args.patches.now.items) ∙ is
 
 pub returns-in-Some-clause-placed : goal.returns-in-Some-clause-placed
 returns-in-Some-clause-placed c =

@@ -1,11 +1,11 @@
 use Rattle.std.proofs.Common.{◌≡◌, ◌+◌, ◌<◌, ◌∙◌, ℕ, [], List, ap, sym, subst, arith, take, length, refl, true}
-use Rattle.std.proofs.lemmas.List.{take_all, length-map}
+use Rattle.std.proofs.lemmas.List.{take_all, length-map, length-take-le}
 use Rattle.geom_core.specs.Areas.{holds, Point}
 use Rattle.doc_model.specs.Shots.{in_tile}
 use Rattle.machine_model.specs.State.{Child}
 use Rattle.machine_model.specs.Walks.{walk_values}
 use Rattle.walker_core.specs.Readings.{path_in}
-use Rattle.walker_core.specs.Rows.{given_values}
+use Rattle.walker_core.specs.Rows.{given_values, values_of}
 use Rattle.compose_core.specs.Spots.{given_on}
 use Rattle.walker_core.specs.Knowing.{value_at}
 use Rattle.walker_core.proofs.Given.{row_next}
@@ -17,12 +17,19 @@ few c =
     let groups : length (path_in c.args.inputs.now) ≡ length c.args.inputs.now.groups = length-map c.args.inputs.now.groups (λ (e : ℕ × List Child). e.0) in
     omega arith
 
+pub compose_next-requires-clause-below : goal.compose_next-requires-clause-below
+compose_next-requires-clause-below c =
+    let on_path : c.loop-i.i < length c.path-path.result.now = omega arith in
+    let count : length c.deref.result.now ≡ c.loop-i.i = ap length c.deref.ensures.value ∙ c.loop-i.invariant.0 in
+    record {
+      paired = count ∙ sym (length-take-le c.loop-i.i c.path-path.result.now (omega (arith, on_path)));
+      next = subst (λ (ps : List ℕ). length c.deref.result.now < length ps) c.path-path.ensures (omega (arith, on_path, count));
+      values = λ p h k. (λ j. values_of (take c.loop-i.i (c.path-path.ensures j)) (c.deref.ensures.value j) p) ∙ c.loop-i.invariant.1 p h k ∙ ap (λ n. walk_values (take n c.args.inputs.now.groups) [] p) (sym count);
+    }
+
 -- what was composed next is the walk's value
 value : (c : goal.In_ok-push) (p : Point) → holds c.args.inputs.now.patch.rect p ≡ true → in_tile c.args.key p ≡ true → given_on c.in_ok-one.one p ≡ value_at c.args.inputs.now.groups c.loop-i.i p
-value c p h k =
-    let count : length c.deref.result.now ≡ c.loop-i.i = ap length c.deref.ensures.value ∙ c.loop-i.invariant.0 in
-    c.in_ok-one.ensures p h k ((λ j. given_values (take c.loop-i.i (c.path-path.ensures j)) (c.deref.ensures.value j) [] p) ∙ c.loop-i.invariant.1 p h k ∙ ap (λ n. walk_values (take n c.args.inputs.now.groups) [] p) (sym count))
-    ∙ ap (λ n. value_at c.args.inputs.now.groups n p) count
+value c p h k = c.in_ok-one.ensures p h k ∙ ap (λ n. value_at c.args.inputs.now.groups n p) (ap length c.deref.ensures.value ∙ c.loop-i.invariant.0)
 
 pub loop-i-preserved : goal.loop-i-preserved
 loop-i-preserved c = (

@@ -1,5 +1,16 @@
 use Rattle.std.proofs.Common.{refl}
+use Rattle.desk_parts.proofs.SettlingRuns.{canvas_stays, fed_stays}
+use Rattle.desk_core.proofs.Committing.{commit_settles}
 use Rattle.desk_core.proofs.desk.Desk.commit.Goals as goal
 
 pub returns-then-not-are_of_work-clause-answer : goal.returns-then-not-are_of_work-clause-answer
 returns-then-not-are_of_work-clause-answer c = rw (← c.self.view_is) (c.are_of_work.ensures.none c.if-not-are_of_work.true, refl)
+
+pub returns-clause-runs : goal.returns-clause-runs
+returns-clause-runs c = commit_settles c.args.slot.place c.args.slot.serial c.args.tiles.now c.args.self.now c.commit_by.new.self c.commit_by.result c.commit_by.ensures
+
+pub returns-clause-canvas : goal.returns-clause-canvas
+returns-clause-canvas c = canvas_stays (commit_settles c.args.slot.place c.args.slot.serial c.args.tiles.now c.args.self.now c.commit_by.new.self c.commit_by.result c.commit_by.ensures)
+
+pub returns-clause-fed : goal.returns-clause-fed
+returns-clause-fed c = fed_stays (commit_settles c.args.slot.place c.args.slot.serial c.args.tiles.now c.args.self.now c.commit_by.new.self c.commit_by.result c.commit_by.ensures)

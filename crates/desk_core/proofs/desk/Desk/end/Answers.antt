@@ -1,14 +1,18 @@
-use Rattle.std.proofs.Common.{sym, ◌∙◌}
+use Rattle.std.proofs.Common.{refl, sym, ◌∙◌}
 use Rattle.machine_model.specs.Event.{End, WalkEnd}
 use Rattle.desk_parts.proofs.Ends.{ends_own, walk_ends_own}
 use Rattle.desk_machine.proofs.Ending.{job_is_end, walk_is_end, neither_ends, never}
+use Rattle.desk_core.proofs.Tracking.{then_tracks}
 use Rattle.desk_core.proofs.desk.Desk.end.Goals as goal
+
+pub invariant_of-self : goal.invariant_of-self
+invariant_of-self c = then_tracks c.self.inside.machine c.end_job.new.self (End c.args.slot.place) c.self.inside.damage.value c.self.inside.calm refl c.end_job.ensures c.self.invariant
 
 pub end_job-requires : goal.end_job-requires
 end_job-requires c = (c.is_complete.ensures.0 c.if-is_complete.true).enabled
 
 pub end_walk-requires : goal.end_walk-requires
-end_walk-requires c = (c.is_walked.ensures.0 c.if-is_walked.true).enabled
+end_walk-requires c = rw (← c.self.view_is) (c.is_walked.ensures.0 c.if-is_walked.true).enabled
 
 pub returns-then-is_complete-clause-taken : goal.returns-then-is_complete-clause-taken
 returns-then-is_complete-clause-taken c = rw (← c.self.view_is) (λ e. job_is_end _ _ _ (c.is_complete.ensures.0 c.if-is_complete.true))
@@ -20,7 +24,7 @@ pub returns-then-is_walked-clause-taken : goal.returns-then-is_walked-clause-tak
 returns-then-is_walked-clause-taken c = rw (← c.self.view_is) (λ e. walk_is_end _ _ _ (c.is_walked.ensures.0 c.if-is_walked.true))
 
 pub returns-then-is_walked-clause-done : goal.returns-then-is_walked-clause-done
-returns-then-is_walked-clause-done c = rw (← c.self.view_is) (λ e. (WalkEnd c.args.slot.place, walk_ends_own c.args.slot.place, c.end_walk.ensures))
+returns-then-is_walked-clause-done c = λ e. (WalkEnd c.args.slot.place, walk_ends_own c.args.slot.place, c.end_walk.ensures)
 
 pub returns-clause-refused : goal.returns-clause-refused
 returns-clause-refused c = rw (← c.self.view_is) (λ e. neither_ends _ _ _ (λ m. never (sym c.if-is_complete.false ∙ c.is_complete.ensures.1 m)) (λ m. never (sym c.if-is_walked.false ∙ c.is_walked.ensures.1 m)))

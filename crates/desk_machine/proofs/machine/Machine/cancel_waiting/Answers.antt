@@ -6,13 +6,14 @@ use Rattle.machine_model.specs.Step.{CancelStep}
 use Rattle.machine_model.specs.Guards.{is_closed}
 use Rattle.machine_model.specs.Effects.{cancel_outcome}
 use Rattle.desk_parts.specs.Enabled.{Enabled}
-use Rattle.desk_parts.specs.Parts.{Parts, parts, state_of}
+use Rattle.desk_parts.specs.Parts.{Parts, state_of}
 use Rattle.desk_parts.proofs.Doing.{Does, cancel_waiting_does}
+use Rattle.desk_machine.specs.Kept.{parts_of}
 use Rattle.desk_machine.proofs.StepCounts.{none_started}
 use Rattle.desk_machine.proofs.machine.Machine.cancel_waiting.Goals as goal
 
 abbrev before : goal.After-pop → Parts
-before c = parts c.self.inside.canvas c.self.inside.fed.items c.self.inside.queue c.self.inside.store c.self.inside.filmed.caches c.self.inside.updates c.self.inside.slots c.self.inside.filmed.frames c.self.inside.way c.self.inside.next
+before c = parts_of c.self.inside
 
 does : (c : goal.After-pop) → Does (before c) Cancel (record (before c) { queue = c.pop.new.self })
 does c = cancel_waiting_does (before c) c.pop.new.self c.refusal-outcome.result c.self.invariant (subst (λ s. Enabled s Cancel) (sym c.self.view_is) c.requires.enabled) (ap (λ (s : State). s.way) c.self.view_is ∙ c.requires.way)

@@ -3,15 +3,16 @@ use Rattle.machine_model.specs.State.{head}
 use Rattle.machine_model.specs.Event.{Act}
 use Rattle.machine_model.specs.Step.{ActStep}
 use Rattle.desk_parts.specs.Enabled.{Enabled}
-use Rattle.desk_parts.specs.Parts.{Parts, parts, state_of}
+use Rattle.desk_parts.specs.Parts.{Parts, state_of}
 use Rattle.desk_parts.specs.Tied.{IsDesk}
 use Rattle.desk_parts.proofs.Doing.{Does}
 use Rattle.desk_work.specs.Filmed.{Filmed, TakesFrame}
+use Rattle.desk_machine.specs.Kept.{parts_of}
 use Rattle.desk_machine.proofs.Exported.{export_shows}
 use Rattle.desk_machine.proofs.machine.Machine.export.Goals as goal
 
 abbrev before : goal.After-pop → Parts
-before c = parts c.self.inside.canvas c.self.inside.fed.items c.self.inside.queue c.self.inside.store c.self.inside.filmed.caches c.self.inside.updates c.self.inside.slots c.self.inside.filmed.frames c.self.inside.way c.self.inside.next
+before c = parts_of c.self.inside
 
 -- the parts as they are
 abbrev after : goal.After-pop → Filmed → Parts

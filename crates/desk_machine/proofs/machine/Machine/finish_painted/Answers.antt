@@ -3,12 +3,13 @@ use Rattle.machine_model.specs.State.{State}
 use Rattle.machine_model.specs.Event.{Finish}
 use Rattle.machine_model.specs.Step.{FinishStep}
 use Rattle.desk_parts.specs.Enabled.{Enabled}
-use Rattle.desk_parts.specs.Parts.{Parts, parts, state_of}
+use Rattle.desk_parts.specs.Parts.{Parts, state_of}
 use Rattle.desk_parts.proofs.Doing.{Does, finish_does}
+use Rattle.desk_machine.specs.Kept.{parts_of}
 use Rattle.desk_machine.proofs.machine.Machine.finish_painted.Goals as goal
 
 abbrev before : goal.After-self-1 → Parts
-before c = parts c.self.inside.canvas c.self.inside.fed.items c.self.inside.queue c.self.inside.store c.self.inside.filmed.caches c.self.inside.updates c.self.inside.slots c.self.inside.filmed.frames c.self.inside.way c.self.inside.next
+before c = parts_of c.self.inside
 
 abbrev after : goal.After-self-1 → Parts
 after c = record (before c) { queue = c.pop.new.self; store = c.finish.new.self; way = None }

@@ -4,12 +4,13 @@ use Rattle.machine_model.specs.State.{State, head_stroke}
 use Rattle.machine_model.specs.Event.{Finish}
 use Rattle.machine_model.specs.Effects.{no_paint_outcome}
 use Rattle.desk_parts.specs.Enabled.{Enabled}
-use Rattle.desk_parts.specs.Parts.{Parts, parts}
+use Rattle.desk_parts.specs.Parts.{Parts}
 use Rattle.desk_parts.proofs.Doing.{Does, refuse_does}
+use Rattle.desk_machine.specs.Kept.{parts_of}
 use Rattle.desk_machine.proofs.machine.Machine.finish_refused.Goals as goal
 
 abbrev before : goal.After-pop → Parts
-before c = parts c.self.inside.canvas c.self.inside.fed.items c.self.inside.queue c.self.inside.store c.self.inside.filmed.caches c.self.inside.updates c.self.inside.slots c.self.inside.filmed.frames c.self.inside.way c.self.inside.next
+before c = parts_of c.self.inside
 
 abbrev after : goal.After-pop → Parts
 after c = record (before c) { queue = c.pop.new.self }

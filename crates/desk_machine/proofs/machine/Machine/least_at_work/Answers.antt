@@ -1,4 +1,4 @@
-use Rattle.std.proofs.Common.{◌≡◌, ◌≤◌, length, sym, ap, ◌∙◌, subst, arith}
+use Rattle.std.proofs.Common.{◌≡◌, ◌≤◌, length, sym, ap, ◌∙◌, arith}
 use Rattle.machine_model.specs.State.{State}
 use Rattle.machine_model.proofs.Lists.{length_map}
 use Rattle.desk_parts.specs.Parts.{slot_of}

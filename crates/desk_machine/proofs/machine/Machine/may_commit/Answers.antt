@@ -1,37 +1,20 @@
-use Rattle.std.proofs.Common.{Some, sym, ap, ◌∙◌, subst}
-use Rattle.desk_parts.specs.Parts.{parts, state_of}
-use Rattle.desk_parts.proofs.Places.{painting_at}
-use Rattle.desk_parts.proofs.Taking.{job_at_walk, job_at_none}
-use Rattle.desk_machine.specs.Commits.{AreOfWork, MayCommit}
-use Rattle.desk_machine.proofs.Committing.{may_commit_is, of_own, commit_drawn, commit_lacks}
+use Rattle.desk_machine.proofs.Committing.{may_commit_is, of_own, commit_lacks}
 use Rattle.desk_machine.proofs.machine.Machine.may_commit.Goals as goal
 
 pub are_lacking-requires-clause-checked : goal.are_lacking-requires-clause-checked
-are_lacking-requires-clause-checked c = (painting_at c.self.inside.slots c.args.slot.place c.in-Some-Paint.painter c.self.invariant.slots (sym c.in-Some-Paint.ensures ∙ ap Some c.in-Some-Paint.field-0-is)).kept.2
+are_lacking-requires-clause-checked c = c.in-Some.ensures.some.checked
 
 pub are_lacking-requires-clause-limits : goal.are_lacking-requires-clause-limits
-are_lacking-requires-clause-limits c = (painting_at c.self.inside.slots c.args.slot.place c.in-Some-Paint.painter c.self.invariant.slots (sym c.in-Some-Paint.ensures ∙ ap Some c.in-Some-Paint.field-0-is)).kept.3
+are_lacking-requires-clause-limits c = c.in-Some.ensures.some.limits
 
 pub are_lacking-requires-clause-of : goal.are_lacking-requires-clause-of
-are_lacking-requires-clause-of c = of_own (parts c.self.inside.canvas c.self.inside.fed.items c.self.inside.queue c.self.inside.store c.self.inside.filmed.caches c.self.inside.updates c.self.inside.slots c.self.inside.filmed.frames c.self.inside.way c.self.inside.next) c.args.slot.place c.args.slot.serial c.in-Some-Paint.painter c.args.tiles.now (sym c.in-Some-Paint.ensures ∙ ap Some c.in-Some-Paint.field-0-is) c.self.invariant c.if-painter-slot.true
-    (subst (λ s. AreOfWork s c.args.slot.place c.args.slot.serial c.args.tiles.now) (sym c.self.view_is) c.requires)
+are_lacking-requires-clause-of c = of_own c.args.self.now c.args.slot.place c.args.slot.serial c.in-Some.painter.now c.args.tiles.now c.in-Some.ensures.some c.requires
 
-pub returns-then-painter-slot-clause-some : goal.returns-then-painter-slot-clause-some
-returns-then-painter-slot-clause-some c h = subst (λ s. MayCommit s c.args.slot.place c.args.slot.serial c.args.tiles.now) c.self.view_is
-    (may_commit_is (parts c.self.inside.canvas c.self.inside.fed.items c.self.inside.queue c.self.inside.store c.self.inside.filmed.caches c.self.inside.updates c.self.inside.slots c.self.inside.filmed.frames c.self.inside.way c.self.inside.next) c.args.slot.place c.args.slot.serial c.in-Some-Paint.painter c.args.tiles.now (sym c.in-Some-Paint.ensures ∙ ap Some c.in-Some-Paint.field-0-is) c.self.invariant c.if-painter-slot.true (c.are_lacking.ensures.some h))
+pub returns-in-Some-clause-some : goal.returns-in-Some-clause-some
+returns-in-Some-clause-some c h = may_commit_is c.args.self.now c.args.slot.place c.args.slot.serial c.in-Some.painter.now c.args.tiles.now c.in-Some.ensures.some (c.are_lacking.ensures.some h)
 
-pub returns-then-painter-slot-clause-none : goal.returns-then-painter-slot-clause-none
-returns-then-painter-slot-clause-none c h m = c.are_lacking.ensures.none h
-    (commit_lacks (parts c.self.inside.canvas c.self.inside.fed.items c.self.inside.queue c.self.inside.store c.self.inside.filmed.caches c.self.inside.updates c.self.inside.slots c.self.inside.filmed.frames c.self.inside.way c.self.inside.next) c.args.slot.place c.args.slot.serial c.in-Some-Paint.painter c.args.tiles.now (sym c.in-Some-Paint.ensures ∙ ap Some c.in-Some-Paint.field-0-is) (subst (λ s. MayCommit s c.args.slot.place c.args.slot.serial c.args.tiles.now) (sym c.self.view_is) m))
-
-pub returns-else-painter-slot-clause-none : goal.returns-else-painter-slot-clause-none
-returns-else-painter-slot-clause-none c h m = c.if-painter-slot.false
-    (commit_drawn (parts c.self.inside.canvas c.self.inside.fed.items c.self.inside.queue c.self.inside.store c.self.inside.filmed.caches c.self.inside.updates c.self.inside.slots c.self.inside.filmed.frames c.self.inside.way c.self.inside.next) c.args.slot.place c.args.slot.serial c.in-Some-Paint.painter c.args.tiles.now (sym c.in-Some-Paint.ensures ∙ ap Some c.in-Some-Paint.field-0-is) (subst (λ s. MayCommit s c.args.slot.place c.args.slot.serial c.args.tiles.now) (sym c.self.view_is) m))
-
-pub returns-in-Some-Walk-clause-none : goal.returns-in-Some-Walk-clause-none
-returns-in-Some-Walk-clause-none c h m = let u : MayCommit (state_of (parts c.self.inside.canvas c.self.inside.fed.items c.self.inside.queue c.self.inside.store c.self.inside.filmed.caches c.self.inside.updates c.self.inside.slots c.self.inside.filmed.frames c.self.inside.way c.self.inside.next)) c.args.slot.place c.args.slot.serial c.args.tiles.now = subst (λ s. MayCommit s c.args.slot.place c.args.slot.serial c.args.tiles.now) (sym c.self.view_is) m in
-    job_at_walk (parts c.self.inside.canvas c.self.inside.fed.items c.self.inside.queue c.self.inside.store c.self.inside.filmed.caches c.self.inside.updates c.self.inside.slots c.self.inside.filmed.frames c.self.inside.way c.self.inside.next) c.args.slot.place _ u.painter (sym c.in-Some-Walk.ensures ∙ ap Some c.in-Some-Walk.field-0-is) u.runs
+pub returns-in-Some-clause-none : goal.returns-in-Some-clause-none
+returns-in-Some-clause-none c h m = c.are_lacking.ensures.none h (commit_lacks c.args.self.now c.args.slot.place c.args.slot.serial c.in-Some.painter.now c.args.tiles.now c.in-Some.ensures.some m)
 
 pub returns-in-None-clause-none : goal.returns-in-None-clause-none
-returns-in-None-clause-none c h m = let u : MayCommit (state_of (parts c.self.inside.canvas c.self.inside.fed.items c.self.inside.queue c.self.inside.store c.self.inside.filmed.caches c.self.inside.updates c.self.inside.slots c.self.inside.filmed.frames c.self.inside.way c.self.inside.next)) c.args.slot.place c.args.slot.serial c.args.tiles.now = subst (λ s. MayCommit s c.args.slot.place c.args.slot.serial c.args.tiles.now) (sym c.self.view_is) m in
-    job_at_none (parts c.self.inside.canvas c.self.inside.fed.items c.self.inside.queue c.self.inside.store c.self.inside.filmed.caches c.self.inside.updates c.self.inside.slots c.self.inside.filmed.frames c.self.inside.way c.self.inside.next) c.args.slot.place u.painter (sym c.in-None.ensures) u.runs
+returns-in-None-clause-none c h m = c.in-None.ensures.none m.painter m.runs m.drawn

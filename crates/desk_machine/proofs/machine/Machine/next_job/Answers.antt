@@ -1,12 +1,12 @@
 use Rattle.std.proofs.Common.{Some, sym, ap, ◌∙◌, subst}
 use Rattle.machine_model.specs.Event.{Start}
 use Rattle.desk_parts.specs.Enabled.{Enabled}
-use Rattle.desk_parts.specs.Parts.{parts}
 use Rattle.desk_parts.proofs.JobDoing.{below_whole, below_waiting}
+use Rattle.desk_machine.specs.Kept.{parts_of}
 use Rattle.desk_machine.proofs.machine.Machine.next_job.Goals as goal
 
 pub job-requires-clause-last : goal.job-requires-clause-last
-job-requires-clause-last c = below_waiting (parts c.self.inside.canvas c.self.inside.fed.items c.self.inside.queue c.self.inside.store c.self.inside.filmed.caches c.self.inside.updates c.self.inside.slots c.self.inside.filmed.frames c.self.inside.way c.self.inside.next) c.in-Some-Waiting.stroke c.args.place c.in-Some.index c.self.invariant (sym c.in-Some-Waiting.ensures.value ∙ ap Some c.in-Some-Waiting.field-0-is) (subst (λ s. Enabled s (Start c.args.place)) (sym c.self.view_is) c.requires) c.in-Some.is
+job-requires-clause-last c = below_waiting (parts_of c.self.inside) c.in-Some-Waiting.stroke c.args.place c.in-Some.index c.self.invariant (sym c.in-Some-Waiting.ensures.value ∙ ap Some c.in-Some-Waiting.field-0-is) (subst (λ s. Enabled s (Start c.args.place)) (sym c.self.view_is) c.requires) c.in-Some.is
 
 pub job-requires-in-Some-Whole-clause-last : goal.job-requires-in-Some-Whole-clause-last
-job-requires-in-Some-Whole-clause-last c = below_whole (parts c.self.inside.canvas c.self.inside.fed.items c.self.inside.queue c.self.inside.store c.self.inside.filmed.caches c.self.inside.updates c.self.inside.slots c.self.inside.filmed.frames c.self.inside.way c.self.inside.next) c.in-Some-Whole.stroke c.args.place c.in-Some.index c.self.invariant (sym c.in-Some-Whole.ensures.value ∙ ap Some c.in-Some-Whole.field-0-is) (subst (λ s. Enabled s (Start c.args.place)) (sym c.self.view_is) c.requires) c.in-Some.is
+job-requires-in-Some-Whole-clause-last c = below_whole (parts_of c.self.inside) c.in-Some-Whole.stroke c.args.place c.in-Some.index c.self.invariant (sym c.in-Some-Whole.ensures.value ∙ ap Some c.in-Some-Whole.field-0-is) (subst (λ s. Enabled s (Start c.args.place)) (sym c.self.view_is) c.requires) c.in-Some.is

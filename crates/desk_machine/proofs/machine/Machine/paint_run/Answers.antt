@@ -9,21 +9,22 @@ use Rattle.machine_model.specs.Effects.{updates_with_all, writes_of}
 use Rattle.machine_model.specs.Groups.{parent_of}
 use Rattle.machine_model.specs.State.{State, head_stroke}
 use Rattle.update_queue.specs.Waiting.{waiting}
-use Rattle.desk_parts.specs.Parts.{parts, state_of}
+use Rattle.desk_parts.specs.Parts.{state_of}
 use Rattle.desk_parts.proofs.Doing.{store_under_way}
+use Rattle.desk_machine.specs.Kept.{parts_of}
 use Rattle.desk_machine.specs.SmallJobs.{PaintsSmall, IsAlone, WritesWithin}
 use Rattle.desk_machine.proofs.Barriers.{are_points, front_some}
 use Rattle.desk_machine.proofs.SmallJobs.{next_below, next_fit, laid_run, laid_there, paints_small, serials_fit}
 use Rattle.desk_machine.proofs.machine.Machine.paint_run.Goals as goal
 
 pub next_jobs-jobs-requires : goal.next_jobs-jobs-requires
-next_jobs-jobs-requires c = next_below (parts c.self.inside.canvas c.self.inside.fed.items c.self.inside.queue c.self.inside.store c.self.inside.filmed.caches c.self.inside.updates c.self.inside.slots c.self.inside.filmed.frames c.self.inside.way c.self.inside.next) c.started-started.result c.self.invariant (subst IsAlone (sym c.self.view_is) c.requires) (ap (λ (s : State). s.way) c.self.view_is ∙ c.started-started.ensures)
+next_jobs-jobs-requires c = next_below (parts_of c.self.inside) c.started-started.result c.self.invariant (subst IsAlone (sym c.self.view_is) c.requires) (ap (λ (s : State). s.way) c.self.view_is ∙ c.started-started.ensures)
 
 pub lay_run-requires-clause-limits : goal.lay_run-requires-clause-limits
-lay_run-requires-clause-limits c = next_fit (parts c.self.inside.canvas c.self.inside.fed.items c.self.inside.queue c.self.inside.store c.self.inside.filmed.caches c.self.inside.updates c.self.inside.slots c.self.inside.filmed.frames c.self.inside.way c.self.inside.next) c.started-started.result c.next_jobs-jobs.result.now c.self.invariant (subst IsAlone (sym c.self.view_is) c.requires) (record { front = c.next_jobs-jobs.ensures.front; clear = c.next_jobs-jobs.ensures.clear })
+lay_run-requires-clause-limits c = next_fit (parts_of c.self.inside) c.started-started.result c.next_jobs-jobs.result.now c.self.invariant (subst IsAlone (sym c.self.view_is) c.requires) (record { front = c.next_jobs-jobs.ensures.front; clear = c.next_jobs-jobs.ensures.clear })
 
 pub lay_run-requires-clause-under_way : goal.lay_run-requires-clause-under_way
-lay_run-requires-clause-under_way c = store_under_way (parts c.self.inside.canvas c.self.inside.fed.items c.self.inside.queue c.self.inside.store c.self.inside.filmed.caches c.self.inside.updates c.self.inside.slots c.self.inside.filmed.frames c.self.inside.way c.self.inside.next) c.self.invariant (ap is_some (ap (λ (s : State). s.way) c.self.view_is ∙ c.started-started.ensures))
+lay_run-requires-clause-under_way c = store_under_way (parts_of c.self.inside) c.self.invariant (ap is_some (ap (λ (s : State). s.way) c.self.view_is ∙ c.started-started.ensures))
 
 pub split_at-requires : goal.split_at-requires
 split_at-requires c = (laid_there c.next_jobs-jobs.result.now c.in-Some.laid _ c.self.inside.store c.lay_run.new.store c.in-Some.is c.in_ok-laid.ensures.some).few
@@ -48,19 +49,19 @@ overflow_add-self c =
 pub overflow_add-self-in-Some : goal.overflow_add-self-in-Some
 overflow_add-self-in-Some c =
     let few = (laid_there c.next_jobs-jobs.result.now c.in-Some.laid _ c.self.inside.store c.lay_run.new.store c.in-Some.is c.in_ok-laid.ensures.some).few in
-    let fits = serials_fit (parts c.self.inside.canvas c.self.inside.fed.items c.self.inside.queue c.self.inside.store c.self.inside.filmed.caches c.self.inside.updates c.self.inside.slots c.self.inside.filmed.frames c.self.inside.way c.self.inside.next) c.self.invariant in
+    let fits = serials_fit (parts_of c.self.inside) c.self.invariant in
     omega (arith, few, fits, c.next_jobs-jobs.ensures.few)
 
 pub invariant_of-self-in-Some : goal.invariant_of-self-in-Some
-invariant_of-self-in-Some c = (laid_run (parts c.self.inside.canvas c.self.inside.fed.items c.self.inside.queue c.self.inside.store c.self.inside.filmed.caches c.self.inside.updates c.self.inside.slots c.self.inside.filmed.frames c.self.inside.way c.self.inside.next) c.started-started.result c.group_of-group.result c.next_jobs-jobs.result.now c.in-Some.laid c.bound_of.result c.lay_run.new.store c.widen_jobs.new.updates c.self.invariant (subst IsAlone (sym c.self.view_is) c.requires) (ap (λ (s : State). s.way) c.self.view_is ∙ c.started-started.ensures) (subst (λ (t : State). (s : Stroke) → head_stroke t ≡ Some s → c.group_of-group.result ≡ parent_of s.layer t.present) (sym c.self.view_is) (λ s h. c.group_of-group.ensures ∙ ap (λ l. parent_of l c.args.self.now.present) (c.head_layer.ensures s h))) (record { front = c.next_jobs-jobs.ensures.front; clear = c.next_jobs-jobs.ensures.clear })
+invariant_of-self-in-Some c = (laid_run (parts_of c.self.inside) c.started-started.result c.group_of-group.result c.next_jobs-jobs.result.now c.in-Some.laid c.bound_of.result c.lay_run.new.store c.widen_jobs.new.updates c.self.invariant (subst IsAlone (sym c.self.view_is) c.requires) (ap (λ (s : State). s.way) c.self.view_is ∙ c.started-started.ensures) (subst (λ (t : State). (s : Stroke) → head_stroke t ≡ Some s → c.group_of-group.result ≡ parent_of s.layer t.present) (sym c.self.view_is) (λ s h. c.group_of-group.ensures ∙ ap (λ l. parent_of l c.args.self.now.present) (c.head_layer.ensures s h))) (record { front = c.next_jobs-jobs.ensures.front; clear = c.next_jobs-jobs.ensures.clear })
     (laid_there c.next_jobs-jobs.result.now c.in-Some.laid _ c.self.inside.store c.lay_run.new.store c.in-Some.is c.in_ok-laid.ensures.some)
     (c.widen_jobs.ensures ∙ ap (λ js. waiting c.self.inside.updates.canvas (updates_with_all c.self.inside.updates.canvas c.group_of-group.result (writes_of js) c.self.inside.updates.patches)) c.split_at.ensures.front)
     (subst (All (λ (j : Kind × Job). WritesWithin c.bound_of.result j.1)) c.split_at.ensures.front c.bound_of.ensures)).desk
 
 pub returns-in-Some-clause-some : goal.returns-in-Some-clause-some
-returns-in-Some-clause-some c = subst (λ s. PaintsSmall s c.bound_of.result (state_of (record (parts c.self.inside.canvas c.self.inside.fed.items c.self.inside.queue c.self.inside.store c.self.inside.filmed.caches c.self.inside.updates c.self.inside.slots c.self.inside.filmed.frames c.self.inside.way c.self.inside.next) { store = c.lay_run.new.store; updates = c.widen_jobs.new.updates; way = Some (c.started-started.result + c.in-Some.laid.count); next = c.self.inside.next + c.in-Some.laid.count }))) c.self.view_is
-    (paints_small (parts c.self.inside.canvas c.self.inside.fed.items c.self.inside.queue c.self.inside.store c.self.inside.filmed.caches c.self.inside.updates c.self.inside.slots c.self.inside.filmed.frames c.self.inside.way c.self.inside.next) (record (parts c.self.inside.canvas c.self.inside.fed.items c.self.inside.queue c.self.inside.store c.self.inside.filmed.caches c.self.inside.updates c.self.inside.slots c.self.inside.filmed.frames c.self.inside.way c.self.inside.next) { store = c.lay_run.new.store; updates = c.widen_jobs.new.updates; way = Some (c.started-started.result + c.in-Some.laid.count); next = c.self.inside.next + c.in-Some.laid.count }) (subst IsAlone (sym c.self.view_is) c.requires).place c.in-Some.laid.count c.in-Some.laid.key c.bound_of.result (laid_there c.next_jobs-jobs.result.now c.in-Some.laid _ c.self.inside.store c.lay_run.new.store c.in-Some.is c.in_ok-laid.ensures.some).some
-    (laid_run (parts c.self.inside.canvas c.self.inside.fed.items c.self.inside.queue c.self.inside.store c.self.inside.filmed.caches c.self.inside.updates c.self.inside.slots c.self.inside.filmed.frames c.self.inside.way c.self.inside.next) c.started-started.result c.group_of-group.result c.next_jobs-jobs.result.now c.in-Some.laid c.bound_of.result c.lay_run.new.store c.widen_jobs.new.updates c.self.invariant (subst IsAlone (sym c.self.view_is) c.requires) (ap (λ (s : State). s.way) c.self.view_is ∙ c.started-started.ensures) (subst (λ (t : State). (s : Stroke) → head_stroke t ≡ Some s → c.group_of-group.result ≡ parent_of s.layer t.present) (sym c.self.view_is) (λ s h. c.group_of-group.ensures ∙ ap (λ l. parent_of l c.args.self.now.present) (c.head_layer.ensures s h))) (record { front = c.next_jobs-jobs.ensures.front; clear = c.next_jobs-jobs.ensures.clear })
+returns-in-Some-clause-some c = subst (λ s. PaintsSmall s c.bound_of.result (state_of (record (parts_of c.self.inside) { store = c.lay_run.new.store; updates = c.widen_jobs.new.updates; way = Some (c.started-started.result + c.in-Some.laid.count); next = c.self.inside.next + c.in-Some.laid.count }))) c.self.view_is
+    (paints_small (parts_of c.self.inside) (record (parts_of c.self.inside) { store = c.lay_run.new.store; updates = c.widen_jobs.new.updates; way = Some (c.started-started.result + c.in-Some.laid.count); next = c.self.inside.next + c.in-Some.laid.count }) (subst IsAlone (sym c.self.view_is) c.requires).place c.in-Some.laid.count c.in-Some.laid.key c.bound_of.result (laid_there c.next_jobs-jobs.result.now c.in-Some.laid _ c.self.inside.store c.lay_run.new.store c.in-Some.is c.in_ok-laid.ensures.some).some
+    (laid_run (parts_of c.self.inside) c.started-started.result c.group_of-group.result c.next_jobs-jobs.result.now c.in-Some.laid c.bound_of.result c.lay_run.new.store c.widen_jobs.new.updates c.self.invariant (subst IsAlone (sym c.self.view_is) c.requires) (ap (λ (s : State). s.way) c.self.view_is ∙ c.started-started.ensures) (subst (λ (t : State). (s : Stroke) → head_stroke t ≡ Some s → c.group_of-group.result ≡ parent_of s.layer t.present) (sym c.self.view_is) (λ s h. c.group_of-group.ensures ∙ ap (λ l. parent_of l c.args.self.now.present) (c.head_layer.ensures s h))) (record { front = c.next_jobs-jobs.ensures.front; clear = c.next_jobs-jobs.ensures.clear })
     (laid_there c.next_jobs-jobs.result.now c.in-Some.laid _ c.self.inside.store c.lay_run.new.store c.in-Some.is c.in_ok-laid.ensures.some)
     (c.widen_jobs.ensures ∙ ap (λ js. waiting c.self.inside.updates.canvas (updates_with_all c.self.inside.updates.canvas c.group_of-group.result (writes_of js) c.self.inside.updates.patches)) c.split_at.ensures.front)
     (subst (All (λ (j : Kind × Job). WritesWithin c.bound_of.result j.1)) c.split_at.ensures.front c.bound_of.ensures)))

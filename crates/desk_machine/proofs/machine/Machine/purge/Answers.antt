@@ -3,13 +3,14 @@ use Rattle.machine_model.specs.State.{head}
 use Rattle.machine_model.specs.Event.{Act}
 use Rattle.machine_model.specs.Step.{ActStep}
 use Rattle.desk_parts.specs.Enabled.{Enabled}
-use Rattle.desk_parts.specs.Parts.{Parts, parts, state_of}
+use Rattle.desk_parts.specs.Parts.{Parts, state_of}
 use Rattle.desk_parts.proofs.Doing.{Does}
 use Rattle.desk_parts.proofs.ActDoing.{purge_does}
+use Rattle.desk_machine.specs.Kept.{parts_of}
 use Rattle.desk_machine.proofs.machine.Machine.purge.Goals as goal
 
 abbrev before : goal.After-pop → Parts
-before c = parts c.self.inside.canvas c.self.inside.fed.items c.self.inside.queue c.self.inside.store c.self.inside.filmed.caches c.self.inside.updates c.self.inside.slots c.self.inside.filmed.frames c.self.inside.way c.self.inside.next
+before c = parts_of c.self.inside
 
 does : (c : goal.After-pop) → Does (before c) Act (record (before c) { queue = c.pop.new.self; store = c.purge.new.self })
 does c = purge_does (before c) c.args.keep c.pop.new.self c.purge.new.self c.self.invariant (subst (λ s. Enabled s Act) (sym c.self.view_is) c.requires.enabled) (ap head c.self.view_is ∙ c.requires.head) (record { left = c.pop.ensures.left; outcomes = c.pop.ensures.outcomes }) c.purge.ensures

@@ -1,6 +1,6 @@
 use Rattle.std.proofs.Common.{Some, sym, ap, ◌∙◌, subst}
 use Rattle.machine_model.specs.State.{State}
-use Rattle.desk_parts.specs.Parts.{parts}
+use Rattle.desk_machine.specs.Kept.{parts_of}
 use Rattle.desk_machine.specs.Commits.{TakesWhole}
 use Rattle.desk_machine.specs.Sparing.{AreFrom, IsPriorAt, SparesTile, StandsAs}
 use Rattle.desk_machine.proofs.Untouched.{stands_desk}
@@ -8,7 +8,7 @@ use Rattle.desk_machine.proofs.machine.Machine.stands_as.Goals as goal
 
 pub returns-then-since-least_at_work : goal.returns-then-since-least_at_work
 returns-then-since-least_at_work c h = subst (λ s. StandsAs s c.args.whole.now) c.self.view_is
-    (stands_desk (parts c.self.inside.canvas c.self.inside.fed.items c.self.inside.queue c.self.inside.store c.self.inside.filmed.caches c.self.inside.updates c.self.inside.slots c.self.inside.filmed.frames c.self.inside.way c.self.inside.next) c.args.place c.args.since c.least_at_work.result c.in-Some-Paint.painter c.args.whole.now c.self.invariant (sym c.in-Some-Paint.ensures ∙ ap Some c.in-Some-Paint.field-0-is)
+    (stands_desk (parts_of c.self.inside) c.args.place c.args.since c.least_at_work.result c.in-Some-Paint.painter c.args.whole.now c.self.invariant (sym c.in-Some-Paint.ensures ∙ ap Some c.in-Some-Paint.field-0-is)
     (subst (λ s. TakesWhole s c.args.place c.args.whole.now) (sym c.self.view_is) c.requires.takes)
     (subst (λ s. IsPriorAt s c.args.place c.args.since c.args.whole.now) (sym c.self.view_is) c.requires.prior)
     c.if-since-least_at_work.true c.least_at_work.ensures.low

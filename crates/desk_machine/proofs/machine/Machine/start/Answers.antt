@@ -9,27 +9,28 @@ use Rattle.machine_model.specs.State.{State}
 use Rattle.machine_model.specs.Event.{Start}
 use Rattle.machine_model.specs.Step.{StartStep}
 use Rattle.desk_parts.specs.Enabled.{Enabled}
-use Rattle.desk_parts.specs.Parts.{Parts, parts, state_of}
+use Rattle.desk_parts.specs.Parts.{Parts, state_of}
 use Rattle.desk_parts.proofs.JobDoing.{free_at, start_does, serial_fits}
 use Rattle.desk_parts.proofs.Doing.{Does}
+use Rattle.desk_machine.specs.Kept.{parts_of}
 use Rattle.desk_machine.specs.Sparing.{AreFrom}
 use Rattle.desk_machine.proofs.TicketsMatch.{paint_ticket}
 use Rattle.desk_machine.proofs.machine.Machine.start.Goals as goal
 
 pub put-requires : goal.put-requires
-put-requires c = free_at (parts c.self.inside.canvas c.self.inside.fed.items c.self.inside.queue c.self.inside.store c.self.inside.filmed.caches c.self.inside.updates c.self.inside.slots c.self.inside.filmed.frames c.self.inside.way c.self.inside.next) c.args.place (subst (λ s. Enabled s (Start c.args.place)) (sym c.self.view_is) c.requires)
+put-requires c = free_at (parts_of c.self.inside) c.args.place (subst (λ s. Enabled s (Start c.args.place)) (sym c.self.view_is) c.requires)
 
 pub overflow_add-self : goal.overflow_add-self
 overflow_add-self c = let few = c.next_job-next.ensures.few in omega arith
 
 pub overflow_add-self-2 : goal.overflow_add-self-2
-overflow_add-self-2 c = let h = serial_fits (parts c.self.inside.canvas c.self.inside.fed.items c.self.inside.queue c.self.inside.store c.self.inside.filmed.caches c.self.inside.updates c.self.inside.slots c.self.inside.filmed.frames c.self.inside.way c.self.inside.next) c.self.invariant in omega (arith, h)
+overflow_add-self-2 c = let h = serial_fits (parts_of c.self.inside) c.self.invariant in omega (arith, h)
 
 pub overflow_add-result : goal.overflow_add-result
 overflow_add-result c = let few = c.next_job-next.ensures.few in omega arith
 
 pub invariant_of-self : goal.invariant_of-self
-invariant_of-self c = (start_does (parts c.self.inside.canvas c.self.inside.fed.items c.self.inside.queue c.self.inside.store c.self.inside.filmed.caches c.self.inside.updates c.self.inside.slots c.self.inside.filmed.frames c.self.inside.way c.self.inside.next) c.args.place c.next_job-next.result.index c.next_job-next.result.job c.in_ok-kept.kept (record { serial = c.self.inside.next; index = c.next_job-next.result.index; job = c.next_job-next.result.job; shot = c.in_ok-kept.kept; published = c.new.result }) c.put.new.self c.self.invariant (subst (λ s. Enabled s (Start c.args.place)) (sym c.self.view_is) c.requires)
+invariant_of-self c = (start_does (parts_of c.self.inside) c.args.place c.next_job-next.result.index c.next_job-next.result.job c.in_ok-kept.kept (record { serial = c.self.inside.next; index = c.next_job-next.result.index; job = c.next_job-next.result.job; shot = c.in_ok-kept.kept; published = c.new.result }) c.put.new.self c.self.invariant (subst (λ s. Enabled s (Start c.args.place)) (sym c.self.view_is) c.requires)
     (subst (λ (t : State). (can : Enabled t (Start c.args.place)) → c.next_job-next.result.index ≡ can.1.next) (sym c.self.view_is) c.next_job-next.ensures.index (subst (λ s. Enabled s (Start c.args.place)) (sym c.self.view_is) c.requires))
     (subst (λ (t : State). (can : Enabled t (Start c.args.place)) → c.next_job-next.result.job ≡ can.1.job.1) (sym c.self.view_is) c.next_job-next.ensures.job (subst (λ s. Enabled s (Start c.args.place)) (sym c.self.view_is) c.requires))
     c.next_job-next.ensures.checked (c.in_ok-kept.ensures.rects ∙ c.as_slice.ensures.value ∙ c.reads-reads.ensures)
@@ -37,7 +38,7 @@ invariant_of-self c = (start_does (parts c.self.inside.canvas c.self.inside.fed.
     (λ i. record { serial = c.self.inside.next; index = c.next_job-next.result.index; job = c.next_job-next.result.job; shot = c.in_ok-kept.kept; published = c.new.ensures i }) c.put.ensures).desk
 
 abbrev before : goal.After-result-1 → Parts
-before c = parts c.self.inside.canvas c.self.inside.fed.items c.self.inside.queue c.self.inside.store c.self.inside.filmed.caches c.self.inside.updates c.self.inside.slots c.self.inside.filmed.frames c.self.inside.way c.self.inside.next
+before c = parts_of c.self.inside
 
 abbrev after : goal.After-result-1 → Parts
 after c = record (before c) { slots = c.put.new.self; way = Some (c.next_job-next.result.index + 1); next = c.self.inside.next + 1 }

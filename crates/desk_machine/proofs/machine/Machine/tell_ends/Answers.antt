@@ -1,11 +1,11 @@
 use Rattle.std.proofs.Common.{[], sym, subst}
 use Rattle.machine_model.specs.Event.{End}
 use Rattle.desk_parts.specs.Enabled.{Enabled}
-use Rattle.desk_parts.specs.Parts.{parts}
+use Rattle.desk_machine.specs.Kept.{parts_of}
 use Rattle.desk_machine.specs.Commits.{MayCommit}
 use Rattle.desk_machine.proofs.Committing.{may_end_now}
 use Rattle.desk_machine.proofs.machine.Machine.tell_ends.Goals as goal
 
 pub returns : goal.returns
 returns c = subst (λ s. Enabled s (End c.args.slot.place)) c.self.view_is
-    (may_end_now (parts c.self.inside.canvas c.self.inside.fed.items c.self.inside.queue c.self.inside.store c.self.inside.filmed.caches c.self.inside.updates c.self.inside.slots c.self.inside.filmed.frames c.self.inside.way c.self.inside.next) c.args.slot.place c.args.slot.serial c.self.invariant (subst (λ s. MayCommit s c.args.slot.place c.args.slot.serial []) (sym c.self.view_is) c.requires))
+    (may_end_now (parts_of c.self.inside) c.args.slot.place c.args.slot.serial c.self.invariant (subst (λ s. MayCommit s c.args.slot.place c.args.slot.serial []) (sym c.self.view_is) c.requires))

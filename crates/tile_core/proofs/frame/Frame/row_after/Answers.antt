@@ -10,5 +10,5 @@ loop-col-preserved c =
     elim c.if-has_at.branch [
       | then-has_at w ↦ rw (w.row-is) (row_next c.args.self.now c.args.y c.loop-col.col c.args.row.now c.loop-col.row w.tile_row_into.new.row c.loop-col.invariant inside w.tile_row_into.ensures)
       | else-has_at w ↦ rw (w.row-is) (row_next c.args.self.now c.args.y c.loop-col.col c.args.row.now c.loop-col.row c.loop-col.row c.loop-col.invariant inside
-          (column_stays c.args.self.now c.args.before.now c.args.y c.loop-col.col c.args.row.now c.loop-col.row c.loop-col.invariant inside c.requires.alike c.requires.shown (tile_stays c.args.self.now c.args.before.now c.args.fresh.now c.loop-col.col c.args.y c.requires.alike c.requires.renews c.requires.y (sym c.has_at.ensures ∙ w.if-has_at.false))))
+          (column_stays c.args.self.now c.args.before.now c.args.y c.loop-col.col c.args.row.now c.loop-col.row c.loop-col.invariant inside c.requires.after.alike c.requires.shown (tile_stays c.args.self.now c.args.before.now c.args.fresh.now c.loop-col.col c.args.y c.requires.after.alike c.requires.after.renews c.requires.y (sym c.has_at.ensures ∙ w.if-has_at.false))))
     ]

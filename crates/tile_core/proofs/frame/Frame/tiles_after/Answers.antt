@@ -18,9 +18,9 @@ band_after-requires-clause-shown c =
     let bytes : 3 * c.width.result * c.min-n.result ≡ 3 * (c.args.self.now.width * c.min-n.result) = bytes_of_rows c.width.result c.args.self.now.width c.min-n.result c.width.ensures.value in
     let inside : m + c.min-n.result ≤ c.args.self.now.height = omega (arith, c.min-n.ensures, c.height-in-loop-row.ensures.value, c.div_ceil-row-end.ensures, c.height.ensures.value) in
     let here : 64 * c.loop-row.row ≡ 0 + m = omega (arith, c.div_ceil-row-end.ensures, c.height.ensures.value) in
-    let shown : take (3 * (c.args.self.now.width * c.args.self.now.height)) c.args.picture.now ≡ rows_colours c.args.before.now 0 c.args.self.now.height = shown_as c.args.self.now c.args.before.now c.args.picture.now c.requires.alike c.requires.shown in
+    let shown : take (3 * (c.args.self.now.width * c.args.self.now.height)) c.args.picture.now ≡ rows_colours c.args.before.now 0 c.args.self.now.height = shown_as c.args.self.now c.args.before.now c.args.picture.now c.requires.after.alike c.requires.shown in
     rows_before c.args.self.now c.args.before.now 0 c.args.self.now.height c.args.picture.now c.loop-row.picture m c.min-n.result (64 * c.loop-row.row) c.loop-row.at (c.loop-row.at + 3 * c.width.result * c.min-n.result)
-    c.loop-row.invariant c.requires.alike shown inside (ap (λ i. c.loop-row.at + i) bytes) here
+    c.loop-row.invariant c.requires.after.alike shown inside (ap (λ i. c.loop-row.at + i) bytes) here
 
 pub loop-row-preserved : goal.loop-row-preserved
 loop-row-preserved c =

@@ -1,4 +1,0 @@
-use Rattle.desk_damage.proofs.tracked.TrackedMachine.is_walked.Goals as goal
-
-pub returns : goal.returns
-returns c = rw (← c.self.view_is) c.is_walked.ensures

@@ -1,6 +1,0 @@
-use Rattle.desk_damage.proofs.Tracking.{anew_tracks}
-use Rattle.machine_model.proofs.RunsSound.{new_sound}
-use Rattle.desk_damage.proofs.tracked.TrackedMachine.of_new.Goals as goal
-
-pub invariant_of-result : goal.invariant_of-result
-invariant_of-result c = anew_tracks c.args.machine c.begin_anew.new.damage (new_sound c.args.machine c.requires) c.begin_anew.ensures

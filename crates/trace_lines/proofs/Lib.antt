@@ -1,0 +1,4 @@
+pub mod Heads
+pub mod ReplayedLines
+pub mod ReadRows
+pub mod PrintedTraces

@@ -1,0 +1,5 @@
+use Rattle.std.proofs.Common.{rules, append_assoc}
+use Rattle.trace_lines.proofs.printing.add_key.Goals as goal
+
+pub returns : goal.returns
+returns c = search (rules, append_assoc)

@@ -1,5 +1,0 @@
-use Rattle.trace_text.proofs.PrintedTraces as traces
-use Rattle.trace_text.proofs.laws.printed_replays.Goals as goal
-
-pub returns : goal.returns
-returns c = traces.printed_replays

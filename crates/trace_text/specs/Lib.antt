@@ -1,4 +1,0 @@
-pub mod Texts
-pub mod Ranges
-pub mod Leads
-pub mod Laws

@@ -1,3 +1,0 @@
-pub mod SamePaths
-pub mod NextChildren
-pub mod Filling
