@@ -6,9 +6,10 @@ say() {
     printf '%s\n' "${0##*/}: $*" >&2
 }
 
-# The lines of crates.txt for the crates that the program is made of, each after those that it stands on.
+# The lines of crates.txt for the crates that the program is made of, each after those that it stands on; or those of the
+# library, where `top` names its crate.
 lines_of_program() {
-    awk -F: '
+    awk -F: -v top="${top:-strokes}" '
         function take(name, words, many, k) {
             if (name in seen || !(name in below)) return
             seen[name]
@@ -17,7 +18,7 @@ lines_of_program() {
             print line[name]
         }
         !/^#/ && NF > 1 { split($1, names, " "); below[names[1]] = $2; line[names[1]] = $0 }
-        END { take("strokes") }' "$here/crates.txt"
+        END { take(top) }' "$here/crates.txt"
 }
 
 # The names of these crates.

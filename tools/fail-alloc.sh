@@ -10,12 +10,12 @@
 #
 #     tools/fail-alloc.sh settled
 #
-# refuses in place of that each growth alone in a test of desk_rows that settles worked scripts on desks, and settles a desk
+# refuses in place of that each growth alone in a test of desk_tests that settles worked scripts on desks, and settles a desk
 # once more that answered NoMemory. It is to pass each time: each desk has its script's pictures then. TESTS is the program of
-# the crate's tests, by default what rt test made in crates/desk_rows.
+# the crate's tests, by default what rt test made in crates/desk_tests.
 here=$(cd "$(dirname "$0")/.." && pwd) || exit 70
 program=${PROGRAM:-$here/crates/strokes/out/strokes}
-tests=${TESTS:-$here/crates/desk_rows/out/desk_rows_tests}
+tests=${TESTS:-$here/crates/desk_tests/out/desk_tests_tests}
 tmp=$(mktemp -d) || exit 70
 trap 'rm -rf "$tmp"' EXIT
 status=0
@@ -129,7 +129,7 @@ built() {
 
 # Until there are no more growths to refuse.
 settled() {
-    [ -x "$tests" ] || { echo "fail-alloc: $tests isn't there: rt test in crates/desk_rows makes it" >&2; exit 70; }
+    [ -x "$tests" ] || { echo "fail-alloc: $tests isn't there: rt test in crates/desk_tests makes it" >&2; exit 70; }
     shim
     name=scripts::a_settled_desk_has_the_pixmaps_of_its_script
     n=0 passed=0

@@ -1,5 +1,5 @@
 /* The crew (crates/crew_run: crew.rt, board.rt, pieces.rt): a caller and WORKERS workers on one board, over a
- * desk that chooses its events as crates/desk_machine does (choices.rt).  The script is drawn: ENTRIES entries of
+ * desk that chooses its events as crates/desk_events does (choices.rt).  The script is drawn: ENTRIES entries of
  * any sort, up to JOBS jobs of any kind, each for one thread or in RANGES ranges; walks in up to RANGES ranges,
  * in two cells.  Left out: pixels, what is damaged (an ended job queues one cell, with WIDE either or both), how
  * large work is (whether it is worth another thread is drawn), feeding (all entries are fed and closed), small
@@ -98,7 +98,7 @@ inline queue_some(j) { if :: patch[0] = 1 :: patch[1] = 1 :: patch[0] = 1; patch
 inline queue_some(j) { patch[(j) % 2] = 1 }
 #endif
 
-/* One look at the board, in one hold of the lock: `next`, and for a part `have`, `at`, `leaves`. */
+/* One look at the board, in one hold of the lock: `next`, and for work `have`, `at`, `leaves`. */
 inline look() {
   atomic {
     assert(holder == me);
@@ -169,7 +169,7 @@ inline begin_job() {
   started++;
   jobs++;
   go = HEAD_MAY_GO;
-  MAY_FAIL(GIVE_UP_LOOK);                                       /* TakenJob::new, Arc::new, Piece::new, push */
+  MAY_FAIL(GIVE_UP_LOOK);                                       /* StampedPainting::new, Arc::new, Piece::new, push */
   if
   :: next == STOP
   :: next != STOP && many[head * JOBS + at] > 1 ->

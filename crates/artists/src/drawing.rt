@@ -36,7 +36,8 @@ fn feed_together<R: Threads + Wait + Sync, G: Gate>(
     requires some { 1 ≤ artists }
     requires few { artists ≤ 16 }
     ensures canvas { IfOk result (λ r. IfSome r (λ d. d.canvas ≡ script.now.canvas)) }
-    ensures shared { IfOk result (λ r. IfSome r (λ d. IsShared artists script.now.commands d.fed)) }
+    ensures shared { IfOk result (λ r. IfSome r (λ d.
+        IsShared artists script.now.commands d.fed)) }
 {
     let commands = script.commands();
     let (studio, passes) = Studio::new(alloc, script.canvas(), 1, artists)?;
@@ -68,8 +69,10 @@ fn settle<L: Ledger>(desk: &mut Desk, script: &Script, blank: Blank) -> Result<(
 /// The script that a desk was fed, with the desk, which is settled. None where its commands aren't a script.
 fn settled(alloc: Global, desk: Desk) -> Result<Option<Drawn>, NoMemory>
     ensures settled { IfOk result (λ r. IfSome r (λ d. IsSettled d.desk)) }
-    ensures canvas { IfOk result (λ r. IfSome r (λ d. (d.desk.canvas ≡ desk.canvas) × (d.script.canvas ≡ desk.canvas))) }
-    ensures fed { IfOk result (λ r. IfSome r (λ d. (d.desk.fed ≡ desk.fed) × (d.script.commands ≡ desk.fed))) }
+    ensures canvas { IfOk result (λ r. IfSome r (λ d.
+        (d.desk.canvas ≡ desk.canvas) × (d.script.canvas ≡ desk.canvas))) }
+    ensures fed { IfOk result (λ r. IfSome r (λ d.
+        (d.desk.fed ≡ desk.fed) × (d.script.commands ≡ desk.fed))) }
 {
     let mut desk = desk;
     let commands = Vec::from_slice(alloc, desk.commands())?;
@@ -105,7 +108,8 @@ pub fn paint_together<R: Threads + Wait + Sync, G: Gate>(
     ensures canvas { IfOk result (λ d. d.script.canvas ≡ script.canvas) }
     ensures shared { IfOk result (λ d. IsShared artists script.commands d.script.commands) }
     ensures settled { IfOk result (λ d. IsSettled d.desk) }
-    ensures desk { IfOk result (λ d. (d.desk.canvas ≡ d.script.canvas) × (d.desk.fed ≡ d.script.commands)) }
+    ensures desk { IfOk result (λ d.
+        (d.desk.canvas ≡ d.script.canvas) × (d.desk.fed ≡ d.script.commands)) }
 {
     if let Some(desk) = feed_together(rt, alloc, &script, artists, gate)? {
         if let Some(drawn) = settled(alloc, desk)? {

@@ -29,7 +29,8 @@ fn send<R: Wait>(rt: &R, studio: &Studio, pass: &mut Pass, command: &Command) ->
     requires studio { pass.old.lock ≡ studio.now.id }
     ensures studio { pass.new.lock ≡ pass.old.lock }
     ensures numbers { pass.new.numbers ≡ pass.old.numbers }
-    ensures made { result ≡ true → pass.new.made ≡ pass.old.made ++ signed (own pass.old) command.now ∷ [] }
+    ensures made { result ≡ true →
+        pass.new.made ≡ pass.old.made ++ signed (own pass.old) command.now ∷ [] }
 {
     if pass.calls() >= MOST {
         return false;
@@ -53,7 +54,8 @@ fn send_own<R: Wait>(
     requires some { 0 < artists }
     ensures studio { pass.new.lock ≡ pass.old.lock }
     ensures numbers { pass.new.numbers ≡ pass.old.numbers }
-    ensures made { result ≡ true → pass.new.made ≡ pass.old.made ++ share artists (own pass.old) (command.now ∷ []) }
+    ensures made { result ≡ true →
+        pass.new.made ≡ pass.old.made ++ share artists (own pass.old) (command.now ∷ []) }
 {
     let is_own = artist_for(artists, command) == pass.artist();
     if is_own {
@@ -78,7 +80,8 @@ fn send_all<R: Wait, G: Gate>(
     requires fresh { pass.made ≡ [] }
     ensures studio { result.pass.lock ≡ pass.lock }
     ensures numbers { result.pass.numbers ≡ pass.numbers }
-    ensures made { result.done ≡ true → result.pass.made ≡ share artists (own pass) commands.now }
+    ensures made { result.done ≡ true →
+        result.pass.made ≡ share artists (own pass) commands.now }
 {
     gate.sending(pass.artist());
     for command in commands {
@@ -100,7 +103,8 @@ pub(crate) fn send_together<R: Threads + Wait + Sync, G: Gate>(
 ) -> Result<Vec<Sender>, NoMemory>
     requires some { 0 < artists }
     requires passes { passes.items ≡ all_fresh studio.now.id artists }
-    ensures each { IfOk result (λ senders. AreSenders studio.now.id artists commands.now senders.items) }
+    ensures each { IfOk result (λ senders.
+        AreSenders studio.now.id artists commands.now senders.items) }
     ensures all { IfOk result (λ senders. vec_len senders ≡ artists) }
 {
     let senders = thread::map_vec(
@@ -110,7 +114,8 @@ pub(crate) fn send_together<R: Threads + Wait + Sync, G: Gate>(
             requires { (0 < artists) × (pass.lock ≡ studio.now.id) × (pass.made ≡ []) }
             ensures studio { result.pass.lock ≡ pass.lock }
             ensures numbers { result.pass.numbers ≡ pass.numbers }
-            ensures made { result.done ≡ true → result.pass.made ≡ share artists (own pass) commands.entry.now }
+            ensures made { result.done ≡ true →
+                result.pass.made ≡ share artists (own pass) commands.entry.now }
         { send_all(rt, studio, pass, artists, commands, gate) },
     )?;
     Ok(senders)

@@ -8,7 +8,7 @@ use Rattle.std.proofs.lemmas.Map.Keys.{apart_from_distinct}
 use borrow.Author.Differences.{ints}
 use Rattle.geom_core.specs.Areas.{Area, meets}
 use Rattle.geom_core.specs.Grid.{Key, key, same_key, tile}
-use Rattle.geom_core.proofs.Tests.{true_or_false, and_left, and_right}
+use Rattle.geom_core.proofs.Tests.{true_or_false, and_left, and_right, no_second}
 use Rattle.geom_core.proofs.Tiles.{key_is}
 use Rattle.doc_model.specs.declared.job.Job.{Job}
 use Rattle.doc_model.specs.declared.job.Job.TheVariants as job
@@ -82,10 +82,6 @@ none_of js clear = conflict_by js ∙ go (second_of js) (least_from_is 0 (length
     go : (o : Option ℕ) → IsLeastFrom 0 (length js) (λ j. is_some (first_conflicting js j)) o → pair_at js o ≡ None
     go None told = refl
     go (Some m) told = pick m (first_conflicting js m) (least_from_is 0 m (λ i. conflicting js i m)) told.2
-
-no_second : (a b : Bool) → b ≡ false → (a && b) ≡ false
-no_second true b e = e
-no_second false b e = refl
 
 pub none_conflict : NoneConflict
 none_conflict t = none_of (concurrent (jobs t)) (λ i j h. no_second (one_run (concurrent (jobs t)) i j) _ (no_clash_at t (cells t) i j (tiles_are_met t).distinct h))

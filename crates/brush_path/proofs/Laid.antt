@@ -8,7 +8,7 @@ use Rattle.brush_mask.specs.Mask.{mask}
 use Rattle.geom_core.specs.Areas.{Point, Area, holds}
 use Rattle.geom_core.specs.Rects.{any_holds}
 use Rattle.geom_core.specs.Grid.{Key, key_of, same_key, tile}
-use Rattle.geom_core.proofs.Tests.{true_or_false}
+use Rattle.geom_core.proofs.Tests.{true_or_false, or-false}
 use Rattle.geom_core.proofs.Tiles.{key_same, key_is, key_of_holder, own_tile}
 use Rattle.doc_model.specs.declared.job.Job.{Job}
 use Rattle.doc_model.specs.declared.job.Job.TheVariants as job
@@ -27,16 +27,12 @@ default_all : (js : List Job) (layer : Layer) → (apply_all js layer).default_p
 default_all [] layer = refl
 default_all (j ∷ js) layer = default_all js (apply j layer) ∙ default-apply j layer
 
-or_false : (b : Bool) → (b || false) ≡ b
-or_false true = refl
-or_false false = refl
-
 -- the dab's ink on a pixel
 abbrev inked : Stamp → Point → Point → Rgba → Rgba
 inked s c p d = compose s.op s.colour d (mul (mask s.r s.soft (p.x -ℤ c.x) (p.y -ℤ c.y)) s.strength)
 
 at_dab : (s : Stamp) (c : Point) (layer : Layer) (p : Point) → at (apply (dab_at s c) layer) p ≡ stamped s c p (at layer p)
-at_dab s c layer p = at-apply (dab_at s c) layer p ∙ ap (λ b. cond b (inked s c p (at layer p)) (at layer p)) (or_false (holds (square c.x c.y s.r) p))
+at_dab s c layer p = at-apply (dab_at s c) layer p ∙ ap (λ b. cond b (inked s c p (at layer p)) (at layer p)) (or-false (holds (square c.x c.y s.r) p))
 
 -- dabs one after another
 at_dabs : (s : Stamp) (cs : List Point) (layer : Layer) (p : Point) → at (apply_all (map (dab_at s) cs) layer) p ≡ all_stamped s cs p (at layer p)
@@ -57,7 +53,7 @@ holds_tile k p = elim (true_or_false (holds (tile k) p)) [
     never e = cc
 
 at_track : (t : Trail) (k : Key) (layer : Layer) (p : Point) → at (apply (job.Track t k) layer) p ≡ cond (same_key (key_of p) k) (all_stamped t.stamp (centres t) p (at layer p)) (at layer p)
-at_track t k layer p = at-apply (job.Track t k) layer p ∙ ap (λ b. cond b (all_stamped t.stamp (centres t) p (at layer p)) (at layer p)) (or_false (holds (tile k) p) ∙ holds_tile k p)
+at_track t k layer p = at-apply (job.Track t k) layer p ∙ ap (λ b. cond b (all_stamped t.stamp (centres t) p (at layer p)) (at layer p)) (or-false (holds (tile k) p) ∙ holds_tile k p)
 
 not_among : (q k : Key) (ks : List Key) → same_key q k ≡ true → AllByRecursion (λ y. same_key k y ≡ false) ks → list_any (same_key q) ks ≡ false
 not_among q k [] e h = refl

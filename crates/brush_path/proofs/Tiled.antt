@@ -16,6 +16,7 @@ use Rattle.brush_path.specs.Gathered.{in_order}
 use Rattle.brush_path.specs.Laws.{TilesAreMet}
 use Rattle.brush_path.proofs.Ordered.{any_in_order, sorted_in_order, none_sorted, same_keys}
 use Rattle.brush_path.proofs.Round.{cells_sorted, cells_met}
+use Rattle.geom_core.proofs.Tests.{or-false}
 
 any_square : (k : Key) (r : ℕ) (cs : List Point) → list_any (same_key k) (all_keys_of (map (λ (c : Point). square c.x c.y r) cs)) ≡ list_any (λ a. meets a (tile k)) (map (λ (c : Point). square c.x c.y r) cs)
 any_square k r [] = refl
@@ -23,12 +24,8 @@ any_square k r (c ∷ cs) =
     list_any-append (same_key k) (keys_of (square c.x c.y r)) (all_keys_of (map (λ (c : Point). square c.x c.y r) cs))
     ∙ (λ i. (tiles_met (square c.x c.y r) (omega arith) (omega arith)).exact k i || any_square k r cs i)
 
-or_false : (b : Bool) → (b || false) ≡ b
-or_false true = refl
-or_false false = refl
-
 any_gathered : (t : Trail) (k : Key) → list_any (same_key k) (in_order [] (all_keys_of (squares t))) ≡ is_met t k
-any_gathered t k = any_in_order k [] (all_keys_of (squares t)) ∙ or_false _ ∙ any_square k t.stamp.r (centres t)
+any_gathered t k = any_in_order k [] (all_keys_of (squares t)) ∙ or-false _ ∙ any_square k t.stamp.r (centres t)
 
 -- they are the tiles of one dab after another, put in order
 pub cells_gathered : (t : Trail) → in_order [] (all_keys_of (squares t)) ≡ cells t

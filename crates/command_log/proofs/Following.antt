@@ -2,7 +2,6 @@
 use Rattle.std.proofs.Common.{◌≡◌, Bool, true, false, ◌&&◌, not, nat_lt, if◌then◌else◌, Option, Some, None, List, length, filter, refl}
 use Rattle.std.specs.List.{list_any}
 use Rattle.std.specs.Option.{option_or}
-use Rattle.command_log.proofs.Tables.{and_false}
 use Rattle.doc_model.specs.declared.command.Command.{Command}
 use Rattle.doc_model.specs.declared.command.Command.TheVariants as command
 use Rattle.doc_model.specs.Jobs.{checks}
@@ -11,6 +10,7 @@ use Rattle.doc_model.specs.Strokes.{Entry, is_stroke, is_open_stroke, has_room, 
 use Rattle.command_log.specs.declared.refusal.Misfit.{Misfit}
 use Rattle.command_log.specs.declared.refusal.Misfit.TheVariants.{UsedAgain, UnknownStroke, ClosedStroke, TooManyJobs, TooManyExports}
 use Rattle.command_log.specs.Misfits.{misfit_of}
+use Rattle.geom_core.proofs.Tests.{and-false}
 
 not_free : (a : Bool) (x : Misfit) → (if a then Some UsedAgain else None) ≡ Some x → not a ≡ false
 not_free true x h = refl
@@ -22,8 +22,8 @@ not_live a false x h = refl
 
 add_bad : (s a b r : Bool) (x : Misfit) → option_or (if b then None else if a then Some ClosedStroke else Some UnknownStroke) (if r then None else Some TooManyJobs) ≡ Some x → (s && (b && r)) ≡ false
 add_bad s a true true x h = absurd (cc (h))
-add_bad s a true false x h = and_false s
-add_bad s a false r x h = and_false s
+add_bad s a true false x h = and-false s
+add_bad s a false r x h = and-false s
 
 not_space : (a : Bool) (x : Misfit) → (if a then None else Some TooManyExports) ≡ Some x → a ≡ false
 not_space true x h = absurd (cc (h))

@@ -18,6 +18,7 @@ use Rattle.command_log.specs.Misfits.{misfit_of, not_open}
 use Rattle.std.specs.Option.{option_or}
 use Rattle.command_log.specs.Table.{Tells, has_fewer, fewer, next_fed, one_more, closed, start_misfit, close_misfit, job_misfit, stroke_misfit, export_misfit, exports_after}
 use Rattle.command_log.proofs.Tables.{same_any, none_any, same_filter, job_started, job_open, job_export, job_room, job_other, none_fewer, close_started, close_room, close_export, close_itself, close_other, same_number, lt_more}
+use Rattle.geom_core.proofs.Tests.{or-false}
 
 -- tests that agree
 same_test : (p q : Entry → Bool) → ((e : Entry) → p e ≡ q e) → (es : List Entry) → list_any p es ≡ list_any q es
@@ -58,17 +59,13 @@ job_same es n found t = go found (room_same es n found t) t
     go None r t = rw (t.live, t.started) refl
     go (Some f) r t = rw (t.live, t.started, r) (step f f.live (nat_lt f.jobs 4096))
 
-or_false : (b : Bool) → (b || false) ≡ b
-or_false true = refl
-or_false false = refl
-
 or_true : (b : Bool) → (b || true) ≡ true
 or_true true = refl
 or_true false = refl
 
 -- an entry more that fails the test
 more_not : (p : Entry → Bool) (es : List Entry) (e : Entry) → p e ≡ false → list_any p (es ++ e ∷ []) ≡ list_any p es
-more_not p es e h = list_any-append p es (e ∷ []) ∙ rw h (or_false (list_any p es))
+more_not p es e h = list_any-append p es (e ∷ []) ∙ rw h (or-false (list_any p es))
 
 -- an entry more that passes it
 more_yes : (p : Entry → Bool) (es : List Entry) (e : Entry) → p e ≡ true → list_any p (es ++ e ∷ []) ≡ true
@@ -92,7 +89,7 @@ abbrev fresh : ℕ → ℕ → Bool → Entry
 fresh n layer x = Strokes (record { no = n; layer = layer; exclusive = x; jobs = []; fate = Open })
 
 fresh_room : (es : List Entry) (n m layer : ℕ) (x : Bool) (k : ℕ) → (n == m) ≡ true → list_any (fewer k m) es ≡ false → list_any (fewer k m) (es ++ fresh n layer x ∷ []) ≡ nat_lt 0 k
-fresh_room es n m layer x k h none = list_any-append (fewer k m) es (fresh n layer x ∷ []) ∙ rw (none, h) (or_false (nat_lt 0 k))
+fresh_room es n m layer x k h none = list_any-append (fewer k m) es (fresh n layer x ∷ []) ∙ rw (none, h) (or-false (nat_lt 0 k))
 
 -- a stroke is started
 start_step : (es : List Entry) (n m layer : ℕ) (x : Bool) (old : Option Fed) → list_any (is_stroke n) es ≡ false → Tells es m old → Tells (fed es (command.Stroke n layer x)) m (next_fed (command.Stroke n layer x) m old)

@@ -8,6 +8,7 @@ use Rattle.doc_model.specs.declared.job.Job.{Job}
 use Rattle.doc_model.specs.declared.job.Kind.{Kind}
 use Rattle.doc_model.specs.Strokes.{Entry, Strokes, Changes, Undoes, Redoes, Purges, Exports, Fate, with_job, with_fate, is_stroke, is_open_stroke, is_export, is_open as is_open_fate}
 use Rattle.command_log.specs.Table.{fewer}
+use Rattle.geom_core.proofs.Tests.{and-false}
 
 -- a test of entries that are changed one by one
 pub same_any : (p q : Entry → Bool) (f : Entry → Entry) → ((e : Entry) → p (f e) ≡ q e) → (es : List Entry) → list_any p (map f es) ≡ list_any q es
@@ -70,10 +71,6 @@ lt_zero a = grind (arith, nat_tests)
 pub lt_more : (a b k : ℕ) → b ≡ a + 1 → nat_lt b (suc k) ≡ nat_lt a k
 lt_more a b k h = grind (arith, nat_tests)
 
-pub and_false : (b : Bool) → (b && false) ≡ false
-and_false true = refl
-and_false false = refl
-
 pub same_number : (a b : ℕ) → (a == b) ≡ true → a ≡ b
 same_number a b h = grind (arith, nat_tests)
 
@@ -107,7 +104,7 @@ job_other n m k h kind j (Purges keep) = refl
 job_other n m k h kind j Exports = refl
 
 pub none_fewer : (n : ℕ) (e : Entry) → fewer 0 n e ≡ false
-none_fewer n (Strokes s) = rw (lt_zero (length s.jobs)) (and_false (s.no == n))
+none_fewer n (Strokes s) = rw (lt_zero (length s.jobs)) (and-false (s.no == n))
 none_fewer n (Changes c) = refl
 none_fewer n Undoes = refl
 none_fewer n Redoes = refl
@@ -155,7 +152,7 @@ pub close_itself : (n : ℕ) (f : Fate) → is_open_fate f ≡ false → (e : En
 close_itself n f h (Strokes s) = go (s.no == n) refl
   where
     go : (b : Bool) → (s.no == n) ≡ b → is_open_stroke n (if b then Strokes (record s { fate = f }) else Strokes s) ≡ false
-    go true e = rw h (and_false (s.no == n))
+    go true e = rw h (and-false (s.no == n))
     go false e = rw e refl
 close_itself n f h (Changes c) = refl
 close_itself n f h Undoes = refl

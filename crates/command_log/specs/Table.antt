@@ -57,12 +57,12 @@ closed None = None
 closed (Some f) = Some (record f { live = false })
 
 -- what is kept of a stroke that starts
-abbrev pub fresh : Fed
-fresh = record { live = true; jobs = 0 }
+abbrev pub just_started : Fed
+just_started = record { live = true; jobs = 0 }
 
 -- what is kept of that stroke after the command
 abbrev pub after : Option Fed → Command → Option Fed
-after found (command.Stroke n layer exclusive) = Some fresh
+after found (command.Stroke n layer exclusive) = Some just_started
 after found (command.Add n kind job) = one_more found
 after found (command.End n) = closed found
 after found (command.Cancel n) = closed found

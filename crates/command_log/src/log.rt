@@ -153,6 +153,17 @@ impl CommandLog {
         }
     }
 
+    /// Why the command may not follow those that were taken, its job's own limits aside. None exactly where
+    /// it may, or its job's limits alone forbid it. One look-up, no memory.
+    pub fn misfit(&self, command: &Command) -> Option<Misfit>
+        ensures { result ≡ misfit_of (entries self.now.items) command.now }
+    {
+        match export_misfit(self.exports, command) {
+            Some(misfit) => Some(misfit),
+            None => self.strokes.misfit(command),
+        }
+    }
+
     /// Whether the command may follow those that were taken: its job meets the limits and lies in the
     /// world, its stroke is open or new as it has to be, and there are few enough jobs and exports.
     pub fn may_follow(&self, command: &Command) -> bool

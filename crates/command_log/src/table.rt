@@ -6,7 +6,7 @@ ghost use Rattle.std.specs.Ordering.{nat_cmp};
 ghost use Rattle.std.specs.BTreeMap.{get as found};
 ghost use Rattle.command_log.specs.declared.refusal.Refusal.TheVariants as refusal;
 ghost use Rattle.command_log.specs.Log.{Refuses};
-ghost use Rattle.command_log.specs.Table.{kept, fresh, one_more, closed as shut, next_fed, start_misfit, close_misfit, job_misfit, kept_misfit, stroke_misfit};
+ghost use Rattle.command_log.specs.Table.{kept, just_started, one_more, closed as shut, next_fed, start_misfit, close_misfit, job_misfit, kept_misfit, stroke_misfit};
 
 use crate::refusal::{Misfit, Refusal};
 use doc_model::Command;
@@ -67,6 +67,31 @@ impl Fed {
         None
     }
 
+    /// Why the stroke can't take one more job.
+    #[inline(always)]
+    fn job_misfit(self) -> Option<Misfit>
+        ensures { result ≡ job_misfit (Some self) }
+    {
+        if !self.live {
+            return Some(Misfit::ClosedStroke);
+        }
+        if self.jobs >= MOST_JOBS {
+            return Some(Misfit::TooManyJobs);
+        }
+        None
+    }
+
+    /// Why the stroke can't be closed.
+    fn close_misfit(self) -> Option<Misfit>
+        ensures { result ≡ close_misfit (Some self) }
+    {
+        if self.live {
+            None
+        } else {
+            Some(Misfit::ClosedStroke)
+        }
+    }
+
     /// Gives the stroke one more job.
     #[inline(always)]
     fn feed(&mut self) -> Result<(), Misfit>
@@ -74,11 +99,8 @@ impl Fed {
         ensures fed { OnOk result (Some self.new ≡ one_more (Some self.old)) }
         ensures same { OnErr result (self.new ≡ self.old) }
     {
-        if !self.live {
-            return Err(Misfit::ClosedStroke);
-        }
-        if self.jobs >= MOST_JOBS {
-            return Err(Misfit::TooManyJobs);
+        if let Some(misfit) = self.job_misfit() {
+            return Err(misfit);
         }
         self.jobs += 1;
         Ok(())
@@ -90,8 +112,8 @@ impl Fed {
         ensures closed { OnOk result (Some self.new ≡ shut (Some self.old)) }
         ensures same { OnErr result (self.new ≡ self.old) }
     {
-        if !self.live {
-            return Err(Misfit::ClosedStroke);
+        if let Some(misfit) = self.close_misfit() {
+            return Err(misfit);
         }
         self.live = false;
         Ok(())
@@ -116,6 +138,27 @@ impl Table {
         match self.newest {
             Some(stroke) if stroke.no == no => Some(stroke.fed),
             _ => self.older.get(&no).copied(),
+        }
+    }
+
+    /// Why the command can't be taken, by its stroke.
+    pub(crate) fn misfit(&self, command: &Command) -> Option<Misfit>
+        ensures { result ≡ stroke_misfit (kept self.now) command.now }
+    {
+        match command {
+            Command::Stroke { no, .. } => match self.get(*no) {
+                Some(_) => Some(Misfit::UsedAgain),
+                None => None,
+            },
+            Command::Add { no, .. } => match self.get(*no) {
+                Some(fed) => fed.job_misfit(),
+                None => Some(Misfit::UnknownStroke),
+            },
+            Command::End { no } | Command::Cancel { no } => match self.get(*no) {
+                Some(fed) => fed.close_misfit(),
+                None => Some(Misfit::UnknownStroke),
+            },
+            _ => None,
         }
     }
 
@@ -156,7 +199,7 @@ impl Table {
     /// Starts a stroke.
     fn start(&mut self, no: u32) -> Result<(), Refusal>
         ensures refused { Refuses result (start_misfit (kept self.old no)) }
-        ensures kept { OnOk result ((m : ℕ) → kept self.new m ≡ (if no == m then Some fresh else kept self.old m)) }
+        ensures kept { OnOk result ((m : ℕ) → kept self.new m ≡ (if no == m then Some just_started else kept self.old m)) }
         ensures same { OnErr result ((m : ℕ) → kept self.new m ≡ kept self.old m) }
         ensures full { result ≡ Err refusal.NoMemory → is_some self.old.newest ≡ true }
     {

@@ -1,24 +1,50 @@
 -- Events other than feeding keep the canvas and the commands that were fed.
-use Rattle.std.proofs.Common.{◌≡◌, ℕ, false, refl, sym, subst}
+use Rattle.std.proofs.Common.{◌≡◌, ℕ, false, Result, Ok, Err, OnErr, refl, sym, subst}
+use Rattle.std.specs.Prelude.{IfOk}
 use Rattle.machine_model.specs.State.{State}
-use Rattle.machine_model.specs.Event.{Event}
+use Rattle.machine_model.specs.Settled.{IsSettled}
+use Rattle.machine_model.specs.Event.{Event, Start, WalkStart}
 use Rattle.machine_model.specs.Step.{Step}
 use Rattle.machine_model.specs.MeaningLaws.{is_feed}
-use Rattle.desk_parts.specs.Settles.{Settles}
-use Rattle.desk_parts.specs.Choices.{DoesAtOnce}
-use Rattle.desk_parts.proofs.SettlingRuns.{goes_on, goes_at_once, canvas_stays, fed_stays}
+use Rattle.desk_state.specs.Settles.{Settles}
+use Rattle.desk_state.specs.Choices.{DoesAtOnce, IsIdle, MayWant}
+use Rattle.desk_state.proofs.SettlingRuns.{goes_on, goes_at_once, canvas_stays, fed_stays}
+use Rattle.desk_events.specs.declared.tickets.PaintTicket.{PaintTicket}
+use Rattle.desk_events.specs.declared.tickets.WalkTicket.{WalkTicket}
+use Rattle.desk_events.specs.Tickets.{IsPaintTicket, IsWalkTicket}
+use Rattle.desk_core.specs.declared.tickets.Taken.{Taken}
+use Rattle.desk_core.specs.declared.tickets.Taken.TheVariants as taken
 use Rattle.crew_run.specs.Front.{KeepsFed}
 
-pub keeps_same : {a b : State} → b ≡ a → KeepsFed a b
+keeps_same : {a b : State} → b ≡ a → KeepsFed a b
 keeps_same {a = a} e = subst (KeepsFed a) (sym e) (record { canvas = refl; fed = refl })
 
 -- a run of them
-pub settles_keeps : {a b : State} → Settles a b → KeepsFed a b
+settles_keeps : {a b : State} → Settles a b → KeepsFed a b
 settles_keeps s = record { canvas = canvas_stays s; fed = fed_stays s }
 
 -- one of them
-pub step_keeps : (a b : State) (e : Event) → is_feed e ≡ false → Step a e b → KeepsFed a b
+step_keeps : (a b : State) (e : Event) → is_feed e ≡ false → Step a e b → KeepsFed a b
 step_keeps a b e other step = settles_keeps (goes_on a b e other step).settles
 
-pub at_once_keeps : {a b : State} {before now : ℕ} → DoesAtOnce a b before now → KeepsFed a b
+at_once_keeps : {a b : State} {before now : ℕ} → DoesAtOnce a b before now → KeepsFed a b
 at_once_keeps did = settles_keeps (goes_at_once did).settles
+
+-- what is taken, with something beside it, or nothing for want of memory
+pub take_keeps : {X E : Type 0} (r : Result X E) (taken_of : X → Taken) (a b : State) (before now : ℕ)
+    → ((t : PaintTicket) → IfOk r (λ x. taken_of x ≡ taken.Paint t → Step a (Start t.slot.place) b × IsPaintTicket t b))
+    → ((t : WalkTicket) → IfOk r (λ x. taken_of x ≡ taken.Walk t → Step a (WalkStart t.slot.place t.inputs.patch) b × IsWalkTicket t b))
+    → IfOk r (λ x. taken_of x ≡ taken.Did → DoesAtOnce a b before now)
+    → IfOk r (λ x. taken_of x ≡ taken.Idle → IsIdle a × (b ≡ a))
+    → IfOk r (λ x. taken_of x ≡ taken.Settled → IsSettled a × (b ≡ a))
+    → OnErr r (MayWant a × (b ≡ a))
+    → KeepsFed a b
+take_keeps (Err e) taken_of a b before now paint walk did idle settled err = keeps_same err.1
+take_keeps (Ok x) taken_of a b before now paint walk did idle settled err = go (taken_of x) refl
+  where
+    go : (t : Taken) → taken_of x ≡ t → KeepsFed a b
+    go (taken.Paint t) is = step_keeps a b (Start t.slot.place) refl (paint t is).0
+    go (taken.Walk t) is = step_keeps a b (WalkStart t.slot.place t.inputs.patch) refl (walk t is).0
+    go taken.Did is = at_once_keeps (did is)
+    go taken.Idle is = keeps_same (idle is).1
+    go taken.Settled is = keeps_same (settled is).1

@@ -4,23 +4,20 @@ ghost use Rattle.std.specs.Prelude.{◌≡◌};
 ghost use Rattle.script_text.specs.Script.{Contents};
 ghost use Rattle.crew_run.specs.Front.{IsFront, nothing};
 
-use crate::calls::{Took, end_walk, paint_small, put_job, put_rows, take};
+use crate::effort::{WORTH_TWO, load_of, points_in};
 use crate::feeding::feed_ahead;
 use crate::pieces::{Piece, Walking};
-use crate::work::{Rows, TakenJob, Tiles, Work};
-use desk_core::{Desk, Ended, Published};
+use crate::work::{Rows, Tiles, Work};
+use desk_core::{Desk, Ended, Published, Taken};
 use geom_core::NoMemory;
 use memento_core::Steps;
 use script_text::Script;
-use stamped_desk::{Naming, StampedDesk, StampedTiles, StampedWalk};
+use stamped_desk::{Naming, StampedDesk, StampedPainting, StampedTiles, StampedWalk};
 use std::alloc::Global;
 use std::marker::{Brand, PhantomData};
 use std::sync::Arc;
 use std::sync::ledger::Ledger;
 use walker_core::Composed;
-
-/// From how many points on work is worth waking another thread for what is left beside it.
-const WORTH_TWO: u64 = 7_500;
 
 /// Which script is painted. Each call of the crew picks it.
 pub(crate) trait Following {
@@ -56,21 +53,13 @@ pub(crate) struct Board<J: Following + Naming> {
     ghost front: { IsFront desk.fed J.script.commands },
 }
 
-/// What a thread has to do.
-#[derive(Drop)]
-pub(crate) struct Part<J: Naming> {
-    pub(crate) work: Work<J>,
-    /// Whether something is left at once that is worth another thread.
-    pub(crate) leaves: bool,
-}
-
 /// What is to be done with the tiles that a thread brought.
 #[derive(Drop)]
 pub(crate) enum Brought<J: Naming> {
     /// Nothing: some tiles of the job are missing.
     Kept,
     /// All tiles are there: the gate is entered, and then they are published.
-    All(Arc<TakenJob<J>, Global>, StampedTiles<J>),
+    All(StampedTiles<J>),
     /// The threads stop.
     Over,
 }
@@ -78,7 +67,7 @@ pub(crate) enum Brought<J: Naming> {
 /// One look at the board.
 #[derive(Drop)]
 pub(crate) enum Next<J: Naming> {
-    Part(Part<J>),
+    Work(Work<J>),
     /// An event was made; more may be there.
     Again,
     /// Others have all the work that can be done now.
@@ -129,7 +118,7 @@ impl<J: Following + Naming> Board<J> {
             return Next::Stop;
         }
         let next = match self.join() {
-            Ok(Some(part)) => Ok(Next::Part(part)),
+            Ok(Some(work)) => Ok(Next::Work(work)),
             Ok(None) => self.take(script, steps),
             Err(NoMemory) => Err(NoMemory),
         };
@@ -143,28 +132,24 @@ impl<J: Following + Naming> Board<J> {
     }
 
     /// Tiles of work under way.
-    fn join(&mut self) -> Result<Option<Part<J>>, NoMemory> {
+    fn join(&mut self) -> Result<Option<Work<J>>, NoMemory> {
         for piece in &mut self.pieces {
-            if piece.is_open() {
+            if piece.ranges.is_open() {
                 let tiles = piece.give()?;
-                return Ok(Some(Part {
-                    leaves: piece.is_open(),
-                    work: Work::Tiles(tiles),
-                }));
+                let leaves = piece.ranges.is_open();
+                return Ok(Some(Work::Paint { tiles, leaves }));
             }
         }
         self.join_walk()
     }
 
     /// Tiles of a walk under way.
-    fn join_walk(&mut self) -> Result<Option<Part<J>>, NoMemory> {
+    fn join_walk(&mut self) -> Result<Option<Work<J>>, NoMemory> {
         for walk in &mut self.walks {
-            if walk.is_open() {
+            if walk.ranges.is_open() {
                 let rows = walk.give()?;
-                return Ok(Some(Part {
-                    leaves: walk.is_open(),
-                    work: Work::Rows(rows),
-                }));
+                let leaves = walk.ranges.is_open();
+                return Ok(Some(Work::Compose { rows, leaves }));
             }
         }
         Ok(None)
@@ -186,71 +171,71 @@ impl<J: Following + Naming> Board<J> {
         if self.jobs > 0 && !self.desk.desk().head_may_go() {
             return Ok(Next::Wait);
         }
-        if self.threads == 1 && paint_small(&mut self.desk)? {
+        if self.threads == 1 && self.desk.paint_small()?.is_some() {
             return Ok(Next::Again);
         }
-        match take(self.alloc, &mut self.desk, steps)? {
-            Took::Job(job) => self.begin_job(job),
-            Took::Walk(walk) => self.begin_walk(walk),
-            Took::Did => Ok(Next::Again),
-            Took::Idle if self.jobs > 0 || !self.walks.is_empty() => Ok(Next::Wait),
-            Took::Idle | Took::Settled => Ok(Next::Stop),
+        self.begin(steps)
+    }
+
+    /// The work that the desk gives, or one event that it made.
+    fn begin<L: Ledger>(&mut self, steps: &mut Steps<L>) -> Result<Next<J>, NoMemory> {
+        let (taken, stamp) = self.desk.take(steps)?;
+        match taken {
+            Taken::Paint(ticket) => {
+                let load = load_of(&ticket.work, &ticket.shot);
+                let job = StampedPainting::new(self.alloc, ticket, stamp)?;
+                self.begin_job(job, load)
+            }
+            Taken::Walk(ticket) => self.begin_walk(StampedWalk::new(ticket, stamp)),
+            Taken::Did => Ok(Next::Again),
+            Taken::Idle if self.jobs > 0 || !self.walks.is_empty() => Ok(Next::Wait),
+            Taken::Idle | Taken::Settled => Ok(Next::Stop),
         }
     }
 
-    /// Some tiles of a new job, or all.
-    fn begin_job(&mut self, job: TakenJob<J>) -> Result<Next<J>, NoMemory> {
+    /// Some tiles of a new job of so much work, or all.
+    fn begin_job(&mut self, job: StampedPainting<J>, load: u64) -> Result<Next<J>, NoMemory> {
         self.jobs = self.jobs.saturating_add(1);
         let job = Arc::new(self.alloc, job)?;
-        if Piece::is_worth(&job, self.threads) {
+        if Piece::is_worth(&job, load, self.threads) {
             return self.begin_piece(job);
         }
         let is_first = !self.run_goes_on;
         self.run_goes_on = self.desk.desk().head_may_go();
-        let leaves = self.run_goes_on && (is_first || job.load > WORTH_TWO);
-        let to = job.painting.tile_count();
+        let leaves = self.run_goes_on && (is_first || load > WORTH_TWO);
+        let to = job.tile_count();
         let tiles = Tiles {
             job,
             from: 0,
             to,
             are_all: true,
         };
-        Ok(Next::Part(Part {
-            work: Work::Tiles(tiles),
-            leaves,
-        }))
+        Ok(Next::Work(Work::Paint { tiles, leaves }))
     }
 
     /// The first tiles of a new job that several threads paint.
-    fn begin_piece(&mut self, job: Arc<TakenJob<J>, Global>) -> Result<Next<J>, NoMemory> {
+    fn begin_piece(&mut self, job: Arc<StampedPainting<J>, Global>) -> Result<Next<J>, NoMemory> {
         self.run_goes_on = self.desk.desk().head_may_go();
         let mut piece = Piece::new(self.alloc, job, self.threads)?;
-        if !piece.is_open() {
+        if !piece.ranges.is_open() {
             return Err(NoMemory);
         }
         let tiles = piece.give()?;
-        let leaves = piece.is_open();
+        let leaves = piece.ranges.is_open();
         self.pieces.push(piece)?;
-        Ok(Next::Part(Part {
-            work: Work::Tiles(tiles),
-            leaves,
-        }))
+        Ok(Next::Work(Work::Paint { tiles, leaves }))
     }
 
     /// The first tiles of a new walk. Whoever looks next finds those that are left, or another walk.
     fn begin_walk(&mut self, walk: StampedWalk<J>) -> Result<Next<J>, NoMemory> {
-        let rect = walk.ticket().inputs.patch().rect;
-        let points = u64::from(rect.w()).saturating_mul(u64::from(rect.h()));
+        let leaves = points_in(&walk.ticket().inputs.patch().rect) > WORTH_TWO;
         let mut walk = Walking::new(Arc::new(self.alloc, walk)?, self.threads);
-        if !walk.is_open() {
+        if !walk.ranges.is_open() {
             return Err(NoMemory);
         }
         let rows = walk.give()?;
         self.walks.push(walk)?;
-        Ok(Next::Part(Part {
-            work: Work::Rows(rows),
-            leaves: points > WORTH_TWO,
-        }))
+        Ok(Next::Work(Work::Compose { rows, leaves }))
     }
 
     /// Takes what was painted of some tiles of a job.
@@ -261,31 +246,40 @@ impl<J: Following + Naming> Board<J> {
         match self.pieces[i].gather(made) {
             Ok(false) => Brought::Kept,
             Ok(true) => {
-                let (job, made) = self.pieces.swap_remove(i).into_results();
-                Brought::All(job, made)
+                let piece = self.pieces.swap_remove(i);
+                Brought::All(piece.into_made())
             }
             Err(NoMemory) => Brought::Over,
         }
     }
 
-    /// Publishes all tiles of a job. Where that can't be done the threads are to stop.
+    /// Publishes all tiles of a job, and ends it. Where that can't be done the threads are to stop.
     pub(crate) fn put_job(&mut self, made: &StampedTiles<J>) {
         self.jobs = self.jobs.saturating_sub(1);
-        match put_job(&mut self.desk, made) {
+        match self.desk.commit(made) {
             Ok(Published::Stored) => {}
             Ok(Published::Nothing) | Err(NoMemory) => self.is_over = true,
         }
     }
 
-    /// Publishes tiles of a walk, and ends it where they are its last. Where that can't be done the threads are
-    /// to stop.
+    /// Publishes tiles of a walk, of all its groups, and ends it where they are its last. Where that can't be
+    /// done the threads are to stop.
     pub(crate) fn put_rows(&mut self, rows: &Rows<J>, composed: &Composed<'_>)
         requires { composed.now.readings ≡ rows.now.walk.value.inputs }
     {
-        match put_rows(&mut self.desk, rows, composed) {
-            Ok(Published::Stored) => self.tell_done(rows),
-            Ok(Published::Nothing) | Err(NoMemory) => self.is_over = true,
+        let rect = rows.walk.ticket().inputs.patch().rect;
+        let to = rows.to.min(rect.tile_count() as usize);
+        for i in rows.from..to {
+            let key = rect.tile_at(i as u32);
+            match self.desk.publish_row(&rows.walk, composed, key) {
+                Ok(Published::Stored) => {}
+                Ok(Published::Nothing) | Err(NoMemory) => {
+                    self.is_over = true;
+                    return;
+                }
+            }
         }
+        self.tell_done(rows);
     }
 
     /// Ends a walk where these were its last tiles.
@@ -297,7 +291,7 @@ impl<J: Following + Naming> Board<J> {
         };
         if self.walks[i].tell_done(rows.to.saturating_sub(rows.from)) {
             let _ended = self.walks.swap_remove(i);
-            if end_walk(&mut self.desk, slot) == Ended::Nothing {
+            if self.desk.end(slot) == Ended::Nothing {
                 self.is_over = true;
             }
         }

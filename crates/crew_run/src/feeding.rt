@@ -1,18 +1,16 @@
 //! Feeding a script to a desk.
 
 ghost use Rattle.std.specs.Prelude.{◌≡◌, ◌≤◌, ◌<◌, ◌-◌, ◌^◌, length, take, OnOk};
-ghost use Rattle.machine_model.specs.Settled.{IsSettled};
 ghost use Rattle.crew_run.specs.Front.{IsFront};
+ghost use Rattle.crew_run.specs.Painted.{IsPaintedBy};
 
 use desk_core::Desk;
+use doc_model::MOST_COMMANDS;
 use geom_core::NoMemory;
 use memento_core::Steps;
 use script_text::Script;
 use stamped_desk::{Naming, StampedDesk};
 use std::sync::ledger::Ledger;
-
-/// How many commands are fed at most.
-const MOST: usize = 4_294_967_295;
 
 /// Feeds the next command of a script. `false` where none is left, or no memory.
 #[tactic(auto, using(crate::proofs::Fronts::front_more, crate::proofs::Fronts::next_follows))]
@@ -23,7 +21,7 @@ fn feed_next<J: Naming>(desk: &mut StampedDesk<J>, script: &Script) -> bool
 {
     let _lawful = script.commands();
     let count = desk.desk().fed_count();
-    if count >= script.len() || count >= MOST {
+    if count >= script.len() || count >= MOST_COMMANDS {
         return false;
     }
     desk.feed(script.command(count)).is_ok()
@@ -48,6 +46,9 @@ pub(crate) fn feed_ahead<J: Naming>(desk: &mut StampedDesk<J>, script: &Script) 
 }
 
 /// Feeds what is left of a script, and does all of it on the caller's thread.
+///
+/// # Errors
+/// `NoMemory`.
 #[tactic(auto, using(crate::proofs::Fronts::one_more, std::proofs::lemmas::List::take_all, crate::proofs::Fronts::next_follows))]
 pub(crate) fn finish<L: Ledger>(
     desk: &mut Desk,
@@ -57,9 +58,7 @@ pub(crate) fn finish<L: Ledger>(
     requires canvas { desk.old.canvas ≡ script.now.canvas }
     requires front { IsFront desk.old.fed script.now.commands }
     requires few { length script.now.commands ≤ 2 ^ 32 - 1 }
-    ensures settled { OnOk result (IsSettled desk.new) }
-    ensures canvas { OnOk result (desk.new.canvas ≡ script.now.canvas) }
-    ensures fed { OnOk result (desk.new.fed ≡ script.now.commands) }
+    ensures { OnOk result (IsPaintedBy script.now desk.new) }
 {
     let _lawful = script.commands();
     for i in desk.fed_count()..script.len() {

@@ -2,21 +2,16 @@
 
 ghost use Rattle.std.specs.Prelude.{◌≡◌, ◌≤◌, ◌<◌, nat_lt, IfOk, OnErr};
 
-use crate::work::{Rows, TakenJob, Tiles};
+use crate::effort::{ALONE, RANGES, points_in};
+use crate::work::{Rows, Tiles};
 use geom_core::NoMemory;
-use stamped_desk::{Naming, StampedTiles, StampedWalk};
+use stamped_desk::{Naming, StampedPainting, StampedTiles, StampedWalk};
 use std::alloc::Global;
 use std::sync::Arc;
 
-/// How many points work has at most that one thread does alone.
-const ALONE: u64 = 60_000;
-
-/// Into how many ranges of tiles work is cut for each thread.
-const RANGES: usize = 6;
-
 /// Tiles that are given out in ranges, from the first on.
 #[derive(Drop)]
-struct Ranges {
+pub(crate) struct Ranges {
     tiles: usize,
     /// How many were given out.
     next: usize,
@@ -38,7 +33,7 @@ impl Ranges {
     }
 
     /// Whether some tiles weren't given out.
-    fn is_open(&self) -> bool
+    pub(crate) fn is_open(&self) -> bool
         ensures { result ≡ nat_lt self.now.next self.now.tiles }
     {
         self.next < self.tiles
@@ -60,27 +55,30 @@ impl Ranges {
 /// A job that several threads paint, tile by tile. What they painted is gathered here.
 #[derive(Drop)]
 pub(crate) struct Piece<J: Naming> {
-    job: Arc<TakenJob<J>, Global>,
-    ranges: Ranges,
+    job: Arc<StampedPainting<J>, Global>,
+    pub(crate) ranges: Ranges,
     made: StampedTiles<J>,
 }
 
 impl<J: Naming> Piece<J> {
-    /// Whether a job is worth several threads.
-    pub(crate) fn is_worth(job: &TakenJob<J>, threads: usize) -> bool {
-        threads > 1 && job.load > ALONE && job.painting.tile_count() > 1
+    /// Whether a job of so much work is worth several of the threads.
+    pub(crate) fn is_worth(job: &StampedPainting<J>, load: u64, threads: usize) -> bool {
+        threads > 1 && load > ALONE && job.tile_count() > 1
     }
 
     /// A job of which no tile was given out.
+    ///
+    /// # Errors
+    /// `NoMemory`, for the list of what is painted of it.
     pub(crate) fn new(
         alloc: Global,
-        job: Arc<TakenJob<J>, Global>,
+        job: Arc<StampedPainting<J>, Global>,
         threads: usize,
     ) -> Result<Piece<J>, NoMemory>
         ensures { IfOk result (λ p. p.ranges.next ≡ 0) }
     {
-        let tiles = job.painting.tile_count();
-        let made = job.painting.no_tiles(alloc, tiles)?;
+        let tiles = job.tile_count();
+        let made = job.no_tiles(alloc, tiles)?;
         Ok(Piece {
             job,
             ranges: Ranges::new(tiles, threads.saturating_mul(RANGES)),
@@ -90,14 +88,7 @@ impl<J: Naming> Piece<J> {
 
     /// The serial of the job's slot.
     pub(crate) fn serial(&self) -> u64 {
-        self.job.painting.slot().serial
-    }
-
-    /// Whether some tiles weren't given out.
-    pub(crate) fn is_open(&self) -> bool
-        ensures { result ≡ nat_lt self.now.ranges.next self.now.ranges.tiles }
-    {
-        self.ranges.is_open()
+        self.job.slot().serial
     }
 
     /// The next tiles: those right behind the ones that were given out before.
@@ -133,10 +124,10 @@ impl<J: Naming> Piece<J> {
         Ok(self.made.len() >= self.ranges.tiles)
     }
 
-    /// The job, with all that was painted of it.
-    pub(crate) fn into_results(self) -> (Arc<TakenJob<J>, Global>, StampedTiles<J>) {
-        let Piece { job, made, .. } = self;
-        (job, made)
+    /// All that was painted of it.
+    pub(crate) fn into_made(self) -> StampedTiles<J> {
+        let Piece { made, .. } = self;
+        made
     }
 }
 
@@ -144,7 +135,7 @@ impl<J: Naming> Piece<J> {
 #[derive(Drop)]
 pub(crate) struct Walking<J: Naming> {
     walk: Arc<StampedWalk<J>, Global>,
-    ranges: Ranges,
+    pub(crate) ranges: Ranges,
     /// How many tiles are published.
     done: usize,
 }
@@ -155,8 +146,7 @@ impl<J: Naming> Walking<J> {
         ensures { result.ranges.next ≡ 0 }
     {
         let rect = walk.ticket().inputs.patch().rect;
-        let points = u64::from(rect.w()).saturating_mul(u64::from(rect.h()));
-        let count = if threads > 1 && points > ALONE {
+        let count = if threads > 1 && points_in(&rect) > ALONE {
             threads.saturating_mul(RANGES)
         } else {
             1
@@ -171,13 +161,6 @@ impl<J: Naming> Walking<J> {
     /// The serial of the walk's slot.
     pub(crate) fn serial(&self) -> u64 {
         self.walk.ticket().slot.serial
-    }
-
-    /// Whether some tiles weren't given out.
-    pub(crate) fn is_open(&self) -> bool
-        ensures { result ≡ nat_lt self.now.ranges.next self.now.ranges.tiles }
-    {
-        self.ranges.is_open()
     }
 
     /// The next tiles: those right behind the ones that were given out before.

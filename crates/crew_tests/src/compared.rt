@@ -4,12 +4,12 @@ ghost use Rattle.std.specs.Prelude.{◌≤◌};
 
 use crate::gates::Yields;
 use crate::painted::{CREWS, painted, script_of};
-use across::{Told, drawn_script, plain_frames};
 use desk_core::Desk;
 use doc_model::{Change, Command, Job, Kind, Outcome};
 use geom_core::{NoMemory, Rect};
 use io_edge::NoGate;
 use pixel_core::{Op, Pixel};
+use plain_painter::{Told, drawn_script, plain_frames};
 use script_text::Script;
 use std::alloc::Global;
 use std::sync::Wait;

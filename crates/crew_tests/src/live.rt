@@ -4,7 +4,6 @@ ghost use Rattle.std.specs.Prelude.{◌≡◌};
 ghost use Rattle.live_view.specs.Views.{IsOnCanvas};
 
 use crate::painted::script_of;
-use across::drawn_script;
 use crew_run::Shown;
 use demo_gen::script_of as generated_script;
 use desk_core::Desk;
@@ -13,6 +12,7 @@ use io_edge::NoGate;
 use live_run::{run_live, run_live_shown};
 use live_view::{LiveOpened, LiveReader, LiveWriter, Naming, open_live};
 use pixel_core::Pixel;
+use plain_painter::drawn_script;
 use script_text::Script;
 use std::alloc::Global;
 use std::marker::Brand;

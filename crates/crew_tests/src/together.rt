@@ -5,11 +5,11 @@ ghost use Rattle.turn_lock.specs.Passes.{fresh};
 
 use crate::compared::is_told;
 use crate::gates::Senders;
-use across::{drawn_script, plain_frames};
 use artists::{Drawn, paint_together};
 use doc_model::{Canvas, Command};
 use geom_core::NoMemory;
 use pixel_core::Pixel;
+use plain_painter::{drawn_script, plain_frames};
 use script_text::{Script, print, read};
 use std::alloc::Global;
 use std::process::Abort;

@@ -1,4 +1,9 @@
 //! A script for any number: six layers and forty strokes that follow the draws of a generator.
+//!
+//! # Decisions
+//!
+//! - The script is defined by the generator's state as a number below 2^64; each command is a function of the
+//!   state before it. That these commands are a script for every number is a clause of `script_of`.
 #![tactic(auto)]
 
 mod draws;

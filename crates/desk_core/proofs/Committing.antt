@@ -4,7 +4,7 @@ use Rattle.std.specs.Prelude.{slice_get}
 use Rattle.std.specs.List.{All, list_all}
 use Rattle.std.proofs.lemmas.List.{drop_all}
 use Rattle.geom_core.specs.Grid.{Key}
-use Rattle.geom_core.proofs.Tests.{and_left, and_right, both_true}
+use Rattle.geom_core.proofs.Tests.{and_left, and_right, both_true, add_one}
 use Rattle.doc_model.specs.Forest.{content}
 use Rattle.whole_tiles.specs.Wholes.{Entire}
 use Rattle.machine_model.specs.State as state
@@ -15,14 +15,14 @@ use Rattle.machine_model.specs.Step.{Step, PublishStep, Run}
 use Rattle.machine_model.specs.MeaningLaws.{is_feed}
 use Rattle.machine_model.proofs.Lists.{get_set}
 use Rattle.update_queue.proofs.Elements.{drop_here}
-use Rattle.desk_parts.specs.Settles.{Settles}
-use Rattle.desk_machine.specs.Commits.{MayCommit, TakesWhole, RunsFront, lacking_at, pair_events, row_events}
-use Rattle.desk_machine.specs.Sparing.{ArePrior, IsPrior, IsPriorAt}
-use Rattle.desk_work.proofs.Lackings.{all_at}
+use Rattle.desk_state.specs.Settles.{Settles}
+use Rattle.desk_events.specs.Commits.{MayCommit, TakesWhole, RunsFront, lacking_at, pair_events, row_events}
+use Rattle.desk_events.specs.Sparing.{ArePrior, IsPrior, IsPriorAt}
+use Rattle.slot_work.proofs.Lackings.{all_at}
 use Rattle.desk_core.specs.declared.answers.Published.{Published}
 use Rattle.desk_core.specs.declared.answers.Published.TheVariants as answers
 use Rattle.desk_core.specs.Commits.{Brings, Commits, commit_events}
-use Rattle.desk_parts.proofs.SettlingRuns.{run_then, settles_none}
+use Rattle.desk_state.proofs.SettlingRuns.{run_then, settles_none}
 
 -- ---- the events
 
@@ -38,9 +38,6 @@ all_events place (y ∷ tiles) = ap (λ es. Publish place y.key ∷ es) (all_eve
 fed_none : (place : ℕ) (tiles : List Entire) → list_all (λ e. not (is_feed e)) (commit_events place tiles) ≡ true
 fed_none place [] = refl
 fed_none place (y ∷ tiles) = fed_none place tiles
-
-add_one : (i : ℕ) → i + 1 ≡ suc i
-add_one i = omega arith
 
 -- one tile more
 pub next_run : (place : ℕ) (tiles : List Entire) (i : ℕ) (x : Entire) (a b c : State) → slice_get tiles i ≡ Some x → Run a (take i (commit_events place tiles)) b → Step b (Publish place x.key) c → Run a (take (i + 1) (commit_events place tiles)) c

@@ -11,7 +11,7 @@ use Rattle.doc_model.specs.Shots.{in_tile}
 use Rattle.doc_model.proofs.JobLaws.{laws_of_jobs}
 use Rattle.job_core.specs.Paints.{IsPainted, Paint, layer_of}
 use Rattle.machine_model.specs.State.{State}
-use Rattle.desk_parts.specs.Enabled.{Takes}
+use Rattle.desk_state.specs.Enabled.{Takes}
 use Rattle.desk_core.specs.Painted.{HasJobsValue}
 
 none_below : (k : ℕ) → k < 0 → ⊥

@@ -15,7 +15,7 @@ use Rattle.machine_model.specs.State.{Painter, Free, Paints, State}
 use Rattle.machine_model.specs.Event.{Publish, End}
 use Rattle.machine_model.specs.Step.{StartStep, Run}
 use Rattle.machine_model.proofs.Lists.{get_set}
-use Rattle.desk_machine.specs.SmallJobs.{PaintsSmall, StartsWithin, WritesWithin, small_events}
+use Rattle.desk_events.specs.SmallJobs.{PaintsSmall, StartsWithin, WritesWithin, small_events}
 use Rattle.desk_core.specs.Tracking.{Tracks}
 use Rattle.desk_core.proofs.Tracking.{start_tracks, then_tracks, canvas_key}
 

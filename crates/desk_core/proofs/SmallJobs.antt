@@ -6,9 +6,9 @@ use Rattle.geom_core.specs.Areas.{Area}
 use Rattle.geom_core.specs.Grid.{Key}
 use Rattle.machine_model.specs.State.{State}
 use Rattle.machine_model.specs.MeaningLaws.{is_feed}
-use Rattle.desk_parts.specs.Settles.{GoesOn, Settles}
-use Rattle.desk_parts.proofs.SettlingRuns.{settles_none}
-use Rattle.desk_machine.specs.SmallJobs.{PaintsSmall, small_events}
+use Rattle.desk_state.specs.Settles.{GoesOn, Settles}
+use Rattle.desk_state.proofs.SettlingRuns.{settles_none}
+use Rattle.desk_events.specs.SmallJobs.{PaintsSmall, small_events}
 
 none_fed : (place : ℕ) (key : Key) (n : ℕ) → list_all (λ e. not (is_feed e)) (small_events place key n) ≡ true
 none_fed place key zero = refl

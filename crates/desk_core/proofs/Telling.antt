@@ -14,8 +14,8 @@ use Rattle.machine_model.specs.Walks.{walk_values}
 use Rattle.walker_core.specs.declared.known.Known.{Known}
 use Rattle.walker_core.specs.Readings.{Readings, path_in}
 use Rattle.walker_core.specs.Knowing.{is_stale, IsKnown}
-use Rattle.desk_machine.specs.Commits.{RunsFront, pair_events}
-use Rattle.desk_machine.specs.OwnWork.{WalksOn, is_walk_publish}
+use Rattle.desk_events.specs.Commits.{RunsFront, pair_events}
+use Rattle.desk_events.specs.OwnWork.{WalksOn, is_walk_publish}
 use Rattle.desk_core.specs.Events.{is_quiet}
 use Rattle.desk_core.specs.UpToDate.{AreCached, cached_at}
 use Rattle.desk_core.specs.Tracking.{Tracks}

@@ -3,7 +3,7 @@ use Rattle.std.proofs.Common.{◌≡◌, ℕ, Bool, true, false, ◌||◌, cond,
 use Rattle.std.proofs.lemmas.Bool.Decides.{nat_tests}
 use Rattle.pixel_core.specs.Rgba.{Rgba, clear}
 use Rattle.geom_core.specs.Areas.{Area, holds, Point}
-use Rattle.geom_core.proofs.Tests.{or_cases, or_left, or_right}
+use Rattle.geom_core.proofs.Tests.{or_cases, or_left, or_right, equal_test}
 use Rattle.doc_model.specs.Layers.{at}
 use Rattle.doc_model.specs.Picture.{with_look}
 use Rattle.doc_model.specs.Forest.{children}
@@ -19,9 +19,6 @@ use Rattle.desk_core.specs.UpToDate.{AreCached, cached_at}
 -- the groups that have values
 abbrev pub keys_of_values : List (ℕ × Rgba) → List ℕ
 keys_of_values values = map (λ (v : ℕ × Rgba). v.0) values
-
-equal_test : (d : ℕ) → eqb d d ≡ true
-equal_test d = grind (arith, nat_tests)
 
 -- a child's value is its pixel, where the values are those of the caches and a group's pixels are its cache
 value_now : (cached : ℕ → Rgba) (rect : Area) (values : List (ℕ × Rgba)) (c : Child) (p : Point) → holds rect p ≡ true → AreCached cached values → (on c.id (keys_of_values values) ≡ true → cached c.id ≡ at c.pixels p)

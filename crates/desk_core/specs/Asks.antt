@@ -2,8 +2,8 @@
 use Rattle.std.specs.Prelude.{◌≡◌, true}
 use Rattle.machine_model.specs.State.{State}
 use Rattle.machine_model.specs.Event.{Event}
-use Rattle.desk_parts.specs.Choices.{of_head}
-use Rattle.desk_parts.specs.Enabled.{Enabled}
+use Rattle.desk_state.specs.Choices.{of_head}
+use Rattle.desk_state.specs.Enabled.{Enabled}
 
 -- an event of the entry at the head may happen
 abbrev pub HeadMayGo : State → Type 0

@@ -6,7 +6,7 @@ use Rattle.walker_core.specs.Composing.{Composition}
 use Rattle.machine_model.specs.State.{State}
 use Rattle.machine_model.specs.Event.{Event, Publish, End}
 use Rattle.machine_model.specs.Step.{Run}
-use Rattle.desk_machine.specs.Commits.{MayCommit, MayPublishRow, RunsFront, row_events}
+use Rattle.desk_events.specs.Commits.{MayCommit, MayPublishRow, RunsFront, row_events}
 use Rattle.desk_core.specs.declared.answers.Published.{Published}
 use Rattle.desk_core.specs.declared.answers.Published.TheVariants as answers
 

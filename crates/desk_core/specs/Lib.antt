@@ -1,8 +1,10 @@
 pub mod Commits
 pub mod Asks
+pub mod Taking
 pub mod Painted
 pub mod UpToDate
 pub mod Calm
 pub mod Tracking
 pub mod Events
 pub mod Shown
+pub mod Spreading

@@ -1,12 +1,11 @@
 //! What a crew asks before it feeds and takes.
 
-ghost use Rattle.std.specs.Prelude.{◌≡◌};
-ghost use Rattle.desk_parts.specs.Choices.{Tells};
-ghost use Rattle.desk_machine.specs.Asks.{wants_commands};
+ghost use Rattle.std.specs.Prelude.{◌≡◌, ◌↔◌, IsTrue};
+ghost use Rattle.desk_events.specs.Asks.{wants_commands};
 ghost use Rattle.desk_core.specs.Asks.{HeadMayGo};
 
 use crate::desk::Desk;
-use desk_parts::Choice;
+use desk_state::Choice;
 
 impl Desk {
     /// Whether a further command may be of use at once: each entry has its outcome, or the stroke at the
@@ -20,7 +19,7 @@ impl Desk {
     /// Whether an event of the entry at the head may happen, as `take` then makes one. Where none may, the
     /// head waits for what is at work, for what is to be composed, or for commands. No memory.
     pub fn head_may_go(&self) -> bool
-        ensures { Tells result (HeadMayGo self.now) }
+        ensures { IsTrue result ↔ HeadMayGo self.now }
     {
         match self.machine.choice() {
             Choice::Finish => true,

@@ -6,16 +6,18 @@ ghost use Rattle.geom_core.specs.Grid.{key_of};
 ghost use Rattle.tile_core.specs.Marks.{on_canvas};
 ghost use Rattle.tile_core.specs.Damage.{is_damaged};
 ghost use Rattle.desk_core.specs.Calm.{IsRenewed};
+ghost use Rattle.desk_core.specs.Spreading.{Forgets};
 ghost use Rattle.desk_core.specs.UpToDate.{IsStill};
 
 use crate::spread::Spread;
-use desk_machine::Machine;
+use desk_events::Machine;
 use doc_model::Walk;
 use geom_core::Rect;
 
 /// All is damaged, or nothing where nothing is at work and nothing waits to be composed.
 pub(crate) fn begin_anew(machine: &Machine, damage: &mut Spread)
-    ensures { (p : Point) → on_canvas (key_of p) ≡ true → is_damaged damage.new p ≡ false → IsStill machine.now }
+    ensures { (p : Point) → on_canvas (key_of p) ≡ true → is_damaged damage.new p ≡ false
+        → IsStill machine.now }
 {
     if machine.is_resting() {
         damage.clear();
@@ -26,7 +28,8 @@ pub(crate) fn begin_anew(machine: &Machine, damage: &mut Spread)
 
 /// Where nothing is at work and nothing waits to be composed, nothing is damaged any more.
 pub(crate) fn forget(machine: &Machine, damage: &mut Spread)
-    ensures { (p : Point) → is_damaged damage.new p ≡ false → (is_damaged damage.old p ≡ false) ⊎ IsStill machine.now }
+    ensures { (p : Point) → is_damaged damage.new p ≡ false
+        → (is_damaged damage.old p ≡ false) ⊎ IsStill machine.now }
 {
     if machine.is_resting() {
         damage.clear();
@@ -47,7 +50,8 @@ pub(crate) fn renewed(machine: &Machine, calm: bool, place: u8) -> Option<Rect>
 /// In a rectangle, if there is one, nothing on the canvas is damaged any more, but where a tile has a
 /// damaged part that goes beyond it.
 pub(crate) fn forget_in(canvas: &Rect, damage: &mut Spread, renewed: &Option<Rect>)
-    ensures { (p : Point) → holds canvas.now p ≡ true → on_canvas (key_of p) ≡ true → is_damaged damage.new p ≡ false → (is_damaged damage.old p ≡ false) ⊎ (IsSomeAnd renewed.now (λ a. holds a p ≡ true)) }
+    ensures { Forgets canvas.now (λ p. IsSomeAnd renewed.now (λ a. holds a p ≡ true))
+        damage.old damage.new }
 {
     if let Some(rect) = renewed {
         damage.clear_in(canvas, rect);

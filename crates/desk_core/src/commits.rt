@@ -1,22 +1,31 @@
 //! Jobs that were painted outside come to the desk whole.
 
-ghost use Rattle.std.specs.Prelude.{◌≡◌, ℕ, Some, OnOk, OnErr, []};
+ghost use Rattle.std.specs.Prelude.{◌≡◌, ◌↔◌, ℕ, IsTrue, Some, OnOk, OnErr, []};
 ghost use Rattle.machine_model.specs.State.{State};
 ghost use Rattle.machine_model.specs.Event.{Publish, End};
 ghost use Rattle.machine_model.specs.Sound.{IsSound};
 ghost use Rattle.machine_model.specs.Step.{Step, Run};
-ghost use Rattle.desk_parts.specs.Settles.{Settles};
-ghost use Rattle.desk_machine.specs.Commits.{AreOfWork, MayCommit, RunsFront, TakesWhole};
-ghost use Rattle.desk_machine.specs.Sparing.{ArePrior, IsPriorAt};
+ghost use Rattle.desk_state.specs.Settles.{Settles};
+ghost use Rattle.desk_events.specs.AtWork.{HasPublished};
+ghost use Rattle.desk_events.specs.Commits.{AreOfWork, MayCommit, RunsFront, TakesWhole};
+ghost use Rattle.desk_events.specs.Sparing.{ArePrior, IsPriorAt};
 ghost use Rattle.desk_core.specs.Commits.{Commits, commit_events};
 
 use crate::answers::Published;
 use crate::desk::Desk;
-use desk_machine::SlotId;
-use geom_core::NoMemory;
+use desk_events::SlotId;
+use geom_core::{NoMemory, TileKey};
 use whole_tiles::Whole;
 
 impl Desk {
+    /// Whether the job with that serial is at work in the slot, and has published the tile: after want of memory
+    /// `commit` takes just the others. No memory.
+    pub fn has_published(&self, slot: SlotId, key: TileKey) -> bool
+        ensures { IsTrue result ↔ HasPublished self.now slot.place slot.serial key }
+    {
+        self.machine.has_published(slot, key)
+    }
+
     /// Publishes all tiles that the job in a slot lacks, and ends it. The tiles were made whole, by any
     /// threads, and stand in any order; where the layer has still the pixels that a tile was made from, no
     /// pixel is copied. `Nothing` exactly where the slot hasn't that work, the tiles aren't just those that
@@ -74,7 +83,8 @@ impl Desk {
         tiles: &[Whole],
     ) -> Result<Published, NoMemory>
         requires of { AreOfWork self.old slot.place slot.serial tiles.now }
-        requires prior { (n : ℕ) → since ≡ Some n → ArePrior self.old slot.place slot.serial n tiles.now }
+        requires prior { (n : ℕ) → since ≡ Some n
+            → ArePrior self.old slot.place slot.serial n tiles.now }
         ensures { Commits self.old slot.place slot.serial tiles.now result self.new }
     {
         let commits = self.machine.may_commit(slot, tiles)?;
@@ -95,9 +105,11 @@ impl Desk {
         tiles: &[Whole],
     ) -> Result<(), NoMemory>
         requires commits { MayCommit self.old slot.place slot.serial tiles.now }
-        requires prior { (n : ℕ) → since ≡ Some n → ArePrior self.old slot.place slot.serial n tiles.now }
+        requires prior { (n : ℕ) → since ≡ Some n
+            → ArePrior self.old slot.place slot.serial n tiles.now }
         ensures front { RunsFront self.old (commit_events slot.place tiles.now) self.new }
-        ensures all { (new : State) → OnOk result (Step self.new (End slot.place) new → Run self.old (commit_events slot.place tiles.now) new) }
+        ensures all { (new : State) → OnOk result (Step self.new (End slot.place) new
+            → Run self.old (commit_events slot.place tiles.now) new) }
         ensures ends { OnOk result (MayCommit self.new slot.place slot.serial []) }
     {
         for whole in tiles {

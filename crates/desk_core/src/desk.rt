@@ -4,20 +4,21 @@ ghost use Rattle.std.specs.Prelude.{◌≡◌, ◌≤◌, ◌<◌, ◌-◌, ◌^
 ghost use Rattle.doc_model.specs.Canvases.{IsOfLimits};
 ghost use Rattle.doc_model.specs.Lawful.{may_follow};
 ghost use Rattle.doc_model.specs.Strokes.{entries};
+ghost use Rattle.command_log.specs.Misfits.{jobs_misfit, misfit_of};
 ghost use Rattle.machine_model.specs.State.{new_state};
 ghost use Rattle.machine_model.specs.SoundnessLaws.{IsNew};
 ghost use Rattle.machine_model.specs.Event.{Feed, Publish};
 ghost use Rattle.machine_model.specs.Step.{Step};
 ghost use Rattle.desk_core.specs.declared.answers.Published.TheVariants as answers;
 ghost use Rattle.desk_core.specs.declared.answers.Ended.TheVariants as ended;
-ghost use Rattle.desk_parts.specs.Enabled.{Takes, IsEnd, MayEnd};
+ghost use Rattle.desk_state.specs.Enabled.{Takes, IsEnd, MayEnd};
 ghost use Rattle.desk_core.specs.Painted.{HasJobsValue};
 
 use crate::answers::{Ended, Published};
 use crate::changes::begin_anew;
 use crate::spread::Spread;
-use command_log::Commands;
-use desk_machine::{Machine, SlotId};
+use command_log::{Commands, Misfit};
+use desk_events::{Machine, SlotId};
 use doc_model::{Canvas, Command};
 use geom_core::NoMemory;
 use job_core::Painted;
@@ -117,6 +118,22 @@ impl Desk {
         self.machine.lawful(command)
     }
 
+    /// Why the command may not follow those that were fed, its job's own limits aside. None exactly where it
+    /// may, or its job's limits alone forbid it. One look-up, no memory.
+    pub fn misfit(&self, command: &Command) -> Option<Misfit>
+        ensures { result ≡ misfit_of (entries self.now.fed) command.now }
+    {
+        self.machine.misfit(command)
+    }
+
+    /// Why so many jobs can't be fed to the stroke with that number, their own limits aside. None exactly where
+    /// they can. One look-up, no memory.
+    pub fn jobs_misfit(&self, stroke: u32, count: usize) -> Option<Misfit>
+        ensures { result ≡ jobs_misfit (entries self.now.fed) stroke count }
+    {
+        self.machine.jobs_misfit(stroke, count)
+    }
+
     /// Lays a tile that was painted of the job in a slot on the layer of the stroke under way. `Nothing`
     /// exactly where the slot hasn't that work, the job doesn't write in the tile or has published it, or it
     /// was painted of another job or from other pixels.
@@ -124,11 +141,14 @@ impl Desk {
     /// # Errors
     /// `NoMemory`; all is as it was.
     pub fn publish(&mut self, slot: SlotId, painted: &Painted<'_>) -> Result<Published, NoMemory>
-        ensures taken { result ≡ Ok answers.Stored → Takes self.old slot.place slot.serial painted.now }
-        ensures stored { result ≡ Ok answers.Stored → Step self.old (Publish slot.place painted.now.key) self.new }
+        ensures taken { result ≡ Ok answers.Stored
+            → Takes self.old slot.place slot.serial painted.now }
+        ensures stored { result ≡ Ok answers.Stored
+            → Step self.old (Publish slot.place painted.now.key) self.new }
         ensures value { result ≡ Ok answers.Stored → HasJobsValue self.old slot.place painted.now }
         ensures nothing { result ≡ Ok answers.Nothing → self.new ≡ self.old }
-        ensures refused { result ≡ Ok answers.Nothing → Takes self.old slot.place slot.serial painted.now → ⊥ }
+        ensures refused { result ≡ Ok answers.Nothing
+            → Takes self.old slot.place slot.serial painted.now → ⊥ }
         ensures err { OnErr result (self.new ≡ self.old) }
     {
         if !self.machine.takes(slot, painted) {

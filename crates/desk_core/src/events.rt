@@ -5,15 +5,15 @@ ghost use Rattle.machine_model.specs.Event.{Act, Cancel, Start, WalkEnd, WalkSta
 ghost use Rattle.machine_model.specs.State.{head};
 ghost use Rattle.machine_model.specs.Step.{Step};
 ghost use Rattle.machine_model.specs.UnderWay.{IsOnWay};
-ghost use Rattle.desk_parts.specs.Choices.{CanWalk, takes_memory};
-ghost use Rattle.desk_parts.specs.Counting.{steps_of};
-ghost use Rattle.desk_parts.specs.Enabled.{Enabled};
-ghost use Rattle.desk_machine.specs.Tickets.{IsPaintTicket, IsWalkTicket};
+ghost use Rattle.desk_state.specs.Choices.{CanWalk, takes_memory};
+ghost use Rattle.desk_state.specs.Counting.{steps_of};
+ghost use Rattle.desk_state.specs.Enabled.{Enabled};
+ghost use Rattle.desk_events.specs.Tickets.{IsPaintTicket, IsWalkTicket};
 
 use crate::changes::{begin_anew, forget, forget_in, renewed};
 use crate::desk::Desk;
 use crate::known::known_of;
-use desk_machine::{PaintTicket, WalkTicket};
+use desk_events::{PaintTicket, WalkTicket};
 use geom_core::NoMemory;
 use memento_core::Steps;
 use std::sync::ledger::Ledger;
@@ -74,7 +74,8 @@ impl Desk {
     /// `NoMemory`; all is as it was.
     pub(crate) fn start_walk(&mut self, place: u8) -> Result<WalkTicket, NoMemory>
         requires { CanWalk self.old place }
-        ensures ok { IfOk result (λ t. Step self.old (WalkStart t.slot.place t.inputs.patch) self.new) }
+        ensures ok { IfOk result (λ t.
+            Step self.old (WalkStart t.slot.place t.inputs.patch) self.new) }
         ensures ticket { IfOk result (λ t. IsWalkTicket t self.new) }
         ensures err { OnErr result (self.new ≡ self.old) }
     {

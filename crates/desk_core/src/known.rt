@@ -2,12 +2,10 @@
 
 ghost use Rattle.std.specs.Prelude.{◌≡◌, true, IfOk};
 ghost use Rattle.geom_core.specs.Areas.{holds, Point};
-ghost use Rattle.tile_core.specs.Damage.{is_damaged};
 ghost use Rattle.tile_core.specs.Shots.{sight_at};
-ghost use Rattle.walker_core.specs.Knowing.{is_stale};
 ghost use Rattle.walker_core.specs.Readings.{path_in};
 ghost use Rattle.desk_core.specs.UpToDate.{cached_at};
-ghost use Rattle.desk_core.specs.Shown.{ShowCaches};
+ghost use Rattle.desk_core.specs.Shown.{ShowCachesOn, TellDamage};
 
 use crate::spread::Spread;
 use geom_core::{NoMemory, Rect};
@@ -27,8 +25,10 @@ pub(crate) fn known_of(
     caches: &Caches,
     damage: &Spread,
 ) -> Result<Known, NoMemory>
-    ensures shots { IfOk result (λ k. (p : Point) → holds inputs.now.patch.rect p ≡ true → ShowCaches caches.now (path_in inputs.now) k.shots.items p) }
-    ensures damaged { IfOk result (λ k. (p : Point) → holds inputs.now.patch.rect p ≡ true → is_stale k.damaged.items p ≡ is_damaged damage.now p) }
+    ensures shots { IfOk result (λ k.
+        ShowCachesOn inputs.now.patch.rect caches.now (path_in inputs.now) k.shots.items) }
+    ensures damaged { IfOk result (λ k.
+        TellDamage inputs.now.patch.rect damage.now k.damaged.items) }
 {
     let rect = inputs.patch().rect;
     let shots = shots_of(alloc, inputs.path(), caches, &rect)?;
@@ -43,7 +43,7 @@ fn shots_of(
     caches: &Caches,
     rect: &Rect,
 ) -> Result<Vec<Shot>, NoMemory>
-    ensures { IfOk result (λ shots. (p : Point) → holds rect.now p ≡ true → ShowCaches caches.now groups.now shots.items p) }
+    ensures { IfOk result (λ shots. ShowCachesOn rect.now caches.now groups.now shots.items) }
 {
     let mut shots = Vec::with_capacity(alloc, groups.len())?;
     for group in groups {
@@ -54,7 +54,8 @@ fn shots_of(
 
 /// The cache of a group on a rectangle.
 fn shot_of(alloc: Global, group: u16, caches: &Caches, rect: &Rect) -> Result<Shot, NoMemory>
-    ensures { IfOk result (λ s. (p : Point) → holds rect.now p ≡ true → sight_at s p ≡ cached_at caches.now p group) }
+    ensures { IfOk result (λ s. (p : Point) → holds rect.now p ≡ true
+        → sight_at s p ≡ cached_at caches.now p group) }
 {
     match caches.device(group) {
         Some(device) => device.grab(alloc, slice::from_ref(rect)),
@@ -67,7 +68,7 @@ fn shot_of(alloc: Global, group: u16, caches: &Caches, rect: &Rect) -> Result<Sh
 
 /// The damaged parts of the tiles that a rectangle meets.
 fn damaged_on(alloc: Global, damage: &Spread, rect: &Rect) -> Result<Vec<Damaged>, NoMemory>
-    ensures { IfOk result (λ parts. (p : Point) → holds rect.now p ≡ true → is_stale parts.items p ≡ is_damaged damage.now p) }
+    ensures { IfOk result (λ parts. TellDamage rect.now damage.now parts.items) }
 {
     let mut parts = Vec::new(alloc);
     for i in 0..rect.tile_count() {

@@ -2,7 +2,7 @@
 
 ghost use Rattle.machine_model.specs.MeaningLaws.{HasMeaning};
 ghost use Rattle.machine_model.specs.Settled.{IsSettled};
-ghost use Rattle.desk_machine.specs.Shown.{ShowsPicture};
+ghost use Rattle.desk_events.specs.Shown.{ShowsPicture};
 
 use crate::desk::Desk;
 
@@ -10,12 +10,12 @@ use crate::desk::Desk;
 pub fn settled_has_meaning(desk: &Desk)
     ensures { IsSettled desk.now → HasMeaning desk.now }
 {
-    desk_machine::settled_has_meaning(&desk.machine);
+    desk_events::settled_has_meaning(&desk.machine);
 }
 
 /// Its root's cache is the picture of the document that these make, at each point of the canvas.
 pub fn settled_shows_picture(desk: &Desk)
     ensures { IsSettled desk.now → ShowsPicture desk.now }
 {
-    desk_machine::settled_shows_picture(&desk.machine);
+    desk_events::settled_shows_picture(&desk.machine);
 }

@@ -1,23 +1,23 @@
 //! What a desk shows.
 
-ghost use Rattle.std.specs.Prelude.{All, ◌≡◌, ◌<◌, pos, true, false, Some, length, map, IfSome, IfNone, slice_get};
-ghost use Rattle.pixel_core.specs.Rgba.{clear};
-ghost use Rattle.geom_core.specs.Areas.{Point, point};
-ghost use Rattle.tile_core.specs.Pixels.{pixel_at};
+ghost use Rattle.std.specs.Prelude.{All, ◌≡◌, ◌↔◌, ◌<◌, IsTrue, pos, Some, length, map, IfOk, IfSome, IfNone, slice_get};
+ghost use Rattle.geom_core.specs.Areas.{point};
 ghost use Rattle.doc_model.specs.Layers.{at};
-ghost use Rattle.doc_model.specs.Shots.{in_tile};
 ghost use Rattle.doc_model.specs.Picture.{picture};
-ghost use Rattle.ppm_out.specs.Scenes.{colours_of};
-ghost use Rattle.ppm_out.specs.Sides.{HasSides};
+ghost use Rattle.tile_core.specs.Scenes.{HasSides, colours_of};
 ghost use Rattle.machine_model.specs.Groups.{cache};
 ghost use Rattle.machine_model.specs.Covers.{covered};
+ghost use Rattle.desk_state.specs.Cached.{ShowsCache};
+ghost use Rattle.slot_work.specs.Round.{IsRound};
+ghost use Rattle.desk_events.specs.Shown.{IsRootTile, RootIsClear, ShowsWhereClean};
 ghost use Rattle.desk_core.specs.declared.answers.Fresh.TheVariants as fresh;
 
 use crate::answers::Fresh;
 use crate::desk::Desk;
 use doc_model::{Canvas, Command, Outcome};
-use geom_core::TileKey;
+use geom_core::{NoMemory, Rect, TileKey};
 use pixel_core::Pixel;
+use std::alloc::Global;
 use tile_core::{Film, Frame, Tile};
 
 impl Desk {
@@ -28,9 +28,10 @@ impl Desk {
         requires column { x < self.now.canvas.w }
         requires row { y < self.now.canvas.h }
         ensures pixel { result.0 ≡ at (cache self.now.caches 0) (point (pos x) (pos y)) }
-        ensures dirty { result.1 ≡ fresh.Dirty → covered self.now 0 (point (pos x) (pos y)) ≡ true }
-        ensures clean { result.1 ≡ fresh.Clean → covered self.now 0 (point (pos x) (pos y)) ≡ false }
-        ensures picture { result.1 ≡ fresh.Clean → result.0 ≡ picture self.now.present (point (pos x) (pos y)) }
+        ensures dirty { (result.1 ≡ fresh.Dirty)
+            ↔ IsTrue (covered self.now 0 (point (pos x) (pos y))) }
+        ensures picture { result.1 ≡ fresh.Clean
+            → result.0 ≡ picture self.now.present (point (pos x) (pos y)) }
     {
         let pixel = self.machine.root_pixel(x, y);
         if self.machine.is_covered(i32::from(x), i32::from(y)) {
@@ -40,10 +41,31 @@ impl Desk {
         }
     }
 
+    /// The least rectangle round the points of this one at which something that waits or is at work will compose
+    /// the root anew. None exactly where there is no such point. All other points of it on the canvas have the
+    /// picture's pixel. No memory.
+    pub fn dirty_in(&self, rect: &Rect) -> Option<Rect>
+        ensures round { IsRound rect.now (covered self.now 0) result }
+        ensures picture { ShowsWhereClean self.now }
+    {
+        self.machine.dirty_in(rect)
+    }
+
+    /// The root's cache as a frame on the canvas's paper, as an export would take it now, and which isn't kept.
+    /// Tiles are shared.
+    ///
+    /// # Errors
+    /// `NoMemory`.
+    pub fn root_frame(&self, alloc: Global) -> Result<Frame, NoMemory>
+        ensures { IfOk result (ShowsCache self.now.caches self.now.canvas) }
+    {
+        self.machine.root_frame(alloc)
+    }
+
     /// The tile of the root's cache under a key. None only where the root's cache is clear on that tile.
     pub fn root_tile(&self, key: TileKey) -> Option<&Tile>
-        ensures some { IfSome result (λ t. (p : Point) → in_tile key p ≡ true → pixel_at t.now p ≡ at (cache self.now.caches 0) p) }
-        ensures none { IfNone result ((p : Point) → in_tile key p ≡ true → at (cache self.now.caches 0) p ≡ clear) }
+        ensures some { IfSome result (λ t. IsRootTile self.now key t.now) }
+        ensures none { IfNone result (RootIsClear self.now key) }
     {
         self.machine.root_tile(key)
     }
@@ -51,7 +73,7 @@ impl Desk {
     /// The frames, one for each export so far. Each has the canvas's sides.
     pub fn frames(&self) -> &[Frame]
         ensures colours { map colours_of result.now ≡ self.now.frames }
-        ensures sides { All (HasSides self.now.canvas) result.now }
+        ensures sides { All (HasSides self.now.canvas.w self.now.canvas.h) result.now }
     {
         self.machine.frames()
     }
@@ -67,7 +89,7 @@ impl Desk {
     pub fn frame(&self, i: usize) -> &Frame
         requires { i < length self.now.frames }
         ensures colours { slice_get self.now.frames i ≡ Some (colours_of result.now) }
-        ensures sides { HasSides self.now.canvas result.now }
+        ensures sides { HasSides self.now.canvas.w self.now.canvas.h result.now }
     {
         &self.frames()[i]
     }
@@ -76,7 +98,7 @@ impl Desk {
     /// may differ from the frame before.
     pub fn into_results(self) -> (Film, Vec<Outcome>)
         ensures frames { map colours_of result.0 ≡ self.frames }
-        ensures sides { All (HasSides self.canvas) result.0 }
+        ensures sides { All (HasSides self.canvas.w self.canvas.h) result.0 }
         ensures outcomes { result.1.items ≡ self.outcomes }
     {
         let Desk { machine, .. } = self;

@@ -1,6 +1,6 @@
 //! Settling a desk on one thread.
 
-ghost use Rattle.std.specs.Prelude.{◌≡◌, true, false, slice_get, Ok, IsSomeAnd, OnOk, OnErr};
+ghost use Rattle.std.specs.Prelude.{◌≡◌, true, false, Ok, OnOk, OnErr};
 ghost use Rattle.std.specs.List.{list_all};
 ghost use Rattle.doc_model.specs.Feeding.{is_closed_entry};
 ghost use Rattle.doc_model.specs.Strokes.{entries};
@@ -8,16 +8,26 @@ ghost use Rattle.machine_model.specs.State.{is_free};
 ghost use Rattle.machine_model.specs.Settled.{IsSettled};
 ghost use Rattle.machine_model.specs.Sound.{IsOrderly};
 ghost use Rattle.machine_model.specs.MeaningLaws.{HasMeaning};
-ghost use Rattle.desk_parts.specs.Settles.{Settles, GoesOn};
+ghost use Rattle.desk_state.specs.Settles.{Settles, GoesOn};
+ghost use Rattle.desk_events.specs.OwnWork.{IsBusy};
+ghost use Rattle.desk_core.specs.Taking.{StaysSettled};
 
 use crate::desk::Desk;
 use crate::tickets::Taken;
-use desk_machine::Lack;
+use desk_events::Lack;
 use geom_core::NoMemory;
 use memento_core::Steps;
 use std::sync::ledger::Ledger;
 
 impl Desk {
+    /// Whether all strokes that were fed are closed, which `settle` asks. No memory, and a look-up for each entry
+    /// without outcome.
+    pub fn all_closed(&self) -> bool
+        ensures { result ≡ list_all is_closed_entry (entries self.now.fed) }
+    {
+        self.machine.all_closed()
+    }
+
     /// Makes the events that may happen, one after another, until every entry has its outcome and nothing
     /// is at work or waits. Work whose ticket is held elsewhere is done here too. Afterwards the desk
     /// shows what the commands that were fed mean.
@@ -44,7 +54,7 @@ impl Desk {
     fn go_on<L: Ledger>(&mut self, steps: &mut Steps<L>) -> Result<bool, NoMemory>
         requires { list_all is_closed_entry (entries self.old.fed) ≡ true }
         ensures on { result ≡ Ok true → GoesOn self.old self.new }
-        ensures settled { result ≡ Ok false → IsSettled self.old × (self.new ≡ self.old) }
+        ensures settled { result ≡ Ok false → StaysSettled self.old self.new }
         ensures err { OnErr result (Settles self.old self.new) }
         ensures known { IsOrderly self.old }
     {
@@ -64,7 +74,7 @@ impl Desk {
         requires closed { list_all is_closed_entry (entries self.old.fed) ≡ true }
         requires known { IsOrderly self.old }
         ensures on { result ≡ Ok true → GoesOn self.old self.new }
-        ensures settled { result ≡ Ok false → IsSettled self.old × (self.new ≡ self.old) }
+        ensures settled { result ≡ Ok false → StaysSettled self.old self.new }
         ensures err { OnErr result (self.new ≡ self.old) }
     {
         match self.paint_small()? {
@@ -79,7 +89,7 @@ impl Desk {
         requires closed { list_all is_closed_entry (entries self.old.fed) ≡ true }
         requires known { IsOrderly self.old }
         ensures on { result ≡ Ok true → GoesOn self.old self.new }
-        ensures settled { result ≡ Ok false → IsSettled self.old × (self.new ≡ self.old) }
+        ensures settled { result ≡ Ok false → StaysSettled self.old self.new }
         ensures err { OnErr result (self.new ≡ self.old) }
     {
         match self.take(steps)? {
@@ -93,7 +103,7 @@ impl Desk {
 
     /// Publishes one more tile of the work in a slot, or ends it where all are published.
     fn do_own(&mut self, place: u8) -> Result<(), NoMemory>
-        requires { IsSomeAnd (slice_get self.old.slots place) (λ slot. is_free slot ≡ false) }
+        requires { IsBusy self.old place }
         ensures ok { OnOk result (GoesOn self.old self.new) }
         ensures err { OnErr result (Settles self.old self.new) }
     {

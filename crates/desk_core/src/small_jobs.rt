@@ -1,8 +1,8 @@
 //! Small jobs, painted without tickets.
 
 ghost use Rattle.std.specs.Prelude.{◌≡◌, Ok, None, IfOk, IfSome, OnErr};
-ghost use Rattle.desk_machine.specs.SmallJobs.{PaintsSmall};
-ghost use Rattle.desk_parts.specs.Settles.{Settles};
+ghost use Rattle.desk_events.specs.SmallJobs.{PaintsSmall};
+ghost use Rattle.desk_state.specs.Settles.{Settles};
 
 use crate::desk::Desk;
 use geom_core::{NoMemory, Rect};

@@ -1,11 +1,12 @@
 //! Damage that is often all there can be.
 
-ghost use Rattle.std.specs.Prelude.{◌≡◌, ◌⊎◌, true, false, IfSome};
+ghost use Rattle.std.specs.Prelude.{◌≡◌, true, IfSome};
 ghost use Rattle.geom_core.specs.Areas.{holds, Point};
 ghost use Rattle.geom_core.specs.Grid.{key_of, tile};
-ghost use Rattle.geom_core.specs.Rects.{any_holds, IsWithin};
+ghost use Rattle.geom_core.specs.Rects.{IsWithin};
 ghost use Rattle.tile_core.specs.Marks.{on_canvas};
 ghost use Rattle.tile_core.specs.Damage.{intact, is_damaged, part_at};
+ghost use Rattle.desk_core.specs.Spreading.{Damages, Forgets};
 
 use geom_core::{Rect, TileKey};
 use std::marker::Model;
@@ -52,7 +53,7 @@ impl Spread {
 
     /// The points of the rectangles are damaged too.
     pub(crate) fn add_all(&mut self, rects: &[Rect])
-        ensures { (p : Point) → on_canvas (key_of p) ≡ true → is_damaged self.new p ≡ false → (is_damaged self.old p ≡ false) × (any_holds rects.now p ≡ false) }
+        ensures { Damages self.old rects.now self.new }
     {
         if !self.is_all {
             damage_all(&mut self.parts, rects);
@@ -81,7 +82,7 @@ impl Spread {
     /// In the rectangle nothing on the canvas is damaged any more, but where a tile has a damaged part
     /// that goes beyond it.
     pub(crate) fn clear_in(&mut self, canvas: &Rect, rect: &Rect)
-        ensures { (p : Point) → holds canvas.now p ≡ true → on_canvas (key_of p) ≡ true → is_damaged self.new p ≡ false → (is_damaged self.old p ≡ false) ⊎ (holds rect.now p ≡ true) }
+        ensures { Forgets canvas.now (λ p. holds rect.now p ≡ true) self.old self.new }
     {
         *self = Spread {
             parts: damage_beyond(canvas, &self.parts, rect),
@@ -92,7 +93,7 @@ impl Spread {
 
 /// The points of the rectangles are damaged too.
 fn damage_all(damage: &mut Damage, rects: &[Rect])
-    ensures { (p : Point) → on_canvas (key_of p) ≡ true → is_damaged damage.new p ≡ false → (is_damaged damage.old p ≡ false) × (any_holds rects.now p ≡ false) }
+    ensures { Damages damage.old rects.now damage.new }
 {
     for rect in rects {
         damage.add(rect);
@@ -101,7 +102,7 @@ fn damage_all(damage: &mut Damage, rects: &[Rect])
 
 /// The damaged parts that go beyond a rectangle, on the tiles of the canvas.
 fn damage_beyond(canvas: &Rect, damage: &Damage, rect: &Rect) -> Damage
-    ensures { (p : Point) → holds canvas.now p ≡ true → on_canvas (key_of p) ≡ true → is_damaged result p ≡ false → (is_damaged damage.now p ≡ false) ⊎ (holds rect.now p ≡ true) }
+    ensures { Forgets canvas.now (λ p. holds rect.now p ≡ true) damage.now result }
 {
     let mut left = Damage::none();
     for i in 0..canvas.tile_count() {

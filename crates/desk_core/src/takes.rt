@@ -1,21 +1,16 @@
 //! The next event.
 
-ghost use Rattle.std.specs.Prelude.{◌≡◌, true, Ok, OnErr};
-ghost use Rattle.std.specs.List.{list_all};
-ghost use Rattle.machine_model.specs.MeaningLaws.{waits_for_commands};
-ghost use Rattle.machine_model.specs.State.{is_free};
-ghost use Rattle.machine_model.specs.Settled.{IsSettled};
-ghost use Rattle.machine_model.specs.Event.{Start, WalkStart};
-ghost use Rattle.machine_model.specs.Step.{Step};
-ghost use Rattle.desk_machine.specs.declared.tickets.PaintTicket.{PaintTicket};
-ghost use Rattle.desk_machine.specs.declared.tickets.WalkTicket.{WalkTicket};
+ghost use Rattle.std.specs.Prelude.{◌≡◌, Ok, OnErr};
+ghost use Rattle.desk_events.specs.declared.tickets.PaintTicket.{PaintTicket};
+ghost use Rattle.desk_events.specs.declared.tickets.WalkTicket.{WalkTicket};
 ghost use Rattle.desk_core.specs.declared.tickets.Taken.TheVariants as taken;
-ghost use Rattle.desk_machine.specs.Tickets.{IsPaintTicket, IsWalkTicket};
-ghost use Rattle.desk_parts.specs.Choices.{IsIdle, MayWant, HeadWaits, DoesAtOnce};
+ghost use Rattle.desk_events.specs.Tickets.{StartsJob, StartsWalk};
+ghost use Rattle.desk_state.specs.Choices.{MayWant, HeadWaits, DoesAtOnce};
+ghost use Rattle.desk_core.specs.Taking.{StaysIdle, StaysSettled, WaitsIfFree};
 
 use crate::desk::Desk;
 use crate::tickets::Taken;
-use desk_parts::Choice;
+use desk_state::Choice;
 use geom_core::NoMemory;
 use memento_core::Steps;
 use std::sync::ledger::Ledger;
@@ -30,13 +25,15 @@ impl Desk {
     /// take none; all is as it was.
     pub fn take<L: Ledger>(&mut self, steps: &mut Steps<L>) -> Result<Taken, NoMemory>
         // What each answer tells. A walk is started last.
-        ensures paint { (t : PaintTicket) → result ≡ Ok (taken.Paint t) → Step self.old (Start t.slot.place) self.new × IsPaintTicket t self.new }
-        ensures walk { (t : WalkTicket) → result ≡ Ok (taken.Walk t) → Step self.old (WalkStart t.slot.place t.inputs.patch) self.new × IsWalkTicket t self.new }
+        ensures paint { (t : PaintTicket) → result ≡ Ok (taken.Paint t)
+            → StartsJob self.old t self.new }
+        ensures walk { (t : WalkTicket) → result ≡ Ok (taken.Walk t)
+            → StartsWalk self.old t self.new }
         ensures last { (t : WalkTicket) → result ≡ Ok (taken.Walk t) → HeadWaits self.old }
         ensures did { result ≡ Ok taken.Did → DoesAtOnce self.old self.new steps.old steps.new }
-        ensures idle { result ≡ Ok taken.Idle → IsIdle self.old × (self.new ≡ self.old) }
-        ensures stuck { result ≡ Ok taken.Idle → list_all is_free self.old.slots ≡ true → waits_for_commands self.old ≡ true }
-        ensures settled { result ≡ Ok taken.Settled → IsSettled self.old × (self.new ≡ self.old) }
+        ensures idle { result ≡ Ok taken.Idle → StaysIdle self.old self.new }
+        ensures stuck { result ≡ Ok taken.Idle → WaitsIfFree self.old }
+        ensures settled { result ≡ Ok taken.Settled → StaysSettled self.old self.new }
         ensures err { OnErr result (MayWant self.old × (self.new ≡ self.old)) }
 
         // When no step is counted.
@@ -68,11 +65,12 @@ impl Desk {
     fn take_walk(&mut self) -> Result<Taken, NoMemory>
         requires { HeadWaits self.old }
         ensures paint { (t : PaintTicket) → result ≡ Ok (taken.Paint t) → ⊥ }
-        ensures walk { (t : WalkTicket) → result ≡ Ok (taken.Walk t) → Step self.old (WalkStart t.slot.place t.inputs.patch) self.new × IsWalkTicket t self.new }
+        ensures walk { (t : WalkTicket) → result ≡ Ok (taken.Walk t)
+            → StartsWalk self.old t self.new }
         ensures did { result ≡ Ok taken.Did → ⊥ }
-        ensures idle { result ≡ Ok taken.Idle → IsIdle self.old × (self.new ≡ self.old) }
-        ensures stuck { result ≡ Ok taken.Idle → list_all is_free self.old.slots ≡ true → waits_for_commands self.old ≡ true }
-        ensures settled { result ≡ Ok taken.Settled → IsSettled self.old × (self.new ≡ self.old) }
+        ensures idle { result ≡ Ok taken.Idle → StaysIdle self.old self.new }
+        ensures stuck { result ≡ Ok taken.Idle → WaitsIfFree self.old }
+        ensures settled { result ≡ Ok taken.Settled → StaysSettled self.old self.new }
         ensures err { OnErr result (MayWant self.old × (self.new ≡ self.old)) }
     {
         match self.machine.walk_place() {

@@ -3,15 +3,15 @@
 ghost use Rattle.std.specs.Prelude.{◌≡◌, Ok, OnErr};
 ghost use Rattle.machine_model.specs.Event.{WalkPublish};
 ghost use Rattle.machine_model.specs.Step.{Step};
-ghost use Rattle.desk_parts.specs.Enabled.{TakesWalk};
-ghost use Rattle.desk_parts.specs.Settles.{Settles};
-ghost use Rattle.desk_machine.specs.Commits.{ReadsAsWork};
+ghost use Rattle.desk_state.specs.Enabled.{TakesWalk};
+ghost use Rattle.desk_state.specs.Settles.{Settles};
+ghost use Rattle.desk_events.specs.Commits.{ReadsAsWork};
 ghost use Rattle.desk_core.specs.Commits.{PublishesRow};
 ghost use Rattle.desk_core.specs.declared.answers.Published.TheVariants as answers;
 
 use crate::answers::Published;
 use crate::desk::Desk;
-use desk_machine::SlotId;
+use desk_events::SlotId;
 use geom_core::{NoMemory, TileKey};
 use walker_core::Composed;
 
@@ -29,10 +29,13 @@ impl Desk {
         group: u16,
         key: TileKey,
     ) -> Result<Published, NoMemory>
-        ensures taken { result ≡ Ok answers.Stored → TakesWalk self.old slot.place slot.serial composed.now group key }
-        ensures stored { result ≡ Ok answers.Stored → Step self.old (WalkPublish slot.place group key) self.new }
+        ensures taken { result ≡ Ok answers.Stored
+            → TakesWalk self.old slot.place slot.serial composed.now group key }
+        ensures stored { result ≡ Ok answers.Stored
+            → Step self.old (WalkPublish slot.place group key) self.new }
         ensures nothing { result ≡ Ok answers.Nothing → self.new ≡ self.old }
-        ensures refused { result ≡ Ok answers.Nothing → TakesWalk self.old slot.place slot.serial composed.now group key → ⊥ }
+        ensures refused { result ≡ Ok answers.Nothing
+            → TakesWalk self.old slot.place slot.serial composed.now group key → ⊥ }
         ensures err { OnErr result (self.new ≡ self.old) }
     {
         if !self.machine.takes_walk(slot, composed, group, key) {
@@ -55,7 +58,8 @@ impl Desk {
         composed: &Composed<'_>,
         key: TileKey,
     ) -> Result<Published, NoMemory>
-        ensures answer { PublishesRow self.old slot.place slot.serial composed.now key result self.new }
+        ensures answer { PublishesRow self.old slot.place slot.serial
+            composed.now key result self.new }
         ensures runs { Settles self.old self.new }
         ensures canvas { self.new.canvas ≡ self.old.canvas }
         ensures fed { self.new.fed ≡ self.old.fed }
@@ -78,7 +82,8 @@ impl Desk {
         key: TileKey,
     ) -> Result<Published, NoMemory>
         requires { ReadsAsWork self.old slot.place slot.serial composed.now key }
-        ensures answer { PublishesRow self.old slot.place slot.serial composed.now key result self.new }
+        ensures answer { PublishesRow self.old slot.place slot.serial
+            composed.now key result self.new }
         ensures runs { Settles self.old self.new }
         ensures canvas { self.new.canvas ≡ self.old.canvas }
         ensures fed { self.new.fed ≡ self.old.fed }

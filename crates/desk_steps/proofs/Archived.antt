@@ -45,8 +45,8 @@ use Rattle.history_core.specs.Stacks.{Stack, IsUndone, IsRedone}
 use Rattle.history_core.proofs.Lent.{first_is}
 use Rattle.paint_device.specs.Grabs.{SharesTiles}
 use Rattle.desk_steps.specs.Tiles.{ShowsTiles}
-use Rattle.desk_steps.specs.declared.entry.Entry.{Entry}
-use Rattle.desk_steps.specs.declared.entry.Entry.TheVariants as entry
+use Rattle.desk_steps.specs.declared.entry.HistoryEntry.{HistoryEntry}
+use Rattle.desk_steps.specs.declared.entry.HistoryEntry.TheVariants as entry
 use Rattle.desk_steps.specs.declared.entry.Way.{Way}
 use Rattle.desk_steps.specs.Archives.{Archive, IsArchive, IsUnderWay, layer_under_way, reverted, undone, redone}
 use Rattle.memento_core.specs.Revisions.{keys_in}
@@ -76,7 +76,7 @@ is_document_with {A = A} q x f d = record {
 reached_some : (id : ℕ) (keys : FinSet key_cmp) (old new : Doc) → ReachesOneLayer id keys old new → is_some (content id new) ≡ true
 reached_some id keys old new r = ap (λ d. is_some (content id d)) r.changed ∙ ap is_some (content-with_content id r.after r.before old r.was)
 
-module _ (doc : Doc) (history : Stack Entry) (room : Bool) where
+module _ (doc : Doc) (history : Stack HistoryEntry) (room : Bool) where
   -- the layer of the stroke under way is there
   pub way_there : (way : Option Way) (w : Way) → way ≡ Some w → IsKept doc history way room → is_some (content w.id doc) ≡ true
   way_there way w e k = reached_some w.id (keys_in w.found) (adjusted w.id (patched w.found) doc) doc (subst (λ v. IsUnderWay (way_of v) (base_of v doc) doc) e k.archive.under_way)
@@ -87,7 +87,7 @@ module _ (doc : Doc) (history : Stack Entry) (room : Bool) where
       subst IsDocument (sym r.changed) (is_document_with w.id r.after (adjusted w.id (patched w.found) doc) k.archive.limits)
 
   -- a finished stroke is the newest change
-  pub finish_kept : (way after : Option Way) (w : Way) (new : Stack Entry) → way ≡ Some w → after ≡ None → new.past ≡ entry.Layer w.id w.found ∷ history.past → new.future ≡ []
+  pub finish_kept : (way after : Option Way) (w : Way) (new : Stack HistoryEntry) → way ≡ Some w → after ≡ None → new.past ≡ entry.Layer w.id w.found ∷ history.past → new.future ≡ []
       → IsKept doc history way room → IsKept doc new after false
   finish_kept way after w new is gone past future k =
       let s : IsKept doc history (Some w) room = subst (λ v. IsKept doc history v room) is k in
@@ -102,7 +102,7 @@ module _ (doc : Doc) (history : Stack Entry) (room : Bool) where
       })
 
   -- the oldest changes are forgotten
-  pub purge_kept : (way : Option Way) (n : ℕ) (new : Stack Entry) → new.past ≡ take n history.past → new.future ≡ history.future → history.spare ≤ new.spare → IsKept doc history way room → IsKept doc new way room
+  pub purge_kept : (way : Option Way) (n : ℕ) (new : Stack HistoryEntry) → new.past ≡ take n history.past → new.future ≡ history.future → history.spare ≤ new.spare → IsKept doc history way room → IsKept doc new way room
   purge_kept way n new past future spare k = record {
     archive = record {
       past_reaches = subst (λ es. PastReaches es (base_of way doc)) (sym (ap (laid (base_of way doc)) past ∙ laid_take n (base_of way doc) history.past)) (past_take n _ _ k.archive.past_reaches);
@@ -113,7 +113,7 @@ module _ (doc : Doc) (history : Stack Entry) (room : Bool) where
     spare = λ e. (let h = k.spare e in omega (arith, h, spare));
   }
 
-  pub purged_is : (way : Option Way) (n : ℕ) (new : Stack Entry) (old : Archive) → new.past ≡ take n history.past → new.future ≡ history.future → archive_of doc history way room ≡ old → archive_of doc new way room ≡ record old { past = take n old.past }
+  pub purged_is : (way : Option Way) (n : ℕ) (new : Stack HistoryEntry) (old : Archive) → new.past ≡ take n history.past → new.future ≡ history.future → archive_of doc history way room ≡ old → archive_of doc new way room ≡ record old { past = take n old.past }
   purged_is way n new old past future view =
       (λ i. record (archive_of doc history way room) { past = (ap (laid (base_of way doc)) past ∙ laid_take n (base_of way doc) history.past) i; future = laid (base_of way doc) (future i) })
       ∙ ap (λ (a : Archive). record a { past = take n a.past }) view
@@ -200,7 +200,7 @@ put_within keys key before after new c d = record {
 }
 
 -- a tile of the stroke's layer is changed, and what was noted gives back the same document
-module _ (doc new : Doc) (history : Stack Entry) (room : Bool) (w : Way) (found : Keyed Pixels) (key : Key) (f : Layer → Layer) (base : adjusted w.id (patched found) new ≡ adjusted w.id (patched w.found) doc) where
+module _ (doc new : Doc) (history : Stack HistoryEntry) (room : Bool) (w : Way) (found : Keyed Pixels) (key : Key) (f : Layer → Layer) (base : adjusted w.id (patched found) new ≡ adjusted w.id (patched w.found) doc) where
   put_done : ((l : Layer) → ChangesTile key l (f l)) → new ≡ adjusted w.id f doc → keys_in found ≡ set.insert (keys_in w.found) key → IsKept doc history (Some w) room → IsKept new history (Some (record { id = w.id; found = found })) room
   put_done changes is more k =
       let r = k.archive.under_way in
@@ -245,7 +245,7 @@ no_way (Some w) e f = absurd (never e)
     never e = cc
 
 -- a change of the tree is the newest one
-pub change_kept : (doc next : Doc) (e : Entry) (history new : Stack Entry) (way : Option Way) (room : Bool) (change : Change) → way_of way ≡ None → changed plain change doc ≡ Ok next → doc_of next e ≡ doc → reach_in e ≡ Whole → new.past ≡ e ∷ history.past → new.future ≡ []
+pub change_kept : (doc next : Doc) (e : HistoryEntry) (history new : Stack HistoryEntry) (way : Option Way) (room : Bool) (change : Change) → way_of way ≡ None → changed plain change doc ≡ Ok next → doc_of next e ≡ doc → reach_in e ≡ Whole → new.past ≡ e ∷ history.past → new.future ≡ []
     → IsKept doc history way room → IsKept next new way false
 change_kept doc next e history new way room change free made back whole past future k = no_way way free (λ h. subst (λ v. IsKept next new v false) (sym h) (go (subst (λ v. IsKept doc history v room) h k)))
   where
@@ -275,7 +275,7 @@ shot_is s d rects default rects_are pixels = layer_ext _ _
 pub layer_is : (id : ℕ) (doc present : Doc) (l : Layer) → doc ≡ present → content id doc ≡ Some l → layer_in id present ≡ l
 layer_is id doc present l e is = ap (layer_in id) (sym e) ∙ ap (λ o. unwrap_or o (plain clear)) is
 
-pub way_layer : (doc : Doc) (history : Stack Entry) (way : Option Way) (room : Bool) (w : Way) (l : Layer) (old : Archive) → way ≡ Some w → archive_of doc history way room ≡ old → content w.id doc ≡ Some l → layer_under_way old.way old.present ≡ l
+pub way_layer : (doc : Doc) (history : Stack HistoryEntry) (way : Option Way) (room : Bool) (w : Way) (l : Layer) (old : Archive) → way ≡ Some w → archive_of doc history way room ≡ old → content w.id doc ≡ Some l → layer_under_way old.way old.present ≡ l
 way_layer doc history way room w l old e view is = ap (λ (a : Archive). layer_under_way a.way a.present) (sym view ∙ ap (λ v. archive_of doc history v room) e) ∙ layer_is w.id doc doc l refl is
 
 pub tile_held : (id : ℕ) (doc present : Doc) (d : Sheet) (k : Key) (r : Option (Bor Pixels)) → doc ≡ present → content id doc ≡ Some (layer_of d) → option_copied r ≡ tile_under d.tiles k
@@ -291,19 +291,19 @@ no_tile_held id doc present d k None e is under = λ p h there.
     ap (λ l. at l p) l ∙ at-layer_of d p ∙ ap (λ o. pixel_or o d.default_pixel p) (ap (tile_under d.tiles) (key_same (key_of p) k h) ∙ sym under) ∙ sym (default-layer_of d) ∙ ap (λ (l : Layer). l.default_pixel) (sym l)
 
 -- the entry to be undone or redone can be laid
-pub undo_fits : (doc : Doc) (history : Stack Entry) (way : Option Way) (room : Bool) (was : Entry) → way_of way ≡ None → take 1 history.past ≡ was ∷ [] → IsKept doc history way room → FitsOn doc was
+pub undo_fits : (doc : Doc) (history : Stack HistoryEntry) (way : Option Way) (room : Bool) (was : HistoryEntry) → way_of way ≡ None → take 1 history.past ≡ was ∷ [] → IsKept doc history way room → FitsOn doc was
 undo_fits doc history way room was free first k = no_way way free (λ e.
     let s : IsKept doc history None room = subst (λ v. IsKept doc history v room) e k in
     let r : PastReaches (laid doc (was ∷ drop 1 history.past)) doc = subst (λ es. PastReaches (laid doc es) doc) (first_is history.past was first) s.archive.past_reaches in
     fits_new doc was r.0)
 
-pub redo_fits : (doc : Doc) (history : Stack Entry) (way : Option Way) (room : Bool) (was : Entry) → way_of way ≡ None → take 1 history.future ≡ was ∷ [] → IsKept doc history way room → FitsOn doc was
+pub redo_fits : (doc : Doc) (history : Stack HistoryEntry) (way : Option Way) (room : Bool) (was : HistoryEntry) → way_of way ≡ None → take 1 history.future ≡ was ∷ [] → IsKept doc history way room → FitsOn doc was
 redo_fits doc history way room was free first k = no_way way free (λ e.
     let s : IsKept doc history None room = subst (λ v. IsKept doc history v room) e k in
     let r : FutureReaches doc (laid doc (was ∷ drop 1 history.future)) = subst (λ es. FutureReaches doc (laid doc es)) (first_is history.future was first) s.archive.future_reaches in
     fits_old doc was r.0)
 
-module _ (doc new : Doc) (history after : Stack Entry) (way : Option Way) (room : Bool) (was is : Entry) where
+module _ (doc new : Doc) (history after : Stack HistoryEntry) (way : Option Way) (room : Bool) (was is : HistoryEntry) where
   -- the newest of the past has become the document
   pub undo_kept : way_of way ≡ None → take 1 history.past ≡ was ∷ [] → IsUndone history after is → new ≡ doc_of doc was → doc_of new is ≡ doc → reach_in is ≡ reach_in was → IsDocument new → IsKept doc history way room → IsKept new after way room
   undo_kept free first u made back same limits k = no_way way free (λ e. subst (λ v. IsKept new after v room) (sym e) (go (subst (λ v. IsKept doc history v room) e k)))
@@ -363,20 +363,20 @@ tiles_shown (Ok s) d rects l e default shares = λ p h. ap (λ o. pixel_or o s.d
 tiles_shown (Err x) d rects l e default shares = tt
 
 -- the keys that were noted stand: of a stroke that begins
-pub begin_stands : (ks : Standing) (history : Stack Entry) (way : Option Way) (id : ℕ) (found : Keyed Pixels) → found ≡ map.empty → KeysStand ks history way → KeysStand ks history (Some (record { id = id; found = found }))
+pub begin_stands : (ks : Standing) (history : Stack HistoryEntry) (way : Option Way) (id : ℕ) (found : Keyed Pixels) → found ≡ map.empty → KeysStand ks history way → KeysStand ks history (Some (record { id = id; found = found }))
 begin_stands ks history way id found empty s = record { past = s.past; future = s.future; under_way = λ k h. false-true (sym (ap (λ f. map.contains_key f k) empty ∙ ap is_some (map.get-empty key_cmp k)) ∙ h) }
 
 -- of the stroke under way
-pub way_stands : (ks : Standing) (history : Stack Entry) (way : Option Way) (w : Way) → way ≡ Some w → KeysStand ks history way → (k : Key) → map.contains_key w.found k ≡ true → ks.keys w.id k ≡ true
+pub way_stands : (ks : Standing) (history : Stack HistoryEntry) (way : Option Way) (w : Way) → way ≡ Some w → KeysStand ks history way → (k : Key) → map.contains_key w.found k ≡ true → ks.keys w.id k ≡ true
 way_stands ks history way w is s = subst (WayFits ks) is s.under_way
 
 -- once more keys stand
-pub put_stands : (ks more : Standing) (history : Stack Entry) (way : Option Way) (id : ℕ) (found : Keyed Pixels) → Grows ks more → ((k : Key) → map.contains_key found k ≡ true → more.keys id k ≡ true)
+pub put_stands : (ks more : Standing) (history : Stack HistoryEntry) (way : Option Way) (id : ℕ) (found : Keyed Pixels) → Grows ks more → ((k : Key) → map.contains_key found k ≡ true → more.keys id k ≡ true)
     → KeysStand ks history way → KeysStand more history (Some (record { id = id; found = found }))
 put_stands ks more history way id found grows own s = record { past = more_fit ks more grows history.past s.past; future = more_fit ks more grows history.future s.future; under_way = own }
 
 -- once the stroke is finished
-pub finish_stands : (ks : Standing) (history new : Stack Entry) (way after : Option Way) (w : Way) → way ≡ Some w → after ≡ None → new.past ≡ entry.Layer w.id w.found ∷ history.past → new.future ≡ [] → KeysStand ks history way → KeysStand ks new after
+pub finish_stands : (ks : Standing) (history new : Stack HistoryEntry) (way after : Option Way) (w : Way) → way ≡ Some w → after ≡ None → new.past ≡ entry.Layer w.id w.found ∷ history.past → new.future ≡ [] → KeysStand ks history way → KeysStand ks new after
 finish_stands ks history new way after w is gone past future s = record {
   past = subst (AllFit ks) (sym past) (way_stands ks history way w is s, s.past);
   future = subst (AllFit ks) (sym future) tt;
@@ -384,18 +384,18 @@ finish_stands ks history new way after w is gone past future s = record {
 }
 
 -- or taken back
-pub revert_stands : (ks others : Standing) (history : Stack Entry) (way after : Option Way) → after ≡ None → ks ≡ others → KeysStand ks history way → KeysStand others history after
+pub revert_stands : (ks others : Standing) (history : Stack HistoryEntry) (way after : Option Way) → after ≡ None → ks ≡ others → KeysStand ks history way → KeysStand others history after
 revert_stands ks others history way after gone same s = record { past = subst (λ k. AllFit k history.past) same s.past; future = subst (λ k. AllFit k history.future) same s.future; under_way = subst (WayFits others) (sym gone) tt }
 
 -- once there is more room for layers
-pub grow_stands : (ks more : Standing) (history : Stack Entry) (way : Option Way) → Grows ks more → KeysStand ks history way → KeysStand more history way
+pub grow_stands : (ks more : Standing) (history : Stack HistoryEntry) (way : Option Way) → Grows ks more → KeysStand ks history way → KeysStand more history way
 grow_stands ks more history way grows s = record { past = more_fit ks more grows history.past s.past; future = more_fit ks more grows history.future s.future; under_way = go way s.under_way }
   where
     go : (way : Option Way) → WayFits ks way → WayFits more way
     go None h = tt
     go (Some w) h = λ k i. grows.keys w.id k (h k i)
 
-pub grown : (old new : Document) (history after : Stack Entry) (way : Option Way) (room : Bool) → doc_in new ≡ doc_in old → Grows (standing old.tree old.slots) (standing new.tree new.slots) → after.past ≡ history.past → after.future ≡ history.future → history.spare ≤ after.spare
+pub grown : (old new : Document) (history after : Stack HistoryEntry) (way : Option Way) (room : Bool) → doc_in new ≡ doc_in old → Grows (standing old.tree old.slots) (standing new.tree new.slots) → after.past ≡ history.past → after.future ≡ history.future → history.spare ≤ after.spare
     → IsStored old history way room → IsStored new after way room
 grown old new history after way room same grows past future spare s =
     let stands = grow_stands (standing old.tree old.slots) (standing new.tree new.slots) history way grows s.stand in
@@ -408,7 +408,7 @@ grown old new history after way room same grows past future spare s =
     }
 
 -- after a change of the tree, which the entry takes back
-pub change_stands : (ks next : Standing) (e : Entry) (history new : Stack Entry) (way : Option Way) → way_of way ≡ None → new.past ≡ e ∷ history.past → new.future ≡ [] → FitsKeys next e → standing_after next e ≡ ks → KeysStand ks history way → KeysStand next new way
+pub change_stands : (ks next : Standing) (e : HistoryEntry) (history new : Stack HistoryEntry) (way : Option Way) → way_of way ≡ None → new.past ≡ e ∷ history.past → new.future ≡ [] → FitsKeys next e → standing_after next e ≡ ks → KeysStand ks history way → KeysStand next new way
 change_stands ks next e history new way free past future fits back s = record {
   past = subst (AllFit next) (sym past) (fits, subst (λ k. AllFit k history.past) (sym back) s.past);
   future = subst (AllFit next) (sym future) tt;
@@ -416,15 +416,15 @@ change_stands ks next e history new way free past future fits back s = record {
 }
 
 -- after a purge
-pub purge_stands : (ks : Standing) (history new : Stack Entry) (way : Option Way) (n : ℕ) → new.past ≡ take n history.past → new.future ≡ history.future → KeysStand ks history way → KeysStand ks new way
+pub purge_stands : (ks : Standing) (history new : Stack HistoryEntry) (way : Option Way) (n : ℕ) → new.past ≡ take n history.past → new.future ≡ history.future → KeysStand ks history way → KeysStand ks new way
 purge_stands ks history new way n past future s = record { past = subst (AllFit ks) (sym past) (take_fit n ks history.past s.past); future = subst (AllFit ks) (sym future) s.future; under_way = s.under_way }
 
 -- of the entry that is to be exchanged
-pub first_stands : (ks : Standing) (es : List Entry) (was : Entry) → take 1 es ≡ was ∷ [] → AllFit ks es → FitsKeys ks was
+pub first_stands : (ks : Standing) (es : List HistoryEntry) (was : HistoryEntry) → take 1 es ≡ was ∷ [] → AllFit ks es → FitsKeys ks was
 first_stands ks es was first h = (subst (AllFit ks) (first_is es was first) h).0
 
 -- and after it was
-module _ (old new : Standing) (history after : Stack Entry) (way : Option Way) (was is : Entry) (free : way_of way ≡ None) (trades : Trades old new was is) (s : KeysStand old history way) where
+module _ (old new : Standing) (history after : Stack HistoryEntry) (way : Option Way) (was is : HistoryEntry) (free : way_of way ≡ None) (trades : Trades old new was is) (s : KeysStand old history way) where
   pub undo_stands : take 1 history.past ≡ was ∷ [] → IsUndone history after is → KeysStand new after way
   undo_stands first u = record {
     past = subst (AllFit new) (sym u.past) (next_fit old new was is trades (drop 1 history.past) (subst (AllFit old) (first_is history.past was first) s.past));

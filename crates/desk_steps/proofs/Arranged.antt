@@ -25,7 +25,7 @@ use Rattle.desk_steps.specs.Founds.{has_key}
 use Rattle.desk_steps.specs.Slots.{Slots, AllHave, device_in, devices_after, has_slot, layer_or, once_filled, standing}
 use Rattle.desk_steps.specs.Documents.{Fits, arranged, arranged_standing, doc_in}
 use Rattle.desk_steps.specs.declared.arrangement.Arrangement.{Arrangement}
-use Rattle.desk_steps.specs.declared.arrangement.Slot.{Slot}
+use Rattle.desk_steps.specs.declared.arrangement.SlotDevice.{SlotDevice}
 use Rattle.desk_steps.specs.declared.document.Document.{Document}
 use Rattle.doc_model.proofs.Natural.{after, changed_each, content_before, each_same, each_shape, through_cond, with_contents}
 use Rattle.doc_model.proofs.PaintTests.{false-true}
@@ -33,38 +33,38 @@ use Rattle.desk_steps.proofs.Devices.{layer_shown, layer_under, new_plain, shown
 use Rattle.desk_steps.proofs.Rearranged.{layer_comes, layers_stay}
 
 -- what h makes of what stands is what stands of what h makes
-pub filled_through : {A B : Type 0} (h : A → B) (f : Option Sheet → A) (g : ℕ → A) (slots : List Slot) (q : ℕ) → h (once_filled f g slots q) ≡ once_filled (λ o. h (f o)) (λ p. h (g p)) slots q
+pub filled_through : {A B : Type 0} (h : A → B) (f : Option Sheet → A) (g : ℕ → A) (slots : List SlotDevice) (q : ℕ) → h (once_filled f g slots q) ≡ once_filled (λ o. h (f o)) (λ p. h (g p)) slots q
 filled_through h f g [] q = refl
 filled_through h f g (s ∷ rest) q = filled_through h f (λ p. cond (eqb s.id p) (f s.device) (g p)) rest q ∙ (λ i. once_filled (λ o. h (f o)) (λ p. through_cond h (eqb s.id p) (f s.device) (g p) i) rest q)
 
 -- one slot more
-pub filled_push : {A : Type 0} (f : Option Sheet → A) (g : ℕ → A) (slots : List Slot) (s : Slot) (q : ℕ) → once_filled f g (slots ++ s ∷ []) q ≡ cond (eqb s.id q) (f s.device) (once_filled f g slots q)
+pub filled_push : {A : Type 0} (f : Option Sheet → A) (g : ℕ → A) (slots : List SlotDevice) (s : SlotDevice) (q : ℕ) → once_filled f g (slots ++ s ∷ []) q ≡ cond (eqb s.id q) (f s.device) (once_filled f g slots q)
 filled_push f g [] s q = refl
 filled_push f g (r ∷ slots) s q = filled_push f (λ p. cond (eqb r.id p) (f r.device) (g p)) slots s q
 
-pub have_push : (has : ℕ → Bool) (slots : List Slot) (s : Slot) → AllHave has slots → has s.id ≡ true → AllHave has (slots ++ s ∷ [])
+pub have_push : (has : ℕ → Bool) (slots : List SlotDevice) (s : SlotDevice) → AllHave has slots → has s.id ≡ true → AllHave has (slots ++ s ∷ [])
 have_push has [] s all h = (h, tt)
 have_push has (r ∷ slots) s all h = (all.0, have_push has slots s all.1 h)
 
-pub have_more : (has more : ℕ → Bool) → ((q : ℕ) → has q ≡ true → more q ≡ true) → (slots : List Slot) → AllHave has slots → AllHave more slots
+pub have_more : (has more : ℕ → Bool) → ((q : ℕ) → has q ≡ true → more q ≡ true) → (slots : List SlotDevice) → AllHave has slots → AllHave more slots
 have_more has more up [] h = tt
 have_more has more up (s ∷ rest) h = (up s.id h.0, have_more has more up rest h.1)
 
 -- what stands under an id, by what the slots get
-abbrev devices : (ℕ → Option Sheet) → List Slot → ℕ → Option Sheet
+abbrev devices : (ℕ → Option Sheet) → List SlotDevice → ℕ → Option Sheet
 devices = once_filled (λ o. o)
 
 -- devices up to a place were exchanged: the others end in the same, and those give back what was there
-pub record UpTo (has : ℕ → Bool) (old : ℕ → Option Sheet) (all : List Slot) (now : ℕ → Option Sheet) (front rest : List Slot) : Type 0 where
+pub record UpTo (has : ℕ → Bool) (old : ℕ → Option Sheet) (all : List SlotDevice) (now : ℕ → Option Sheet) (front rest : List SlotDevice) : Type 0 where
   pub ends : (q : ℕ) → devices now rest q ≡ devices old all q
   pub back : (q : ℕ) → devices now (reverse front) q ≡ old q
   pub front_have : AllHave has (reverse front)
   pub rest_have : AllHave has rest
 
-pub none_yet : (has : ℕ → Bool) (old : ℕ → Option Sheet) (all : List Slot) → AllHave has all → UpTo has old all old [] all
+pub none_yet : (has : ℕ → Bool) (old : ℕ → Option Sheet) (all : List SlotDevice) → AllHave has all → UpTo has old all old [] all
 none_yet has old all have = record { ends = λ q. refl; back = λ q. refl; front_have = tt; rest_have = have }
 
-one_up : (has : ℕ → Bool) (old : ℕ → Option Sheet) (all : List Slot) (now new : ℕ → Option Sheet) (front rest : List Slot) (s t : Slot) → ((q : ℕ) → new q ≡ cond (eqb s.id q) s.device (now q)) → t.id ≡ s.id → t.device ≡ now s.id
+one_up : (has : ℕ → Bool) (old : ℕ → Option Sheet) (all : List SlotDevice) (now new : ℕ → Option Sheet) (front rest : List SlotDevice) (s t : SlotDevice) → ((q : ℕ) → new q ≡ cond (eqb s.id q) s.device (now q)) → t.id ≡ s.id → t.device ≡ now s.id
     → UpTo has old all now front (s ∷ rest) → UpTo has old all new (front ++ t ∷ []) rest
 one_up has old all now new front rest s t is same stood so = record {
   ends = λ q. (λ i. devices (λ p. is p i) rest q) ∙ so.ends q;
@@ -84,28 +84,28 @@ one_up has old all now new front rest s t is same stood so = record {
         go false e = is p ∙ kept (eqb s.id p) _ _ e
 
 -- one place on
-pub step_up : (has : ℕ → Bool) (old : ℕ → Option Sheet) (all : List Slot) (now new : ℕ → Option Sheet) (slots : List Slot) (i : ℕ) (d t : Slot) → i < length slots → ((q : ℕ) → new q ≡ cond (eqb (get_or slots i d).id q) (get_or slots i d).device (now q)) → t.id ≡ (get_or slots i d).id → t.device ≡ now (get_or slots i d).id
+pub step_up : (has : ℕ → Bool) (old : ℕ → Option Sheet) (all : List SlotDevice) (now new : ℕ → Option Sheet) (slots : List SlotDevice) (i : ℕ) (d t : SlotDevice) → i < length slots → ((q : ℕ) → new q ≡ cond (eqb (get_or slots i d).id q) (get_or slots i d).device (now q)) → t.id ≡ (get_or slots i d).id → t.device ≡ now (get_or slots i d).id
     → UpTo has old all now (take i slots) (drop i slots) → UpTo has old all new (take (i + 1) (set slots i t)) (drop (i + 1) (set slots i t))
 step_up has old all now new slots i d t h is same stood so =
     let up = one_up has old all now new (take i slots) (drop (i + 1) slots) (get_or slots i d) t is same stood (subst (UpTo has old all now (take i slots)) (drop_more slots i d h) so) in
     subst (UpTo has old all new (take (i + 1) (set slots i t))) (sym (drop-set-lt (i + 1) slots i t (omega arith)))
     (subst (λ front. UpTo has old all new front (drop (i + 1) slots)) (sym (take_more_set slots i t h)) up)
 
-pub next_has : (has : ℕ → Bool) (old : ℕ → Option Sheet) (all : List Slot) (now : ℕ → Option Sheet) (slots : List Slot) (i : ℕ) (d : Slot) → i < length slots → UpTo has old all now (take i slots) (drop i slots) → has (get_or slots i d).id ≡ true
+pub next_has : (has : ℕ → Bool) (old : ℕ → Option Sheet) (all : List SlotDevice) (now : ℕ → Option Sheet) (slots : List SlotDevice) (i : ℕ) (d : SlotDevice) → i < length slots → UpTo has old all now (take i slots) (drop i slots) → has (get_or slots i d).id ≡ true
 next_has has old all now slots i d h so = (subst (UpTo has old all now (take i slots)) (drop_more slots i d h) so).rest_have.0
 
 -- behind the last place
-pub ended : (has : ℕ → Bool) (old : ℕ → Option Sheet) (all : List Slot) (now : ℕ → Option Sheet) (slots : List Slot) (i : ℕ) → i ≡ length slots → UpTo has old all now (take i slots) (drop i slots) → UpTo has old all now slots []
+pub ended : (has : ℕ → Bool) (old : ℕ → Option Sheet) (all : List SlotDevice) (now : ℕ → Option Sheet) (slots : List SlotDevice) (i : ℕ) → i ≡ length slots → UpTo has old all now (take i slots) (drop i slots) → UpTo has old all now slots []
 ended has old all now slots i last so = subst (λ front. UpTo has old all now front []) (take_all i slots (omega (arith, last))) (subst (UpTo has old all now (take i slots)) (drop_all i slots (omega (arith, last))) so)
 
 -- None is to stand under the ids that were passed and are no layers of the tree
-pub record Emptied (t : Forest (Unit {0})) (m : Slots) (slots : List Slot) (rest : List (ℕ × Option Sheet)) : Type 0 where
+pub record Emptied (t : Forest (Unit {0})) (m : Slots) (slots : List SlotDevice) (rest : List (ℕ × Option Sheet)) : Type 0 where
   pub stays : (q : ℕ) → is_some (content q t) ≡ true → devices (device_in m) slots q ≡ device_in m q
   pub gone : (q : ℕ) → is_some (content q t) ≡ false → lookup (is_at (nat_cmp q)) rest ≡ None → devices (device_in m) slots q ≡ None
   pub empty : (q : ℕ) → device_in m q ≡ None → devices (device_in m) slots q ≡ None
   pub have : AllHave (has_slot m) slots
 
-pub none_emptied : (t : Forest (Unit {0})) (m : Slots) (slots : List Slot) → slots ≡ [] → Emptied t m slots m.entries
+pub none_emptied : (t : Forest (Unit {0})) (m : Slots) (slots : List SlotDevice) → slots ≡ [] → Emptied t m slots m.entries
 none_emptied t m slots e = record {
   stays = λ q is. ap (λ s. devices (device_in m) s q) e;
   gone = λ q is none. ap (λ s. devices (device_in m) s q) e ∙ ap (λ o. unwrap_or o None) none;
@@ -116,7 +116,7 @@ none_emptied t m slots e = record {
 other_key : (k q : ℕ) → eqb k q ≡ false → is_at (nat_cmp q) k ≡ false
 other_key k q e = unsigned_tied q k ∙ grind (arith, nat_tests)
 
-module _ (t : Forest (Unit {0})) (m : Slots) (slots : List Slot) (k : ℕ) (o : Option Sheet) (rest : List (ℕ × Option Sheet)) (so : Emptied t m slots ((k, o) ∷ rest)) where
+module _ (t : Forest (Unit {0})) (m : Slots) (slots : List SlotDevice) (k : ℕ) (o : Option Sheet) (rest : List (ℕ × Option Sheet)) (so : Emptied t m slots ((k, o) ∷ rest)) where
   passed : (q : ℕ) → eqb k q ≡ false → is_some (content q t) ≡ false → lookup (is_at (nat_cmp q)) rest ≡ None → devices (device_in m) slots q ≡ None
   passed q other is none = so.gone q is (ap (λ b. cond b (Some o) (lookup (is_at (nat_cmp q)) rest)) (other_key k q other) ∙ none)
 
@@ -152,7 +152,7 @@ module _ (t : Forest (Unit {0})) (m : Slots) (slots : List Slot) (k : ℕ) (o : 
       either q true h = refl
       either q false h = h refl
 
-pub all_emptied : (t : Forest (Unit {0})) (m : Slots) (slots : List Slot) (rest : List (ℕ × Option Sheet)) → rest ≡ [] → Emptied t m slots rest → (q : ℕ) → devices (device_in m) slots q ≡ cond (is_some (content q t)) (device_in m q) None
+pub all_emptied : (t : Forest (Unit {0})) (m : Slots) (slots : List SlotDevice) (rest : List (ℕ × Option Sheet)) → rest ≡ [] → Emptied t m slots rest → (q : ℕ) → devices (device_in m) slots q ≡ cond (is_some (content q t)) (device_in m q) None
 all_emptied t m slots rest e so q = go (is_some (content q t)) refl
   where
     go : (b : Bool) → is_some (content q t) ≡ b → devices (device_in m) slots q ≡ cond b (device_in m q) None
@@ -160,12 +160,12 @@ all_emptied t m slots rest e so q = go (is_some (content q t)) refl
     go false is = so.gone q is (ap (lookup (is_at (nat_cmp q))) e)
 
 -- what an arrangement shows, by the devices
-arranged_is : (t : Forest (Unit {0})) (g : ℕ → Option Sheet) → ((q : ℕ) → is_some (g q) ≡ is_some (content q t)) → (other : Forest (Unit {0})) (slots : List Slot)
+arranged_is : (t : Forest (Unit {0})) (g : ℕ → Option Sheet) → ((q : ℕ) → is_some (g q) ≡ is_some (content q t)) → (other : Forest (Unit {0})) (slots : List SlotDevice)
     → shown other (devices g slots) ≡ each (λ q u. once_filled layer_or (λ p. layer_in p (shown t g)) slots q) other
 arranged_is t g has other slots = λ i. each (λ q u. (filled_through layer_or (λ o. o) g slots q ∙ (λ j. once_filled layer_or (λ p. sym (layer_shown t g has p) j) slots q)) i) other
 
 -- the tree and devices of a document are exchanged with those of an arrangement
-module _ (d : Document) (a : Arrangement) (tree : Forest (Unit {0})) (slots : List Slot) (n : Slots) (after : List Slot) (fits : Fits a (standing d.tree d.slots)) (tree_is : tree ≡ led a.tree d.tree) (slots_are : slots ≡ a.slots.items)
+module _ (d : Document) (a : Arrangement) (tree : Forest (Unit {0})) (slots : List SlotDevice) (n : Slots) (after : List SlotDevice) (fits : Fits a (standing d.tree d.slots)) (tree_is : tree ≡ led a.tree d.tree) (slots_are : slots ≡ a.slots.items)
     (new : (q : ℕ) → device_in n q ≡ devices (device_in d.slots) slots q) (back : (q : ℕ) → devices (device_in n) after q ≡ device_in d.slots q) (same : (q : ℕ) → has_slot n q ≡ has_slot d.slots q) where
   new_is : (q : ℕ) → device_in n q ≡ devices (device_in d.slots) a.slots.items q
   new_is q = new q ∙ ap (λ s. devices (device_in d.slots) s q) slots_are
@@ -200,7 +200,7 @@ module _ (d : Document) (a : Arrangement) (tree : Forest (Unit {0})) (slots : Li
   back_fits old is q = ap (λ t. is_some (content q t)) is ∙ sym (d.fits q) ∙ sym (ap is_some (back q)) ∙ filled_through is_some (λ o. o) (device_in n) after q
 
 -- a tree was changed, and the slots are to get the devices after the change
-module _ (c : Change) (t other : Forest (Unit {0})) (g : ℕ → Option Sheet) (made : changed (λ pixel. tt) c t ≡ Ok other) (has : (q : ℕ) → is_some (g q) ≡ is_some (content q t)) (slots : List Slot) (get : (q : ℕ) → devices g slots q ≡ devices_after c other g q) where
+module _ (c : Change) (t other : Forest (Unit {0})) (g : ℕ → Option Sheet) (made : changed (λ pixel. tt) c t ≡ Ok other) (has : (q : ℕ) → is_some (g q) ≡ is_some (content q t)) (slots : List SlotDevice) (get : (q : ℕ) → devices g slots q ≡ devices_after c other g q) where
   after_layers : (c : Change) (q : ℕ) → is_some (content q other) ≡ true → after plain c (layer_under g) q ≡ layer_or (devices_after c other g q)
   after_layers (change.Layer id above place pixel) q is = go (eqb id q)
     where

@@ -12,7 +12,7 @@ use Rattle.pixel_core.specs.Rgba.{Rgba, clear}
 use Rattle.geom_core.specs.Grid.{Key, key_cmp, key_of}
 use Rattle.memento_core.specs.Planes.{Keyed}
 use Rattle.tile_core.specs.Pixels.{Pixels, pixel_or}
-use Rattle.geom_core.proofs.Tests.{taken, kept}
+use Rattle.geom_core.proofs.Tests.{taken, kept, is_some-None}
 use Rattle.history_core.proofs.Lent.{lent_holds}
 use Rattle.doc_model.specs.Layers.{Layer, plain}
 use Rattle.doc_model.proofs.LayerLaws.{layer_ext, at-plain, default-plain}
@@ -42,10 +42,6 @@ pub some_is : {A : Type 0} (o : Option A) → is_some o ≡ true → (x : A) × 
 some_is None e = false-true e
 some_is (Some x) e = (x, refl)
 
-pub none_is : {A : Type 0} (o : Option A) → is_some o ≡ false → o ≡ None
-none_is None e = refl
-none_is (Some x) e = false-true (sym e)
-
 pub by_some : {A B : Type 0} (y : B) (o : Option A) → is_some o ≡ true → content_by y o ≡ Some y
 by_some y None e = false-true e
 by_some y (Some x) e = refl
@@ -71,7 +67,7 @@ module _ (t : Forest (Unit {0})) (g : ℕ → Option Sheet) (has : (q : ℕ) →
   content_shown id = content_each (layer_under g) id t ∙ go (g id) refl
     where
       go : (o : Option Sheet) → g id ≡ o → content_by (layer_or (g id)) (content id t) ≡ option_map layer_of o
-      go None e = ap (content_by (layer_or (g id))) (none_is (content id t) (sym (has id) ∙ ap is_some e))
+      go None e = ap (content_by (layer_or (g id))) (is_some-None (content id t) (sym (has id) ∙ ap is_some e))
       go (Some s) e = by_some _ (content id t) (sym (has id) ∙ ap is_some e) ∙ ap (λ o. Some (layer_or o)) e
 
   pub layer_shown : (q : ℕ) → layer_in q (shown t g) ≡ layer_or (g q)

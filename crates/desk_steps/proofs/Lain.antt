@@ -9,7 +9,7 @@ use Rattle.geom_core.specs.Areas.{holds, Point}
 use Rattle.geom_core.specs.Rects.{any_holds}
 use Rattle.geom_core.specs.Grid.{Key, key_of, same_key, tile}
 use Rattle.geom_core.specs.Keys.{key_cmp_total, key_cmp-IsAntisymmetric}
-use Rattle.geom_core.proofs.Tests.{taken, kept}
+use Rattle.geom_core.proofs.Tests.{taken, kept, some_same, or_again}
 use Rattle.geom_core.proofs.Tiles.{own_tile, key_same, key_is}
 use Rattle.pixel_core.specs.Rgba.{Rgba}
 use Rattle.tile_core.specs.Pixels.{Pixels, pixel_at, pixel_or}
@@ -42,9 +42,6 @@ tile_at s k t p h there = ap (λ o. pixel_or o s.default_pixel p) (there ∙ ap 
 pub stands_at : (s : Sheet) (k : Key) (p : Point) → in_tile k p ≡ true → pixel_at (tile_or (tile_under s.tiles k) s.default_pixel) p ≡ sheet_at s p
 stands_at s k p h = sym (pixel_or-tile_or (tile_under s.tiles k) s.default_pixel p) ∙ ap (λ m. pixel_or (tile_under s.tiles m) s.default_pixel p) (sym (key_same (key_of p) k h))
 
-some_same : {A : Type 0} (x y : A) → Some x ≡ Some y → x ≡ y
-some_same x y e = cc
-
 some_none : {A : Type 0} (x : A) → Some x ≡ None → ⊥
 some_none x e = cc
 
@@ -67,10 +64,6 @@ none_laid x s t k e same w m p h = same p (ap (λ m. in_tile m p) (e ∙ key_mad
 or_end : (a : Bool) → a ≡ (a || false)
 or_end true = refl
 or_end false = refl
-
-or_again : (a b c : Bool) → (a || (b || c)) ≡ ((a || b) || c)
-or_again true b c = refl
-or_again false b c = refl
 
 more_held : (bs : List Piece) (i : ℕ) (b : Piece) (p : Point) → Some b ≡ slice_get bs i → any_holds (map (λ (b : Piece). b.rect) (take (suc i) bs)) p ≡ (any_holds (map (λ (b : Piece). b.rect) (take i bs)) p || holds b.rect p)
 more_held [] i b p e = absurd (some_none b e)

@@ -1,7 +1,7 @@
 -- Which layers stand in a tree after a change.
 use Rattle.std.proofs.Common.{◌≡◌, ℕ, suc, zero, Bool, true, false, ◌||◌, not, cond, Some, None, is_some, Ok, refl, sym, ap, ◌∙◌, subst, arith, eqb, inl, inr}
 use Rattle.std.proofs.lemmas.Bool.Decides.{nat_tests}
-use Rattle.geom_core.proofs.Tests.{or_left, or_right}
+use Rattle.geom_core.proofs.Tests.{or_left, or_right, same_bools, or_same, or_again}
 use Rattle.pixel_core.specs.Rgba.{Rgba}
 use Rattle.doc_model.specs.declared.tree.Look.{Look}
 use Rattle.doc_model.specs.declared.tree.Change.{Change}
@@ -15,19 +15,13 @@ use Rattle.doc_model.proofs.TreeChanges.{answered, new_may, place_may}
 use Rattle.doc_model.proofs.TreeLaws.{without_none}
 use Rattle.doc_model.proofs.Natural.{sets_in, content_before}
 use Rattle.doc_model.proofs.PaintTests.{false-true, or_else_tests}
+use Rattle.std.proofs.lemmas.Bool.{not-false}
 
 -- whether a paint node has the id
 abbrev drawn : {A : Type 0} → ℕ → Forest A → Bool
 drawn q none = false
 drawn q (paint id look x rest) = eqb q id || drawn q rest
 drawn q (group id look nodes rest) = drawn q nodes || drawn q rest
-
-or_same : {a b c d : Bool} → a ≡ b → c ≡ d → (a || c) ≡ (b || d)
-or_same e f i = e i || f i
-
-or_again : (a b c : Bool) → (a || (b || c)) ≡ ((a || b) || c)
-or_again true b c = refl
-or_again false b c = refl
 
 or_swapped : (a b c : Bool) → (a || (b || c)) ≡ (b || (a || c))
 or_swapped true true c = refl
@@ -152,10 +146,6 @@ module _ {A : Type 0} (q : ℕ) where
     | inr i ↦ set_in_old above place (only id f) (without id f) i
   ]
 
-not_false : (b : Bool) → not b ≡ false → b ≡ true
-not_false true e = refl
-not_false false e = sym e
-
 -- whether a change takes no layer away
 abbrev pub keeps_layers : Change → Bool
 keeps_layers (change.Layer id above place pixel) = true
@@ -171,17 +161,12 @@ drawn_stays fresh (change.Remove id) f new q k e d h = false-true k
 drawn_stays fresh (change.Place id above place) f new q k e d h =
     let a : (_ ≡ None) × (set_in above place (only id f) (without id f) ≡ new) = answered _ _ _ e in
     let may = place_may id above place f a.0 in
-    subst (λ n. drawn q n ≡ true) a.1 (drawn_placed q id above place f d (not_false (takes above f) may.2) may.3 h)
+    subst (λ n. drawn q n ≡ true) a.1 (drawn_placed q id above place f d (not-false (takes above f) may.2) may.3 h)
 drawn_stays fresh (change.Look id look) f new q k e d h = subst (λ n. drawn q n ≡ true) (answered _ _ _ e).1 (drawn_look q id look f ∙ h)
-
-both_ways : (a b : Bool) → (a ≡ true → b ≡ true) → (b ≡ true → a ≡ true) → a ≡ b
-both_ways true b f g = sym (f refl)
-both_ways false true f g = g refl
-both_ways false false f g = refl
 
 -- and those that it doesn't set in are the same
 pub layers_stay : {A : Type 0} (fresh : Rgba → A) (c : Change) (f new : Forest A) (q : ℕ) → keeps_layers c ≡ true → sets_in c q ≡ false → changed fresh c f ≡ Ok new → Distinct f → is_some (content q new) ≡ is_some (content q f)
-layers_stay fresh c f new q k other e d = both_ways (is_some (content q new)) (is_some (content q f))
+layers_stay fresh c f new q k other e d = same_bools (is_some (content q new)) (is_some (content q f))
     (content_before fresh c f new q e other)
     (λ h. drawn_is q new ∙ drawn_stays fresh c f new q k e d (sym (drawn_is q f) ∙ h))
 
@@ -189,7 +174,7 @@ layers_stay fresh c f new q k other e d = both_ways (is_some (content q new)) (i
 pub layer_comes : {A : Type 0} (fresh : Rgba → A) (id above place : ℕ) (pixel : Rgba) (f new : Forest A) → changed fresh (change.Layer id above place pixel) f ≡ Ok new → is_some (content id new) ≡ true
 layer_comes fresh id above place pixel f new e =
     let a : (no_new id above place f ≡ None) × (set_in above place (paint id new_look (fresh pixel) none) f ≡ new) = answered _ _ _ e in
-    drawn_is id new ∙ subst (λ n. drawn id n ≡ true) a.1 (set_in_new id above place (paint id new_look (fresh pixel) none) f (not_false (takes above f) (new_may id above place f a.0).2) (or_left (eqb id id) false (own id)))
+    drawn_is id new ∙ subst (λ n. drawn id n ≡ true) a.1 (set_in_new id above place (paint id new_look (fresh pixel) none) f (not-false (takes above f) (new_may id above place f a.0).2) (or_left (eqb id id) false (own id)))
   where
     own : (q : ℕ) → eqb q q ≡ true
     own q = grind (arith, nat_tests)

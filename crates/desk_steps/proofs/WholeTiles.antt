@@ -25,7 +25,7 @@ use Rattle.desk_steps.proofs.Lain.{tile_at}
 use Rattle.desk_steps.proofs.Devices.{some_is, content_shown}
 use Rattle.desk_steps.proofs.Archived.{way_layer}
 use Rattle.desk_steps.specs.declared.document.Document.{Document}
-use Rattle.desk_steps.specs.declared.entry.Entry.{Entry}
+use Rattle.desk_steps.specs.declared.entry.HistoryEntry.{HistoryEntry}
 use Rattle.desk_steps.specs.declared.entry.Way.{Way}
 use Rattle.desk_steps.specs.Archives.{Archive, layer_now}
 use Rattle.desk_steps.specs.Documents.{doc_in}
@@ -136,7 +136,7 @@ grounds_stand s base key e here there p inside =
     ∙ ap (λ k. pixel_or (map.get base.tiles k) base.default_pixel p) (sym (key_same (key_of p) key inside))
 
 -- the device of the stroke's layer has the base's pixels where the layer has them
-pub layer_has_base : (x : Entire) (doc : Document) (history : Stack Entry) (way : Option Way) (room : Bool) (w : Way) (old : Archive) → way ≡ Some w → archive_of (doc_in doc) history way room ≡ old → is_some (device_in doc.slots w.id) ≡ true
+pub layer_has_base : (x : Entire) (doc : Document) (history : Stack HistoryEntry) (way : Option Way) (room : Bool) (w : Way) (old : Archive) → way ≡ Some w → archive_of (doc_in doc) history way room ≡ old → is_some (device_in doc.slots w.id) ≡ true
     → IsMadeFrom x (layer_now old) → HasBaseIn x (device_in doc.slots w.id)
 layer_has_base x doc history way room w old is view there same =
     let d = some_is (device_in doc.slots w.id) there in

@@ -14,7 +14,7 @@ use Rattle.doc_model.specs.declared.tree.Change.TheVariants as change
 use Rattle.paint_device.specs.Sheets.{Sheet, sheet}
 use Rattle.paint_device.specs.Seen.{layer_of}
 use Rattle.desk_steps.specs.Founds.{has_key}
-use Rattle.desk_steps.specs.declared.arrangement.Slot.{Slot}
+use Rattle.desk_steps.specs.declared.arrangement.SlotDevice.{SlotDevice}
 
 -- a slot for each id that was a paint layer
 abbrev pub Slots : Type 0
@@ -37,12 +37,12 @@ abbrev pub HasDevices : Forest (Unit {0}) → Slots → Type 0
 HasDevices t slots = (q : ℕ) → is_some (device_in slots q) ≡ is_some (content q t)
 
 -- what stands under each id once slots are filled one after another, by what f makes of a device
-abbrev pub once_filled : {A : Type 0} → (Option Sheet → A) → (ℕ → A) → List Slot → ℕ → A
+abbrev pub once_filled : {A : Type 0} → (Option Sheet → A) → (ℕ → A) → List SlotDevice → ℕ → A
 once_filled f g [] = g
 once_filled f g (s ∷ rest) = once_filled f (λ q. if s.id == q then f s.device else g q) rest
 
 -- each of these ids has a slot
-abbrev pub AllHave : (ℕ → Bool) → List Slot → Type 0
+abbrev pub AllHave : (ℕ → Bool) → List SlotDevice → Type 0
 AllHave has [] = Unit {0}
 AllHave has (s ∷ rest) = (has s.id ≡ true) × AllHave has rest
 

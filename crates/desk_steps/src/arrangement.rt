@@ -16,7 +16,7 @@ use tree_core::{Exchange, Tree};
 
 /// What the slot of an id gets: the device of a paint layer, or None.
 #[derive(Drop)]
-pub struct Slot {
+pub struct SlotDevice {
     pub id: u16,
     pub device: Option<Device>,
 }
@@ -25,12 +25,12 @@ pub struct Slot {
 #[derive(Drop)]
 pub struct Arrangement {
     pub tree: Exchange,
-    pub slots: Vec<Slot>,
+    pub slots: Vec<SlotDevice>,
 }
 
 /// Exchanges the devices with those in the slots, one after another. What was exchanged last then
 /// stands first, as it is the first to be given back. No memory.
-pub fn exchange_devices(devices: &mut BTreeMap<u16, Option<Device>>, slots: &mut [Slot])
+pub fn exchange_devices(devices: &mut BTreeMap<u16, Option<Device>>, slots: &mut [SlotDevice])
     requires { AllHave (has_slot devices.old) slots.old }
     ensures new { (q : ℕ) → device_in devices.new q ≡ once_filled (λ o. o) (device_in devices.old) slots.old q }
     ensures back { (q : ℕ) → once_filled (λ o. o) (device_in devices.new) slots.new q ≡ device_in devices.old q }
@@ -44,7 +44,7 @@ pub fn exchange_devices(devices: &mut BTreeMap<u16, Option<Device>>, slots: &mut
 }
 
 /// Exchanges the device with the one in the slot of its id, which is there.
-fn exchange_device(devices: &mut BTreeMap<u16, Option<Device>>, slot: &mut Slot)
+fn exchange_device(devices: &mut BTreeMap<u16, Option<Device>>, slot: &mut SlotDevice)
     requires { has_slot devices.old slot.old.id ≡ true }
     ensures new { (q : ℕ) → device_in devices.new q ≡ cond (slot.old.id == q) slot.old.device (device_in devices.old q) }
     ensures id { slot.new.id ≡ slot.old.id }
@@ -64,7 +64,7 @@ pub fn slots_of(
     devices: &mut BTreeMap<u16, Option<Device>>,
     tree: &Tree,
     change: &Change,
-) -> Result<Vec<Slot>, NoMemory>
+) -> Result<Vec<SlotDevice>, NoMemory>
     ensures ok { IfOk result (λ v. (q : ℕ) → once_filled (λ o. o) (device_in devices.old) v.items q ≡ devices_after change.now tree.now (device_in devices.old) q) }
     ensures there { IfOk result (λ v. AllHave (has_slot devices.new) v.items) }
     ensures same { (q : ℕ) → device_in devices.new q ≡ device_in devices.old q }
@@ -74,7 +74,7 @@ pub fn slots_of(
         Change::Layer { id, ground, .. } => {
             make_slot(devices, id)?;
             let mut slots = Vec::with_capacity(alloc, 1)?;
-            slots.push(Slot {
+            slots.push(SlotDevice {
                 id,
                 device: Some(Device::new(alloc, ground)),
             })?;
@@ -102,14 +102,14 @@ fn emptied(
     alloc: Global,
     devices: &BTreeMap<u16, Option<Device>>,
     tree: &Tree,
-) -> Result<Vec<Slot>, NoMemory>
+) -> Result<Vec<SlotDevice>, NoMemory>
     ensures ok { IfOk result (λ v. (q : ℕ) → once_filled (λ o. o) (device_in devices.now) v.items q ≡ cond (is_some (content q tree.now)) (device_in devices.now q) None) }
     ensures there { IfOk result (λ v. AllHave (has_slot devices.now) v.items) }
 {
     let mut slots = Vec::new(alloc);
     for (id, device) in devices {
         if device.is_some() && !is_paint(tree, *id) {
-            slots.push(Slot {
+            slots.push(SlotDevice {
                 id: *id,
                 device: None,
             })?;

@@ -16,7 +16,7 @@ use tile_core::Tile;
 
 /// What gives back the document from before a change, or after it.
 #[derive(Drop)]
-pub enum Entry {
+pub enum HistoryEntry {
     /// What makes the tree the other one, with the devices that it brings or takes.
     Tree(Arrangement),
     /// What stood in some tiles of a layer, which alone differ.
@@ -30,7 +30,7 @@ pub struct Way {
     pub found: Revision<Tile>,
 }
 
-impl Entry {
+impl HistoryEntry {
     /// Exchanges the document with the one that the entry gives back. It tells how far the change
     /// between them reaches. One step for each tile of a layer, and no memory.
     pub fn exchange<L: Ledger>(&mut self, doc: &mut Document, steps: &mut Steps<L>) -> Reach
@@ -49,12 +49,12 @@ impl Entry {
         ensures counts { steps.new ≡ steps.old + tiles_in (reach_in self.old) }
     {
         match self {
-            Entry::Tree(other) => {
+            HistoryEntry::Tree(other) => {
                 doc.arrange(other);
                 let _tree = doc.tree();
                 Reach::Whole
             }
-            Entry::Layer { id, found } => {
+            HistoryEntry::Layer { id, found } => {
                 doc.exchange(*id, found, steps);
                 match doc.tree().parent(*id) {
                     Some(group) => Reach::Part {

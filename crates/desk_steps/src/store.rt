@@ -24,7 +24,7 @@ ghost use Rattle.desk_steps.specs.Tiles.{IsMadeFrom, ShowsTiles};
 ghost use Rattle.desk_steps.specs.Archives.{Archive, IsArchive, Changes, TellsFirst, empty_archive, layer_now, shape, with_put, with_painted, finished, reverted, undone, redone, tiles_in_first};
 
 use crate::document::Document;
-use crate::entry::{Entry, Way};
+use crate::entry::{HistoryEntry, Way};
 use crate::exchanging::Base;
 use crate::reach::{Begun, Reach, TreeRefusal};
 use doc_model::Change;
@@ -50,7 +50,7 @@ use whole_tiles::Whole;
 pub struct Store {
     alloc: Global,
     doc: Document,
-    history: UndoStack<Entry>,
+    history: UndoStack<HistoryEntry>,
     way: Option<Way>,
     room: bool,
 }
@@ -196,7 +196,7 @@ impl Store {
         let Some(way) = self.way.take() else {
             unreachable!();
         };
-        self.history.commit(Entry::Layer {
+        self.history.commit(HistoryEntry::Layer {
             id: way.id,
             found: way.found,
         });
@@ -234,7 +234,7 @@ impl Store {
         let mut other = self.doc.changed(alloc, change)?;
         self.history.reserve(1)?;
         self.doc.arrange(&mut other);
-        self.history.commit(Entry::Tree(other));
+        self.history.commit(HistoryEntry::Tree(other));
         self.room = false;
         Ok(Reach::Whole)
     }

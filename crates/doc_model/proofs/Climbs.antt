@@ -1,11 +1,12 @@
 -- The way from a node up to the root.
 use Rattle.std.proofs.Common.{◌≡◌, ℕ, Bool, true, false, ◌||◌, cond, [], ◌∷◌, ◌++◌, Some, refl, sym, ap, ◌∙◌, arith, eqb, inl, inr, ◌⊎◌}
 use Rattle.std.proofs.lemmas.Bool.Decides.{nat_tests}
-use Rattle.geom_core.proofs.Tests.{taken, kept, or_left, or_right, none_left, none_right}
+use Rattle.geom_core.proofs.Tests.{taken, kept, or_left, or_right, none_left, none_right, equal_test}
 use Rattle.doc_model.specs.Forest.{Forest, none, paint, group, has}
 use Rattle.doc_model.specs.Readers.{parent, path}
 use Rattle.doc_model.proofs.Parents.{Distinct}
 use Rattle.doc_model.proofs.Paths.{other_than, not_both}
+use Rattle.std.proofs.lemmas.Bool.{eqb-true}
 
 -- no path leads to what isn't there
 pub path_absent : {A : Type 0} (q : ℕ) (f : Forest A) → has q f ≡ false → path q f ≡ []
@@ -31,13 +32,6 @@ parent_in q above a (group id look nodes rest) e = go (eqb q id) (has q nodes) (
     go false true m r e = elim (m e) [ inl h ↦ inr (or_left (eqb a id) _ (let s : a ≡ id = h in grind (arith, nat_tests))) | inr h ↦ inr (or_right (eqb a id) _ (or_left (has a nodes) _ h)) ]
     go false false m r e = elim (r e) [ inl h ↦ inl h | inr h ↦ inr (or_right (eqb a id) _ (or_right (has a nodes) _ h)) ]
 
--- what a test tells
-pub is_it : (q id : ℕ) → eqb q id ≡ true → q ≡ id
-is_it q id e = grind (arith, nat_tests)
-
-same_id : (q : ℕ) → eqb q q ≡ true
-same_id q = grind (arith, nat_tests)
-
 -- a node's path goes on with its parent's
 pub climbs : {A : Type 0} (q above a : ℕ) (f : Forest A) → Distinct f → has above f ≡ false → parent q above f ≡ Some a → path q f ≡ q ∷ path a f
 climbs q above a none d away e = cc
@@ -47,7 +41,7 @@ climbs q above a (paint id look x rest) d away e = go (λ h. climbs q above a re
     go r true h e =
         let s : a ≡ above = (let t : above ≡ a = cc in sym t) in
         let n : path a (paint id look x rest) ≡ [] = path_absent a (paint id look x rest) (ap (λ m. has m (paint id look x rest)) s ∙ away) in
-        (λ i. sym (is_it q id h) i ∷ []) ∙ ap (λ t. q ∷ t) (sym n)
+        (λ i. sym (eqb-true q id h) i ∷ []) ∙ ap (λ t. q ∷ t) (sym n)
     go r false h e = r e ∙ ap (λ t. q ∷ t) (sym (elsewhere (parent_in q above a rest e)))
       where
         elsewhere : (a ≡ above) ⊎ (has a rest ≡ true) → cond (eqb a id) (id ∷ []) (path a rest) ≡ path a rest
@@ -63,11 +57,11 @@ climbs q above a (group id look nodes rest) d away e = go (λ h. climbs q id a n
     go m r true h t i e =
         let s : a ≡ above = (let t : above ≡ a = cc in sym t) in
         let n : path a (group id look nodes rest) ≡ [] = path_absent a (group id look nodes rest) (ap (λ m. has m (group id look nodes rest)) s ∙ away) in
-        (λ j. sym (is_it q id h) j ∷ []) ∙ ap (λ t. q ∷ t) (sym n)
+        (λ j. sym (eqb-true q id h) j ∷ []) ∙ ap (λ t. q ∷ t) (sym n)
     go m r false h true i e = ap (λ t. t ++ id ∷ []) (m e) ∙ ap (λ t. q ∷ t) (inside (parent_in q id a nodes e))
       where
         inside : (a ≡ id) ⊎ (has a nodes ≡ true) → path a nodes ++ id ∷ [] ≡ cond (eqb a id) (id ∷ []) (cond (has a nodes) (path a nodes ++ id ∷ []) (path a rest))
-        inside (inl s) = ap (λ t. t ++ id ∷ []) (path_absent a nodes (ap (λ m. has m nodes) s ∙ d.0)) ∙ sym (taken (eqb a id) _ _ (ap (λ m. eqb m id) s ∙ same_id id))
+        inside (inl s) = ap (λ t. t ++ id ∷ []) (path_absent a nodes (ap (λ m. has m nodes) s ∙ d.0)) ∙ sym (taken (eqb a id) _ _ (ap (λ m. eqb m id) s ∙ equal_test id))
         inside (inr t) = sym (kept (eqb a id) _ _ (other_than a id nodes d.0 t) ∙ taken (has a nodes) _ _ t)
     go m r false h false i e = r e ∙ ap (λ t. q ∷ t) (sym (elsewhere (parent_in q above a rest e)))
       where

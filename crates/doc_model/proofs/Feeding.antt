@@ -11,6 +11,7 @@ use Rattle.doc_model.specs.Strokes.{Fate, Ended, Cancelled, Entry, Strokes, Chan
 use Rattle.doc_model.specs.Lawful.{may_follow, within_limits}
 use Rattle.doc_model.specs.Feeding.{is_closed_entry, lawful_after, lawful}
 use Rattle.doc_model.specs.Jobs.{checks}
+use Rattle.std.proofs.lemmas.Bool.{eqb-true}
 
 -- stroke numbers differ
 abbrev pub NumbersDiffer : List Entry → Type 0
@@ -99,12 +100,9 @@ differ_last (x ∷ es) e new d = (
     other : (n : ℕ) → is_stroke n x ≡ true → is_stroke n e ≡ false
     other n h = elim (true_or_false (is_stroke n e)) [ inl k ↦ (let f : is_stroke n x ≡ false = none_left (is_stroke n x) _ (new n k) in cc) | inr k ↦ k ]
 
-same_number : (n m : ℕ) → eqb n m ≡ true → n ≡ m
-same_number n m e = grind (arith, nat_tests)
-
 differ_fed : (es : List Entry) (c : Command) → may_follow es c ≡ true → NumbersDiffer es → NumbersDiffer (fed es c)
 differ_fed es (command.Change change) h d = differ_last es (Changes change) (λ n k. absurd (let t : false ≡ true = k in cc)) d
-differ_fed es (command.Stroke number layer exclusive) h d = differ_last es _ (λ n k. ap (λ m. list_any (is_stroke m) es) (sym (same_number number n k)) ∙ not_true _ h) d
+differ_fed es (command.Stroke number layer exclusive) h d = differ_last es _ (λ n k. ap (λ m. list_any (is_stroke m) es) (sym (eqb-true number n k)) ∙ not_true _ h) d
 differ_fed es (command.Add n kind job) h d = differ_touched n _ (with_job_touches n kind job) es d
 differ_fed es (command.End n) h d = differ_touched n _ (with_fate_touches n Ended) es d
 differ_fed es (command.Cancel n) h d = differ_touched n _ (with_fate_touches n Cancelled) es d

@@ -14,6 +14,7 @@ use Rattle.doc_model.proofs.Weights.{IsTree, within_absent, tree_distinct}
 use Rattle.doc_model.proofs.TreeLaws.{without_none}
 use Rattle.doc_model.proofs.TreeChanges.{answered, new_may, place_may, tree_without}
 use Rattle.doc_model.proofs.Paths.{group_has, other_than}
+use Rattle.std.proofs.lemmas.Bool.{not-false}
 
 height_join : {A : Type 0} (a b : Forest A) → height (join a b) ≡ max (height a) (height b)
 height_join none b = omega arith
@@ -177,10 +178,6 @@ module _ {A : Type 0} where
           let f : (has c (only q nodes) || has c (only q rest)) ≡ false = sym (has_join c (only q nodes) (only q rest)) ∙ h in
           ap (λ b. eqb c id || (b || is_group c (without q rest))) (m (none_left (has c (only q nodes)) _ f)) ∙ ap (λ b. eqb c id || (is_group c nodes || b)) (r (none_right (has c (only q nodes)) _ f))
 
-not_not : (b : Bool) → not b ≡ false → b ≡ true
-not_not true e = refl
-not_not false e = cc
-
 not_below : (n : ℕ) → ltb 16 n ≡ false → n ≤ 16
 not_below n e = grind (arith, nat_tests)
 
@@ -195,7 +192,7 @@ new_high : {A : Type 0} (id above place : ℕ) (nodes f : Forest A) → height n
 new_high id above place nodes f one ok t high =
     let may = new_may id above place f ok in
     let low : depth above f + 1 ≤ 16 = not_below _ may.4 in
-    height_set_in above place 16 nodes f (tree_distinct f t) (not_not _ may.2) (omega arith) high (omega arith)
+    height_set_in above place 16 nodes f (tree_distinct f t) (not-false _ may.2) (omega arith) high (omega arith)
 
 height_only_le : (d h : ℕ) → d + h ≤ 16 → h ≤ 16
 height_only_le d h e = omega arith
@@ -218,7 +215,7 @@ height_changed fresh (change.Place id above place) f new e t high =
     let d : Distinct f = tree_distinct f t in
     let low : depth above f + height (only id f) ≤ 16 = not_below _ may.4 in
     let same : depth above (without id f) ≡ depth above f = depth_without id above f d may.3 in
-    let groups : takes above (without id f) ≡ true = ap (λ b. eqb above 0 || b) (group_without id above f d may.3) ∙ not_not _ may.2 in
+    let groups : takes above (without id f) ≡ true = ap (λ b. eqb above 0 || b) (group_without id above f d may.3) ∙ not-false _ may.2 in
     let h : height (without id f) ≤ height f = height_without id f in
     subst (λ n. height n ≤ 16) a.1 (height_set_in above place 16 (only id f) (without id f) (tree_distinct (without id f) (tree_without id f t)) groups (omega arith) (omega arith) (height_only_le (depth above f) (height (only id f)) low))
 height_changed fresh (change.Look id look) f new e t high =

@@ -4,7 +4,7 @@ use Rattle.std.specs.Prelude.{ℤ, pos, negsuc, ◌+ℤ◌, ◌≤ℤ◌, int_le
 use borrow.Author.Differences.{ints}
 use Rattle.geom_core.specs.Areas.{Area, right, lies_in, moved, world}
 use Rattle.geom_core.specs.Rects.{IsInWorld}
-use Rattle.geom_core.proofs.Tests.{true_or_false, and_left, and_right, both_true}
+use Rattle.geom_core.proofs.Tests.{true_or_false, and_left, and_right, both_true, no_first, no_second}
 
 axis : (b x y e : ℤ) → b ≤ℤ x → y ≤ℤ e → (int_le b x && int_le y e) ≡ true
 axis b x y e h k = grind (arith, ints)
@@ -45,13 +45,6 @@ err_outside (Err f) a b e h = subst (λ c. lies_in c world ≡ false) e (outside
 far_axis : (x d : ℤ) (n : ℕ) → (int_le world.x x && int_le (x +ℤ pos n) (pos 16384)) ≡ true → 1 ≤ n → (int_le (negsuc 32766) d && int_le d (pos 32767)) ≡ false
     → (int_le world.x (x +ℤ d) && int_le ((x +ℤ d) +ℤ pos n) (pos 16384)) ≡ false
 far_axis x d n h some far = grind (arith, ints)
-
-no_first : (a b : Bool) → a ≡ false → (a && b) ≡ false
-no_first a b e = rw e refl
-
-no_second : (a b : Bool) → b ≡ false → (a && b) ≡ false
-no_second true b e = e
-no_second false b e = refl
 
 pub far_across : (a : Area) (d e : ℤ) → lies_in a world ≡ true → 1 ≤ a.w → (int_le (negsuc 32766) d && int_le d (pos 32767)) ≡ false → lies_in (moved a d e) world ≡ false
 far_across a d e h some far = no_first _ _ (far_axis a.x d a.w (and_left _ _ h) some far)

@@ -2,7 +2,7 @@
 use Rattle.std.proofs.Common.{◌≡◌, ℕ, suc, zero, ◌+◌, Bool, true, false, ◌||◌, not, cond, Option, Some, None, is_some, Result, Ok, Err, [], ◌∷◌, refl, sym, ap, ◌∙◌, arith, eqb, ltb, max, inl, inr}
 use Rattle.std.proofs.lemmas.Bool.Decides.{nat_tests}
 use Rattle.pixel_core.specs.Rgba.{Rgba}
-use Rattle.geom_core.proofs.Tests.{none_right, true_or_false, kept}
+use Rattle.geom_core.proofs.Tests.{none_right, true_or_false, kept, or_same, same_choice, cond_same}
 use Rattle.doc_model.specs.declared.tree.Look.{Look}
 use Rattle.doc_model.specs.declared.tree.Change.{Change}
 use Rattle.doc_model.specs.declared.tree.Change.TheVariants as change
@@ -15,15 +15,6 @@ use Rattle.doc_model.specs.Readers.{parent}
 use Rattle.doc_model.specs.Changes.{changed, answer, first_of_faults, no_new, no_place, no_node, child_count, set_in, new_look}
 use Rattle.doc_model.proofs.SameContent.{content_has}
 use Rattle.doc_model.proofs.TreeChanges.{new_may}
-
-or_same : {a b c d : Bool} → a ≡ b → c ≡ d → (a || c) ≡ (b || d)
-or_same e f i = e i || f i
-
-cond_same : {A : Type 0} (b : Bool) {x y z w : A} → x ≡ y → z ≡ w → cond b x z ≡ cond b y w
-cond_same b f g i = cond b (f i) (g i)
-
-test_same : {A : Type 0} {b c : Bool} {x y z w : A} → b ≡ c → x ≡ y → z ≡ w → cond b x z ≡ cond c y w
-test_same e f g i = cond (e i) (f i) (g i)
 
 pub through_cond : {A B : Type 0} (f : A → B) (b : Bool) (x y : A) → f (cond b x y) ≡ cond b (f x) (f y)
 through_cond f true x y = refl
@@ -155,24 +146,24 @@ module _ {A B : Type 0} (g : ℕ → A → B) where
   each_within q c d e none = refl
   each_within q c d e (paint id look x rest) = ap (paint id look (g id x)) (each_within q c d e rest)
   each_within q c d e (group id look nodes rest) = same_group id look
-      (through_cond (each g) (eqb q id) (c nodes) (within q c nodes) ∙ cond_same (eqb q id) (e nodes) (each_within q c d e nodes)) (each_within q c d e rest)
+      (through_cond (each g) (eqb q id) (c nodes) (within q c nodes) ∙ same_choice (eqb q id) (e nodes) (each_within q c d e nodes)) (each_within q c d e rest)
 
   each_without : (q : ℕ) (f : Forest A) → each g (without q f) ≡ without q (each g f)
   each_without q none = refl
-  each_without q (paint id look x rest) = through_cond (each g) (eqb q id) (without q rest) (paint id look x (without q rest)) ∙ cond_same (eqb q id) (each_without q rest) (ap (paint id look (g id x)) (each_without q rest))
-  each_without q (group id look nodes rest) = through_cond (each g) (eqb q id) (without q rest) (group id look (without q nodes) (without q rest)) ∙ cond_same (eqb q id) (each_without q rest) (same_group id look (each_without q nodes) (each_without q rest))
+  each_without q (paint id look x rest) = through_cond (each g) (eqb q id) (without q rest) (paint id look x (without q rest)) ∙ same_choice (eqb q id) (each_without q rest) (ap (paint id look (g id x)) (each_without q rest))
+  each_without q (group id look nodes rest) = through_cond (each g) (eqb q id) (without q rest) (group id look (without q nodes) (without q rest)) ∙ same_choice (eqb q id) (each_without q rest) (same_group id look (each_without q nodes) (each_without q rest))
 
   each_only : (q : ℕ) (f : Forest A) → each g (only q f) ≡ only q (each g f)
   each_only q none = refl
-  each_only q (paint id look x rest) = through_cond (each g) (eqb q id) (paint id look x none) (only q rest) ∙ cond_same (eqb q id) refl (each_only q rest)
+  each_only q (paint id look x rest) = through_cond (each g) (eqb q id) (paint id look x none) (only q rest) ∙ same_choice (eqb q id) refl (each_only q rest)
   each_only q (group id look nodes rest) = through_cond (each g) (eqb q id) (group id look nodes none) (join (only q nodes) (only q rest))
-      ∙ cond_same (eqb q id) refl (each_join (only q nodes) (only q rest) ∙ (λ i. join (each_only q nodes i) (each_only q rest i)))
+      ∙ same_choice (eqb q id) refl (each_join (only q nodes) (only q rest) ∙ (λ i. join (each_only q nodes i) (each_only q rest i)))
 
   each_children : (q : ℕ) (f : Forest A) → each g (children q f) ≡ children q (each g f)
   each_children q none = refl
   each_children q (paint id look x rest) = each_children q rest
   each_children q (group id look nodes rest) = through_cond (each g) (eqb q id) nodes (join (children q nodes) (children q rest))
-      ∙ cond_same (eqb q id) refl (each_join (children q nodes) (children q rest) ∙ (λ i. join (each_children q nodes i) (each_children q rest i)))
+      ∙ same_choice (eqb q id) refl (each_join (children q nodes) (children q rest) ∙ (λ i. join (each_children q nodes i) (each_children q rest i)))
 
   each_with_look : (q : ℕ) (new : Look) (f : Forest A) → each g (with_look q new f) ≡ with_look q new (each g f)
   each_with_look q new none = refl
@@ -206,20 +197,20 @@ module _ {A B : Type 0} (g : ℕ → A → B) where
 
   depth_each : (q : ℕ) (f : Forest A) → depth q (each g f) ≡ depth q f
   depth_each q none = refl
-  depth_each q (paint id look x rest) = cond_same (eqb q id) refl (depth_each q rest)
-  depth_each q (group id look nodes rest) = cond_same (eqb q id) refl (test_same (has_each q nodes) (ap suc (depth_each q nodes)) (depth_each q rest))
+  depth_each q (paint id look x rest) = same_choice (eqb q id) refl (depth_each q rest)
+  depth_each q (group id look nodes rest) = same_choice (eqb q id) refl (cond_same (has_each q nodes) (ap suc (depth_each q nodes)) (depth_each q rest))
 
   pub parent_each : (q above : ℕ) (f : Forest A) → parent q above (each g f) ≡ parent q above f
   parent_each q above none = refl
-  parent_each q above (paint id look x rest) = cond_same (eqb q id) refl (parent_each q above rest)
-  parent_each q above (group id look nodes rest) = cond_same (eqb q id) refl (test_same (has_each q nodes) (parent_each q id nodes) (parent_each q above rest))
+  parent_each q above (paint id look x rest) = same_choice (eqb q id) refl (parent_each q above rest)
+  parent_each q above (group id look nodes rest) = same_choice (eqb q id) refl (cond_same (has_each q nodes) (parent_each q id nodes) (parent_each q above rest))
 
   each_set_in : (q place : ℕ) (nodes f : Forest A) → each g (set_in q place nodes f) ≡ set_in q place (each g nodes) (each g f)
   each_set_in q place nodes f = through_cond (each g) (eqb q 0) (inserted place nodes f) (within q (inserted place nodes) f)
-      ∙ cond_same (eqb q 0) (each_inserted place nodes f) (each_within q (inserted place nodes) (inserted place (each g nodes)) (each_inserted place nodes) f)
+      ∙ same_choice (eqb q 0) (each_inserted place nodes f) (each_within q (inserted place nodes) (inserted place (each g nodes)) (each_inserted place nodes) f)
 
   child_count_each : (q : ℕ) (f : Forest A) → child_count q (each g f) ≡ child_count q f
-  child_count_each q f = cond_same (eqb q 0) (width_each f) (ap width (sym (each_children q f)) ∙ width_each (children q f))
+  child_count_each q f = same_choice (eqb q 0) (width_each f) (ap width (sym (each_children q f)) ∙ width_each (children q f))
 
   no_new_each : (id above place : ℕ) (f : Forest A) → no_new id above place (each g f) ≡ no_new id above place f
   no_new_each id above place f = λ i. first_of_faults (

@@ -3,7 +3,7 @@ use Rattle.std.proofs.Common.{◌≡◌, suc, ◌+◌, ◌≤◌, Bool, true, fa
 use Rattle.std.specs.Prelude.{pos, nat_le}
 use Rattle.std.specs.List.{list_any, list_all, filter, filter_map}
 use Rattle.std.proofs.lemmas.Bool.Decides.{nat_tests}
-use Rattle.geom_core.proofs.Tests.{and_left, and_right, both_true, none_left, none_right, not_true}
+use Rattle.geom_core.proofs.Tests.{and_left, and_right, both_true, none_left, none_right, not_true, length_map}
 use Rattle.geom_core.proofs.Lying.{lies_trans, bound_lies, common_lies_left, common_lies_right, same_key-same, cell_of_common, same_cell_key}
 use Rattle.geom_core.specs.Areas.{Area, meets, lies_in}
 use Rattle.geom_core.specs.Overlaps.{bound, common, clipped}
@@ -184,10 +184,6 @@ map_placed canvas walk part (p ∷ ps) h i = both_true _ _ (merged_placed canvas
 merge_placed : (canvas : Area) (walk : Walk) (more : List Area) (ps : List Patch) → list_all (λ part. in_place canvas (patch walk part)) more ≡ true → list_all (in_place canvas) ps ≡ true → list_all (in_place canvas) (merge_all walk more ps) ≡ true
 merge_placed canvas walk [] ps h i = i
 merge_placed canvas walk (part ∷ more) ps h i = merge_placed canvas walk more (map (merged walk part) ps) (and_right (in_place canvas (patch walk part)) _ h) (map_placed canvas walk part ps (and_left (in_place canvas (patch walk part)) _ h) i)
-
-pub length_map : {A B : Type 0} (f : A → B) (xs : List A) → length (map f xs) ≡ length xs
-length_map f [] = refl
-length_map f (x ∷ xs) = ap suc (length_map f xs)
 
 pub length_merge : (walk : Walk) (more : List Area) (ps : List Patch) → length (merge_all walk more ps) ≡ length ps
 length_merge walk [] ps = refl

@@ -4,7 +4,7 @@ use Rattle.std.specs.List.{list_any}
 use Rattle.std.proofs.lemmas.Bool.Decides.{nat_tests}
 use Rattle.std.proofs.lemmas.List.Folds.{list_any-append}
 pub use Rattle.geom_core.proofs.Tests.{or_cases}
-use Rattle.geom_core.proofs.Tests.{none_left, none_right, taken, kept, or_left, or_right, neither}
+use Rattle.geom_core.proofs.Tests.{none_left, none_right, taken, kept, or_left, or_right, neither, equal_test, or_again, same_choice}
 use Rattle.doc_model.specs.declared.tree.Look.{Look}
 use Rattle.doc_model.specs.Forest.{Forest, none, paint, group, has, is_group, join, children, content, with_content, or_else}
 use Rattle.doc_model.specs.Readers.{parent, path, order}
@@ -14,21 +14,11 @@ use Rattle.doc_model.proofs.Parents.{Distinct, side, side_has, child_has}
 abbrev pub on : ℕ → List ℕ → Bool
 on g gs = list_any (λ q. eqb q g) gs
 
-equal_test : (d : ℕ) → eqb d d ≡ true
-equal_test d = grind (arith, nat_tests)
-
 turned : (a b : ℕ) → eqb a b ≡ eqb b a
 turned a b = grind (arith, nat_tests)
 
-or_assoc : (a b c : Bool) → (a || (b || c)) ≡ ((a || b) || c)
-or_assoc true b c = refl
-or_assoc false b c = refl
-
 pub on_append : (g : ℕ) (as' bs : List ℕ) → on g (as' ++ bs) ≡ (on g as' || on g bs)
 on_append g as' bs = list_any-append (λ q. eqb q g) as' bs
-
-same_choice : {B : Type 0} (b : Bool) {x x' y y' : B} → x ≡ x' → y ≡ y' → cond b x y ≡ cond b x' y'
-same_choice b e h i = cond b (e i) (h i)
 
 -- q isn't this node, which is elsewhere
 pub other_than : {A : Type 0} (q id : ℕ) (f : Forest A) → has id f ≡ false → has q f ≡ true → eqb q id ≡ false
@@ -82,8 +72,8 @@ child_group {A = A} g c (group id look nodes rest) e = go (λ h. child_group g c
   where
     side_join : (a b : Forest A) → side c (join a b) ≡ (side c a || side c b)
     side_join none b = refl
-    side_join (paint id look x rest) b = ap (λ s. eqb c id || s) (side_join rest b) ∙ or_assoc (eqb c id) (side c rest) (side c b)
-    side_join (group id look nodes rest) b = ap (λ s. eqb c id || s) (side_join rest b) ∙ or_assoc (eqb c id) (side c rest) (side c b)
+    side_join (paint id look x rest) b = ap (λ s. eqb c id || s) (side_join rest b) ∙ or_again (eqb c id) (side c rest) (side c b)
+    side_join (group id look nodes rest) b = ap (λ s. eqb c id || s) (side_join rest b) ∙ or_again (eqb c id) (side c rest) (side c b)
 
     go : (side c (children g nodes) ≡ true → is_group g nodes ≡ true) → (side c (children g rest) ≡ true → is_group g rest ≡ true) → (b : Bool) → eqb g id ≡ b
         → side c (cond b nodes (join (children g nodes) (children g rest))) ≡ true → (eqb g id || (is_group g nodes || is_group g rest)) ≡ true
@@ -378,7 +368,7 @@ module _ {A : Type 0} where
 
   side_paint_join : (q : ℕ) (a b : Forest A) → side_paint q (join a b) ≡ (side_paint q a || side_paint q b)
   side_paint_join q none b = refl
-  side_paint_join q (paint id look x rest) b = ap (λ s. eqb q id || s) (side_paint_join q rest b) ∙ or_assoc (eqb q id) (side_paint q rest) (side_paint q b)
+  side_paint_join q (paint id look x rest) b = ap (λ s. eqb q id || s) (side_paint_join q rest b) ∙ or_again (eqb q id) (side_paint q rest) (side_paint q b)
   side_paint_join q (group id look nodes rest) b = side_paint_join q rest b
 
   same_id : (q id : ℕ) (f : Forest A) → eqb q id ≡ true → has id f ≡ false → has q f ≡ false

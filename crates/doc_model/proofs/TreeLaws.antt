@@ -1,13 +1,10 @@
 -- A new layer that is removed leaves the document as it was.
 use Rattle.std.proofs.Common.{◌≡◌, ℕ, suc, zero, Bool, true, false, cond, refl, ap, ◌∙◌, arith, eqb}
 use Rattle.std.proofs.lemmas.Bool.Decides.{nat_tests}
-use Rattle.geom_core.proofs.Tests.{none_left, none_right, taken, kept}
+use Rattle.geom_core.proofs.Tests.{none_left, none_right, taken, kept, equal_test}
 use Rattle.doc_model.specs.declared.tree.Look.{Look}
 use Rattle.doc_model.specs.Forest.{Forest, none, paint, group, has, inserted, within, without}
 use Rattle.doc_model.specs.Changes.{set_in}
-
-equal_test : (d : ℕ) → eqb d d ≡ true
-equal_test d = grind (arith, nat_tests)
 
 same_group : {A : Type 0} (id : ℕ) (look : Look) {a a' b b' : Forest A} → a ≡ a' → b ≡ b' → group id look a b ≡ group id look a' b'
 same_group id look e h i = group id look (e i) (h i)

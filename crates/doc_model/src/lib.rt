@@ -1,4 +1,21 @@
 //! Documents of layers and groups: the plain types, and the definitions of what they mean.
+//!
+//! # Decisions
+//!
+//! - A node in the definitions is `paint` or `group`, and the root is the group 0, which no forest has, since
+//!   it has no look, no siblings and no place. With one constructor some walks over trees would be shorter. But
+//!   the language of definitions has no list of a type inside that very type, and the proofs of ten crates go
+//!   by the two to know what has pixels.
+//! - The definitions say `default_pixel` where the code says `ground`, since that word is taken in clauses.
+//! - Places of jobs count from 0 inside; numbers from 1 stand in the pair of a conflict and in outcomes alone.
+//! - Every document that a meaning reaches has each id once and never 0. No rule asks for it, but it follows
+//!   from the refusals, and much rests on it (`changes_keep_limits`, `meaning_keeps_limits`).
+//! - A track is kept inside its job, so that a job stays a value that is copied and compared; to share it would
+//!   need a counted pointer in a command, whose copies may be refused. A command takes 68 bytes for that, in
+//!   place of 40. A track's fields are private, so its type keeps to the limits, and whether its dabs lie in
+//!   the world is asked of its points alone.
+//! - The law of waiting updates speaks of any choice of walks that has the walk of all groups whenever it has
+//!   any (`queued_covers`); the machine applies it to its own paths.
 #![tactic(auto)]
 
 mod canvas;

@@ -18,9 +18,7 @@ use Rattle.entry_queue.specs.declared.entry.Entry.{Entry}
 use Rattle.entry_queue.specs.declared.entry.Entry.TheVariants.{Waiting, Whole, Other}
 use Rattle.entry_queue.specs.Pushed.{closed, grown, has_room, is_waiting, is_numbered, pushed, with_job}
 use Rattle.entry_queue.specs.Keys.{entries_at, with_first, Differ, IsFound, IsIndexed}
-
-equal : (a b : ℕ) → eqb a b ≡ true → a ≡ b
-equal a b e = grind (arith, nat_tests)
+use Rattle.std.proofs.lemmas.Bool.{eqb-true, eq-eqb}
 
 unequal : (a b : ℕ) → eqb a b ≡ false → a ≢ b
 unequal a b e = grind (arith, nat_tests)
@@ -68,7 +66,7 @@ entries_changed slots new waiting [] n key change e all known old now same stays
 entries_changed slots new waiting (k ∷ ks) n key change e all known old now same stays =
     let rest : entries_at new ks ≡ map change (entries_at slots ks) = entries_changed slots new waiting ks n key change e all.1 known old now same stays in
     elim (true_or_false (eqb k key)) [
-      | inl h ↦ (let is_key : k ≡ key = equal k key h in (λ i. with_first ((ap new is_key ∙ now) i) (rest i)) ∙ sym (ap (λ o. map change (with_first o (entries_at slots ks))) (ap slots is_key ∙ old)))
+      | inl h ↦ (let is_key : k ≡ key = eqb-true k key h in (λ i. with_first ((ap new is_key ∙ now) i) (rest i)) ∙ sym (ap (λ o. map change (with_first o (entries_at slots ks))) (ap slots is_key ∙ old)))
       | inr h ↦ (let other : k ≢ key = unequal k key h in (λ i. with_first (same k other i) (rest i)) ∙ here other (slots k) refl)
     ]
   where
@@ -77,7 +75,7 @@ entries_changed slots new waiting (k ∷ ks) n key change e all known old now sa
     here other (Some x) h = (λ i. sym (stays x (elim (true_or_false (is_waiting n x)) [ inl w ↦ absurd (other (is_key x h w)) | inr w ↦ w ])) i ∷ map change (entries_at slots ks))
       where
         is_key : (x : Entry) → slots k ≡ Some x → is_waiting n x ≡ true → k ≡ key
-        is_key (Waiting s) h w = let number : s.no ≡ n = equal s.no n w in let found : Some k ≡ Some key = sym (all.0.known s h) ∙ ap waiting number ∙ known in cc
+        is_key (Waiting s) h w = let number : s.no ≡ n = eqb-true s.no n w in let found : Some k ≡ Some key = sym (all.0.known s h) ∙ ap waiting number ∙ known in cc
         is_key (Whole c) h w = cc
         is_key (Other c) h w = cc
 
@@ -95,7 +93,7 @@ find_waiting slots waiting [] n test all tests h = cc
 find_waiting slots waiting (k ∷ ks) n test all tests h = go (find_waiting slots waiting ks n test all.1 tests) (slots k) refl h
   where
     here : (e : Entry) → slots k ≡ Some e → test e ≡ true → is_waiting n e ≡ true → IsAt slots waiting n test
-    here (Waiting s) e t w = let number : s.no ≡ n = equal s.no n w in record { key = k; stroke = s; number = number; known = ap waiting (sym number) ∙ all.0.known s e; held = e; passes = t }
+    here (Waiting s) e t w = let number : s.no ≡ n = eqb-true s.no n w in record { key = k; stroke = s; number = number; known = ap waiting (sym number) ∙ all.0.known s e; held = e; passes = t }
     here (Whole c) e t w = cc
     here (Other c) e t w = cc
 
@@ -113,7 +111,7 @@ found_grown slots new waiting ks key job s all old now same = all_map (IsFound s
   where
     each : (k : ℕ) → IsFound slots waiting k → IsFound new waiting k
     each k found = elim (true_or_false (eqb k key)) [
-      | inl h ↦ (let is_key : k ≡ key = equal k key h in record {
+      | inl h ↦ (let is_key : k ≡ key = eqb-true k key h in record {
         held = ap is_some (ap new is_key ∙ now);
         known = λ u e. let w : Some (Waiting u) ≡ Some (Waiting (grown s job)) = sym e ∙ ap new is_key ∙ now in let v : u ≡ grown s job = cc in ap (λ (x : Fed). waiting x.no) v ∙ found.known s (ap slots is_key ∙ old);
       })
@@ -129,7 +127,7 @@ found_closed slots new waiting less ks n key e all known now closed same rest = 
   where
     each : (k : ℕ) → IsFound slots waiting k → IsFound new less k
     each k found = elim (true_or_false (eqb k key)) [
-      | inl h ↦ (let is_key : k ≡ key = equal k key h in record {
+      | inl h ↦ (let is_key : k ≡ key = eqb-true k key h in record {
         held = ap is_some (ap new is_key ∙ now);
         known = λ u f. absurd (let g : Some e ≡ Some (Waiting u) = sym (ap new is_key ∙ now) ∙ f in let v : e ≡ Waiting u = cc in closed u v);
       })
@@ -261,9 +259,6 @@ find_stroke slots waiting ks n h any = find_waiting slots waiting ks n (is_waiti
 pub room_of : (n : ℕ) (s : Fed) → has_room n (Waiting s) ≡ true → length s.jobs < 4096
 room_of n s h = let t : nat_lt (length s.jobs) 4096 ≡ true = and_right (eqb s.no n) _ h in grind (arith, nat_tests)
 
-same_number : (a b : ℕ) → a ≡ b → eqb a b ≡ true
-same_number a b e = grind (arith, nat_tests)
-
 job_stays : (n : ℕ) (job : Kind × Job) (e : Entry) → is_waiting n e ≡ false → with_job n job e ≡ e
 job_stays n job (Waiting s) h = kept (eqb s.no n) (Waiting (grown s job)) (Waiting s) h
 job_stays n job (Whole c) h = refl
@@ -277,12 +272,12 @@ close_stays n cancelled (Other c) h = refl
 -- one more job of the stroke under a key
 pub left_added : (slots new : ℕ → Option Entry) (waiting : ℕ → Option ℕ) (ks : List ℕ) (n key : ℕ) (job : Kind × Job) (s : Fed) → IsIndexed slots waiting ks → waiting n ≡ Some key → slots key ≡ Some (Waiting s) → s.no ≡ n → IsReplaced slots new key (Waiting (grown s job)) → entries_at new ks ≡ map (with_job n job) (entries_at slots ks)
 left_added slots new waiting ks n key job s h known old number r =
-    entries_changed slots new waiting ks n key (with_job n job) (Waiting s) h.each known old (r.now ∙ sym (ap Some (taken (eqb s.no n) (Waiting (grown s job)) (Waiting s) (same_number s.no n number)))) r.others (job_stays n job)
+    entries_changed slots new waiting ks n key (with_job n job) (Waiting s) h.each known old (r.now ∙ sym (ap Some (taken (eqb s.no n) (Waiting (grown s job)) (Waiting s) (eq-eqb s.no n number)))) r.others (job_stays n job)
 
 -- the close of the stroke under a key
 pub left_closed : (slots new : ℕ → Option Entry) (waiting : ℕ → Option ℕ) (ks : List ℕ) (n key : ℕ) (cancelled : Bool) (s : Fed) (c : Closed) → IsIndexed slots waiting ks → waiting n ≡ Some key → slots key ≡ Some (Waiting s) → s.no ≡ n → IsReplaced slots new key (Whole c) → c ≡ record { stroke = s; cancelled = cancelled } → entries_at new ks ≡ map (closed n cancelled) (entries_at slots ks)
 left_closed slots new waiting ks n key cancelled s c h known old number r same =
-    entries_changed slots new waiting ks n key (closed n cancelled) (Waiting s) h.each known old (r.now ∙ ap (λ f. Some (Whole f)) same ∙ sym (ap Some (taken (eqb s.no n) (Whole (record { stroke = s; cancelled = cancelled })) (Waiting s) (same_number s.no n number)))) r.others (close_stays n cancelled)
+    entries_changed slots new waiting ks n key (closed n cancelled) (Waiting s) h.each known old (r.now ∙ ap (λ f. Some (Whole f)) same ∙ sym (ap Some (taken (eqb s.no n) (Whole (record { stroke = s; cancelled = cancelled })) (Waiting s) (eq-eqb s.no n number)))) r.others (close_stays n cancelled)
 
 pub indexed_grown : (slots new : ℕ → Option Entry) (waiting : ℕ → Option ℕ) (ks : List ℕ) (key : ℕ) (job : Kind × Job) (s : Fed) → IsIndexed slots waiting ks → slots key ≡ Some (Waiting s) → IsReplaced slots new key (Waiting (grown s job)) → IsIndexed new waiting ks
 indexed_grown slots new waiting ks key job s h old r = record { each = found_grown slots new waiting ks key job s h.each old r.now r.others; differ = h.differ }

@@ -2,3 +2,4 @@ pub mod Indexed
 pub mod Standing
 pub mod Taking
 pub mod Heads
+pub mod Shut

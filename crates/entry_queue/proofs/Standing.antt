@@ -1,7 +1,7 @@
 -- The queue keeps the entries of all commands but for those with an outcome.
 use Rattle.std.proofs.Common.{◌≡◌, ℕ, suc, zero, ◌≤◌, Bool, true, false, ◌&&◌, ◌||◌, List, [], ◌∷◌, ◌++◌, map, not, length, drop, take, Option, Some, None, refl, sym, ap, ◌∙◌, arith, subst, eqb, inl, inr}
 use Rattle.std.specs.List.{AllByRecursion, list_any, list_all}
-use Rattle.geom_core.proofs.Tests.{and_left, and_right, both_true, or_cases, or_left, or_right, true_or_false, taken, kept}
+use Rattle.geom_core.proofs.Tests.{and_left, and_right, both_true, or_cases, or_left, or_right, true_or_false, taken, kept, length_more}
 use Rattle.doc_model.specs.declared.job.Job.{Job}
 use Rattle.doc_model.specs.declared.job.Kind.{Kind}
 use Rattle.doc_model.specs.declared.command.Command.{Command}
@@ -44,10 +44,6 @@ all_drop : {A : Type 0} (P : A → Type 0) (k : ℕ) (xs : List A) → AllByRecu
 all_drop P zero xs all = all
 all_drop P (suc k) [] all = tt
 all_drop P (suc k) (x ∷ xs) all = all_drop P k xs all.1
-
-length_more : {A : Type 0} (xs : List A) (x : A) → length (xs ++ x ∷ []) ≡ suc (length xs)
-length_more [] x = refl
-length_more (y ∷ xs) x = ap suc (length_more xs x)
 
 -- what may be fed last, and what was fed before
 pub lawful_split : (es : List doc.Entry) (cs : List Command) (c : Command) → lawful_after es (cs ++ c ∷ []) ≡ true → (lawful_after es cs ≡ true) × (may_follow (all_fed es cs) c ≡ true)

@@ -3,7 +3,7 @@ use Rattle.std.proofs.Common.{◌≡◌, ℕ, suc, zero, ◌≤◌, Bool, true, 
 use Rattle.std.specs.Prelude.{nat_lt}
 use Rattle.std.specs.List.{AllByRecursion, list_any, list_all}
 use Rattle.std.proofs.lemmas.Bool.Decides.{nat_tests}
-use Rattle.geom_core.proofs.Tests.{and_left, and_right, both_true, or_cases, or_left, or_right, true_or_false, not_true}
+use Rattle.geom_core.proofs.Tests.{and_left, and_right, both_true, or_cases, or_left, or_right, true_or_false, not_true, and-false, and-true}
 use Rattle.doc_model.specs.declared.job.Job.{Job}
 use Rattle.doc_model.specs.declared.job.Kind.{Kind}
 use Rattle.doc_model.specs.declared.command.Command.{Command}
@@ -20,14 +20,6 @@ use Rattle.doc_model.proofs.Feeding.{NumbersDiffer, lawful_differ}
 use Rattle.entry_queue.specs.declared.entry.Entry.{Entry}
 use Rattle.entry_queue.specs.Pushed.{Pending, StandsFor, has_room, is_numbered, is_waiting, kept_of, queued, stroke_of, takes}
 use Rattle.entry_queue.proofs.Standing.{any_open_is_stroke, lawful_split, open_is_stroke}
-
-and_none : (b : Bool) → (b && false) ≡ false
-and_none true = refl
-and_none false = refl
-
-and_all : (b : Bool) → (b && true) ≡ b
-and_all true = refl
-and_all false = refl
 
 numbered_same : (n : ℕ) (e : doc.Entry) → is_numbered n (queued e) ≡ is_stroke n e
 numbered_same n (doc.Strokes s) = go s.fate
@@ -46,9 +38,9 @@ waiting_same : (n : ℕ) (e : doc.Entry) → is_waiting n (queued e) ≡ is_open
 waiting_same n (doc.Strokes s) = go s.fate
   where
     go : (f : Fate) → is_waiting n (stroke_of f (kept_of s)) ≡ (eqb s.no n && is_open f)
-    go Open = sym (and_all (eqb s.no n))
-    go Ended = sym (and_none (eqb s.no n))
-    go Cancelled = sym (and_none (eqb s.no n))
+    go Open = sym (and-true (eqb s.no n))
+    go Ended = sym (and-false (eqb s.no n))
+    go Cancelled = sym (and-false (eqb s.no n))
 waiting_same n (doc.Changes c) = refl
 waiting_same n doc.Undoes = refl
 waiting_same n doc.Redoes = refl

@@ -92,6 +92,17 @@ may_leave (Waiting s ∷ es) = false
 may_leave (Whole c ∷ es) = true
 may_leave (Other c ∷ es) = true
 
+-- whether the entry takes no job any more
+abbrev pub is_shut : Entry → Bool
+is_shut (Waiting s) = false
+is_shut (Whole c) = true
+is_shut (Other c) = true
+
+-- whether so it is of an entry that may be there
+abbrev pub is_shut_if : Option Entry → Bool
+is_shut_if None = true
+is_shut_if (Some e) = is_shut e
+
 -- a stroke with what is kept of its jobs, and their conflict
 abbrev pub kept_of : Stroke → Fed
 kept_of s = record { no = s.no; layer = s.layer; exclusive = s.exclusive; jobs = kept s.jobs; overlap = conflict s.jobs }

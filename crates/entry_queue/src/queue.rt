@@ -1,11 +1,11 @@
 //! The queue.
 
 ghost use Rattle.std.specs.Prelude.{◌≡◌, ◌+◌, ◌<◌, ◌≤◌, true, false, Some, None, List, [], ◌∷◌, ◌++◌, map, drop, length, slice_get, option_copied, option_map, IsNone, IsSomeAnd, ◌↔◌, OnOk, OnErr, vec_len, vec_capacity};
-ghost use Rattle.std.specs.List.{list_any};
+ghost use Rattle.std.specs.List.{list_any, list_all};
 ghost use Rattle.std.specs.VecDeque.{deque_len, deque_capacity};
 ghost use Rattle.slab.specs.Slab.{get, HasRoomFor, SameValues, Updates};
 ghost use Rattle.entry_queue.specs.Keys.{HasWaiting};
-ghost use Rattle.entry_queue.specs.Pushed.{TakesJob, after_job, grown};
+ghost use Rattle.entry_queue.specs.Pushed.{TakesJob, after_job, grown, is_shut, is_shut_if};
 ghost use Rattle.entry_queue.specs.declared.entry.Entry.TheVariants.{Waiting, Whole, Other};
 ghost use Rattle.doc_model.specs.Feeding.{lawful};
 ghost use Rattle.doc_model.specs.Jobs.{checks};
@@ -103,6 +103,15 @@ impl Queue {
         self.entries.get(*self.keys.front()?)
     }
 
+    /// Whether none of the entries that are left takes jobs any more. No memory, and a look-up for each of
+    /// them.
+    pub fn all_shut(&self) -> bool
+        ensures { result ≡ list_all is_shut self.now.left }
+    {
+        let (first, second) = self.keys.as_slices();
+        all_shut(&self.entries, first) && all_shut(&self.entries, second)
+    }
+
     /// Ends the first entry with that outcome.
     pub fn pop(&mut self, outcome: Outcome)
         requires { may_leave self.old.left ≡ true }
@@ -183,6 +192,24 @@ impl Queue {
         let stroke = take_waiting(&mut self.entries, key);
         self.entries
             .insert_reserved(Entry::Whole(close(stroke, cancelled)));
+    }
+}
+
+/// Whether none of the entries under these keys takes jobs any more.
+fn all_shut(entries: &Slab<Entry>, keys: &[usize]) -> bool
+    ensures { result ≡ list_all (λ k. is_shut_if (get entries.now k)) keys.now }
+{
+    keys.iter().all(|key| is_shut_at(entries, *key))
+}
+
+/// Whether the entry under a key, if there is one, takes no job any more.
+fn is_shut_at(entries: &Slab<Entry>, key: usize) -> bool
+    ensures { result ≡ is_shut_if (get entries.now key) }
+{
+    match entries.get(key) {
+        Some(Entry::Waiting(_)) => false,
+        Some(Entry::Whole(_)) | Some(Entry::Other(_)) => true,
+        None => true,
     }
 }
 

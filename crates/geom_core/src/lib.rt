@@ -1,5 +1,17 @@
 //! The world of points: its rectangles, its tiles of 64 by 64 points, by which layers keep their
 //! pixels, and its cells of 256 by 256, by which updates are queued.
+//!
+//! # Decisions
+//!
+//! - Rectangles count from the world's corner inside, as unsigned numbers, and are seen as areas over signed
+//!   ones: arithmetic that mixes signs was the dearest part of the proofs. Numbers of 16 bits were tried:
+//!   scripts were painted a sixth slower, since four short numbers that were just stored are then read as one
+//!   word.
+//! - `TileKey` lists its row before its column, so that the derived order is row order.
+//! - Cells are defined for every rectangle of the world (`cells_of`). Inside the largest canvas they are proved
+//!   to be the parts that the list of waiting updates uses (`parts_are_cells`).
+//! - The rectangle round tiles is defined once, beside the type that tells it (`Touches`), and the machine uses
+//!   the same words.
 #![tactic(auto)]
 
 mod key;

@@ -1,16 +1,14 @@
--- A list of entries cut by a cursor: what is before it from the newest on, and what is behind it.
+-- A list of entries cut by a cursor: what is before it from the newest add_one, and what is behind it.
 use Rattle.std.proofs.Common.{◌≡◌, ℕ, zero, suc, ◌+◌, ◌-◌, ◌<◌, ◌≤◌, List, [], ◌∷◌, ◌++◌, length, take, drop, get_or, refl, sym, ap, subst, ◌∙◌, arith, length-drop}
 use Rattle.std.proofs.Math.Seq.{take-suc, drop-cons, take-append_seam}
 use Rattle.std.proofs.lemmas.List.{reverse-append, drop-set, drop-set-lt, take_more_set, take-append-drop, drop-take, length-reverse, length-take-le, take-set-le}
 use Rattle.std.specs.Prelude.{◌≢◌, ◌⊎◌, reverse, slice_set, Option, Some, None, IsSome, OnSome, IfNone, IfSome}
 use Rattle.history_core.specs.Stacks.{Stack, IsUndone, IsRedone}
 use Rattle.std.proofs.Common.{inl, inr}
+use Rattle.geom_core.proofs.Tests.{add_one}
 
 back : (n : ℕ) → suc n - 1 ≡ n
 back n = omega arith
-
-on : (n : ℕ) → n + 1 ≡ suc n
-on n = omega arith
 
 pub on_some : {B : Type 0} (r : Option B) (P : Type 0) → (IsSome r → P) → OnSome r P
 on_some None P f = tt
@@ -44,14 +42,14 @@ module _ {A : Type 0} where
       let d = element xs (omega arith) in
       ap (λ k. drop k xs) (back n) ∙ drop-cons xs n d (omega arith) ∙ ap (λ ys. take 1 ys ++ drop (suc n) xs) (sym (newest n xs d (omega arith)))
 
-  -- a cursor that steps on by one
+  -- a cursor that steps add_one by one
   pub past_before : (n : ℕ) (xs : List A) → n < length xs → reverse (take (n + 1) xs) ≡ take 1 (drop n xs) ++ reverse (take n xs)
   past_before n xs h =
       let d = element xs (omega arith) in
-      ap (λ k. reverse (take k xs)) (on n) ∙ newest n xs d h ∙ ap (λ ys. take 1 ys ++ reverse (take n xs)) (sym (drop-cons xs n d h))
+      ap (λ k. reverse (take k xs)) (add_one n) ∙ newest n xs d h ∙ ap (λ ys. take 1 ys ++ reverse (take n xs)) (sym (drop-cons xs n d h))
 
   pub future_before : (n : ℕ) (xs : List A) → n < length xs → drop (n + 1) xs ≡ drop 1 (drop n xs)
-  future_before n xs h = ap (λ k. drop k xs) (on n) ∙ sym (ap (drop 1) (drop-cons xs n (element xs (omega arith)) h))
+  future_before n xs h = ap (λ k. drop k xs) (add_one n) ∙ sym (ap (drop 1) (drop-cons xs n (element xs (omega arith)) h))
 
   -- the entry behind the cursor, changed
   pub future_changed : (n : ℕ) (xs : List A) (w : A) → n < length xs → drop n (slice_set xs n w) ≡ w ∷ drop 1 (drop n xs)
@@ -151,7 +149,7 @@ module _ {A : Type 0} where
   }
     where
       before : reverse (take n xs) ≡ old.past
-      before = sym (ap (drop 1) (ap (λ k. reverse (take k xs)) (e ∙ on n) ∙ newest n xs (element xs (omega arith)) h)) ∙ ap (drop 1) past ∙ after_first old.future old.past some
+      before = sym (ap (drop 1) (ap (λ k. reverse (take k xs)) (e ∙ add_one n) ∙ newest n xs (element xs (omega arith)) h)) ∙ ap (drop 1) past ∙ after_first old.future old.past some
 
   pub nothing_redone : (new old : Stack A) → old.future ≡ [] → new.past ≡ take 1 old.future ++ old.past → new.future ≡ drop 1 old.future → new.spare ≡ old.spare → new ≡ old
   nothing_redone new old none past future spare = λ i. record {
@@ -163,4 +161,4 @@ module _ {A : Type 0} where
   -- the entry before the cursor is the one that has just come there
   pub entry_before : (n done : ℕ) (xs fs ps : List A) (x : A) → done ≡ n + 1 → n < length xs → x ≡ get_or xs n x → reverse (take done xs) ≡ take 1 fs ++ ps → fs ≢ [] → take 1 fs ≡ x ∷ []
   entry_before n done xs fs ps x e h is past some =
-      only_first fs ps x _ some (sym past ∙ ap (λ k. reverse (take k xs)) (e ∙ on n) ∙ newest n xs x h ∙ ap (λ y. y ∷ reverse (take n xs)) (sym is))
+      only_first fs ps x _ some (sym past ∙ ap (λ k. reverse (take k xs)) (e ∙ add_one n) ∙ newest n xs x h ∙ ap (λ y. y ∷ reverse (take n xs)) (sym is))

@@ -1,4 +1,9 @@
 //! The history of a document: what can be undone, and what can be redone.
+//!
+//! # Decisions
+//!
+//! - An undo stack lends the entry that was undone or redone, so that its owner exchanges it for what goes the
+//!   other way. Past and future are seen from the next entry on.
 #![tactic(auto)]
 
 ghost use Rattle.std.specs.Prelude.{◌≡◌, ◌≢◌, ◌+◌, ◌≤◌, [], ◌∷◌, ◌++◌, take, drop, OnOk, OnErr, IsSome, IfSome, ◌↔◌, length};

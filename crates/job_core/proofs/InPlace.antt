@@ -8,7 +8,7 @@ use Rattle.std.proofs.lemmas.List.{get_or-replicate}
 use Rattle.geom_core.specs.Place.{across, down}
 use Rattle.geom_core.specs.Areas.{Area, holds, world, Point}
 use Rattle.geom_core.specs.Rects.{any_holds, IsWithin, IsShared}
-use Rattle.geom_core.proofs.Tests.{and_left, and_right, both_true, or_left, taken}
+use Rattle.geom_core.proofs.Tests.{and_left, and_right, both_true, or_left, taken, or-false}
 use Rattle.geom_core.specs.Grid.{Key, tile}
 use Rattle.geom_core.specs.Keys.{IsWorldKey}
 use Rattle.geom_core.proofs.Spots.{TileSpot, tile_spot}
@@ -27,7 +27,7 @@ use Rattle.job_core.specs.Laid.{Change, ChangesRows, inked, LeavesAll}
 use Rattle.job_core.specs.Dabs.{brushed, brushed_from}
 use Rattle.job_core.specs.Points.{LaysJob}
 use Rattle.job_core.specs.Tasks.{fill_of, dab_of}
-use Rattle.job_core.proofs.Values.{tile_held, or-false}
+use Rattle.job_core.proofs.Values.{tile_held}
 use Rattle.job_core.proofs.DabValues.{Steps, steps}
 
 chosen : (t u : Bool) (x y o o' : Rgba) → t ≡ u → o ≡ o' → (u ≡ true → x ≡ y) → cond t x o ≡ cond u y o'

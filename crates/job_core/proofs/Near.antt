@@ -10,6 +10,7 @@ use Rattle.doc_model.specs.Trails.{distance, along, how_many_on}
 use Rattle.doc_model.specs.Jobs.{square}
 use Rattle.doc_model.proofs.Shares.{up, share_positive, share_negative, multiple_below}
 use Rattle.job_core.specs.Tracks.{stands, reaches, IsBeside, AreWithin, IsNear}
+use Rattle.geom_core.proofs.Tests.{no_first, no_second}
 
 -- along the longer axis each step is one place
 whole_forward : (w n : ℕ) → 1 ≤ w → w * n / w ≡ n
@@ -27,17 +28,6 @@ backward x (pos a) w n o e h = absurd (omega (arith, ints))
 backward x (negsuc a) w n o e h =
     let long : suc a ≡ w = omega (arith, ints) in
     ap (λ z. x +ℤ z) (share_negative a n w o ∙ ap (λ m. pos 0 -ℤ pos (up (m * n) w)) long ∙ ap (λ m. pos 0 -ℤ pos m) (whole_back w n o)) ∙ omega (arith, ints)
-
-no_first : (a b : Bool) → a ≡ false → (a && b) ≡ false
-no_first true b e = absurd (never e)
-  where
-    never : true ≡ false → ⊥
-    never h = cc
-no_first false b e = refl
-
-no_second : (a b : Bool) → b ≡ false → (a && b) ≡ false
-no_second true b e = e
-no_second false b e = refl
 
 -- a place too far before or behind
 not_lt : (a b : ℤ) → b ≤ℤ a → int_lt a b ≡ false

@@ -1,5 +1,5 @@
 -- What a track leaves in a tile.
-use Rattle.std.proofs.Common.{◌≡◌, ℕ, suc, zero, ◌+◌, ◌-◌, ◌*◌, ◌%◌, ◌≤◌, ◌<◌, Bool, true, false, ◌&&◌, ◌||◌, cond, List, [], ◌∷◌, ◌++◌, map, length, drop, get_or, refl, sym, ap, ◌∙◌, subst, arith, inl, inr, ◌⊎◌}
+use Rattle.std.proofs.Common.{◌≡◌, ℕ, suc, zero, ◌+◌, ◌-◌, ◌*◌, ◌%◌, ◌≤◌, ◌<◌, Bool, true, false, ◌&&◌, cond, List, [], ◌∷◌, ◌++◌, map, length, drop, get_or, refl, sym, ap, ◌∙◌, subst, arith, inl, inr}
 use Rattle.std.specs.Prelude.{ℤ, pos, ◌+ℤ◌, ◌-ℤ◌, ◌*ℤ◌, int_lt, nat_abs, nat_le, slice_get, Some}
 use Rattle.std.specs.List.{list_all, list_any, range_with_len}
 use Rattle.std.proofs.lemmas.Bool.Decides.{nat_tests}
@@ -17,7 +17,7 @@ use Rattle.tile_core.specs.Shots.{Sight, sight_at}
 use Rattle.geom_core.specs.Grid.{Key, key, same_key, tile, all_keys_of, keys_of}
 use Rattle.geom_core.specs.Keys.{IsWorldKey}
 use Rattle.geom_core.proofs.Axes.{tiles_met}
-use Rattle.geom_core.proofs.Tests.{true_or_false, and_left, and_right, both_true, taken, kept}
+use Rattle.geom_core.proofs.Tests.{true_or_false, and_left, and_right, both_true, taken, kept, or-false}
 use Rattle.tile_core.specs.Pixels.{Pixels, pixel_at, HasPixels}
 use Rattle.doc_model.specs.declared.job.Job.TheVariants as job
 use Rattle.doc_model.specs.declared.track.Stamp.{Stamp}
@@ -34,7 +34,7 @@ use Rattle.job_core.specs.declared.ink.Ink.{Ink}
 use Rattle.job_core.specs.declared.dabs.Brush.{Brush}
 use Rattle.job_core.specs.Points.{IsPointJob, HasTile, LaysJob}
 use Rattle.job_core.specs.Tracks.{LaysStamps, AllInside}
-use Rattle.job_core.proofs.Values.{tile_held, or-false, one_met, world_key, seen_at, block_of, value_at, painted_once}
+use Rattle.job_core.proofs.Values.{tile_held, one_met, world_key, seen_at, block_of, value_at, painted_once}
 use Rattle.job_core.proofs.Keys.{due_key}
 use Rattle.job_core.specs.Made.{IsBlock}
 use Rattle.job_core.specs.Paints.{paint, layer_of, IsPainted}

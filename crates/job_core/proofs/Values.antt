@@ -1,5 +1,5 @@
 -- Blocks that have a job's value.
-use Rattle.std.proofs.Common.{◌≡◌, ℕ, ◌≤◌, Bool, true, false, ◌&&◌, ◌||◌, List, [], ◌∷◌, ◌++◌, take, drop, length, get_or, refl, sym, ap, ◌∙◌, subst, arith, inl, inr, append-nil}
+use Rattle.std.proofs.Common.{◌≡◌, ℕ, ◌≤◌, Bool, true, false, ◌&&◌, List, [], ◌∷◌, ◌++◌, take, drop, length, get_or, refl, sym, ap, ◌∙◌, subst, arith, inl, inr, append-nil}
 use Rattle.std.specs.List.{list_any}
 use Rattle.std.specs.Prelude.{ℤ, pos, ◌+ℤ◌, ◌*ℤ◌, ◌≤ℤ◌, ◌<ℤ◌, negsuc, int_le, int_lt}
 use borrow.Author.Differences.{ints}
@@ -11,7 +11,7 @@ use Rattle.geom_core.specs.Areas.{Area, holds, lies_in, meets, world, Point}
 use Rattle.geom_core.specs.Rects.{any_holds, place_in, IsShared}
 use Rattle.geom_core.specs.Grid.{Key, key_of, same_key, tile, keys_of, all_keys_of}
 use Rattle.geom_core.specs.Keys.{IsWorldKey}
-use Rattle.geom_core.proofs.Tests.{and_left, and_right, both_true, or_left, or_right, or_cases, taken}
+use Rattle.geom_core.proofs.Tests.{and_left, and_right, both_true, or_left, or_right, or_cases, taken, or-false}
 use Rattle.geom_core.proofs.Bounds.{lies_held}
 use Rattle.geom_core.proofs.Axes.{tiles_met}
 use Rattle.geom_core.proofs.Tiles.{key_of_holder, key_is, key_same, own_tile}
@@ -107,10 +107,6 @@ tile_held k p = go (holds (tile k) p) refl
     go : (t : Bool) → holds (tile k) p ≡ t → t ≡ in_tile k p
     go true h = sym (key_is (key_of p) k (key_of_holder k p h))
     go false h = away (in_tile k p) h refl
-
-pub or-false : (b : Bool) → (b || false) ≡ b
-or-false true = refl
-or-false false = refl
 
 -- one block on the part of the one rectangle that a job writes
 pub painted_once : (job : Job) (s : Sight) (key : Key) (rect part : Area) (f : Point → Rgba) (b : Piece) → writes job ≡ rect ∷ [] → IsWorldKey key → IsShared rect (tile key) part → IsBlock key part f b

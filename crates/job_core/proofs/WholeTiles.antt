@@ -6,17 +6,14 @@ use Rattle.std.proofs.lemmas.Option.{slice_get_cases}
 use Rattle.geom_core.specs.Areas.{Area, holds, Point}
 use Rattle.geom_core.specs.Rects.{any_holds}
 use Rattle.geom_core.specs.Grid.{tile}
-use Rattle.geom_core.proofs.Tests.{and_left, and_right}
+use Rattle.geom_core.proofs.Tests.{and_left, and_right, or-false, some_same}
 use Rattle.tile_core.specs.Blocks.{Piece, IsPiece}
 use Rattle.tile_core.specs.Pixels.{Pixels, pixel_at}
 use Rattle.tile_core.proofs.WholeTiles.{whole_rect, whole_pixels}
 use Rattle.doc_model.specs.Jobs.{writes}
 use Rattle.doc_model.specs.Shots.{in_tile}
 use Rattle.job_core.specs.Paints.{Paint, is_whole, HasValue, IsPainted, FillsTile}
-use Rattle.job_core.proofs.Values.{tile_held, or-false}
-
-pub some_same : {A : Type 0} (x y : A) → Some x ≡ Some y → x ≡ y
-some_same x y e = cc
+use Rattle.job_core.proofs.Values.{tile_held}
 
 pub some_none : {A : Type 0} (x : A) → Some x ≡ None → ⊥
 some_none x e = cc

@@ -1,7 +1,8 @@
 -- Rows of a dab.
-use Rattle.std.specs.Prelude.{◌≡◌, ℕ, ◌<◌, ℤ, pos, ◌+ℤ◌, List, length, slice_index_or}
+use Rattle.std.specs.Prelude.{◌≡◌, ℕ, ◌<◌, ℤ, pos, ◌+ℤ◌, ◌-ℤ◌, List, length, slice_index_or}
 use Rattle.pixel_core.specs.Rgba.{Rgba, clear}
 use Rattle.pixel_core.specs.Compose.{compose, mul}
+use Rattle.geom_core.specs.Areas.{Area}
 use Rattle.job_core.specs.declared.ink.Ink.{Ink}
 use Rattle.job_core.specs.declared.dabs.Brush.{Brush}
 use Rattle.job_core.specs.Laid.{Change}
@@ -26,3 +27,7 @@ DabsRow brush ink dx dy old new = (k : ℕ) → k < length old → slice_index_o
 -- the dab on the pixels of a part, of which the first is (dx, dy) from the centre
 abbrev pub brushed_from : Brush → Ink → ℤ → ℤ → Change
 brushed_from brush ink dx dy col row d = brushed brush ink (dx +ℤ pos col) (dy +ℤ pos row) d
+
+-- the dab on the pixels of a rectangle of the world
+abbrev pub dab_on : Brush → Ink → Area → Change
+dab_on brush ink a = brushed_from brush ink (a.x -ℤ brush.x) (a.y -ℤ brush.y)

@@ -1,10 +1,11 @@
 -- Blocks by what they have at each point.
-use Rattle.std.specs.Prelude.{◌≡◌, ℕ, ℤ, pos, negsuc, ◌-ℤ◌, ◌≤ℤ◌, if◌then◌else◌}
+use Rattle.std.specs.Prelude.{◌≡◌, ℕ, ℤ, true, pos, negsuc, ◌-ℤ◌, ◌≤ℤ◌, if◌then◌else◌}
 use Rattle.pixel_core.specs.Rgba.{Rgba}
 use Rattle.pixel_core.specs.Compose.{compose, mul}
 use Rattle.brush_mask.specs.Mask.{mask}
 use Rattle.geom_core.specs.Areas.{Area, holds, Point, point}
-use Rattle.geom_core.specs.Grid.{Key}
+use Rattle.geom_core.specs.Rects.{IsShared}
+use Rattle.geom_core.specs.Grid.{Key, tile}
 use Rattle.tile_core.specs.Blocks.{Piece}
 use Rattle.tile_core.specs.Pixels.{HasPixels}
 use Rattle.tile_core.specs.Shots.{Sight, sight_at}
@@ -29,6 +30,18 @@ brought s dx dy p = sight_at s (point (p.x -ℤ dx) (p.y -ℤ dy))
 -- what a move to a rectangle leaves at a point: the pixel that it brings, or the default pixel
 abbrev pub left_at : Sight → Area → ℤ → ℤ → Point → Rgba
 left_at s to dx dy p = if holds to p then brought s dx dy p else s.default_pixel
+
+-- the moved rectangle has all that the rectangle has of the tile
+abbrev pub TakesOver : Area → Key → Area → Type 0
+TakesOver rect key to = (p : Point) → holds rect p ≡ true → holds (tile key) p ≡ true → holds to p ≡ true
+
+-- what a move leaves of all that the rectangle has of the tile, as a block
+abbrev pub IsLeft : Sight → Area → Key → Area → ℤ → ℤ → Piece → Type 0
+IsLeft s rect key to dx dy b = IsShared rect (tile key) b.rect × IsBlock key b.rect (left_at s to dx dy) b
+
+-- what a fill leaves at a point
+abbrev pub filled : Sight → Ink → Point → Rgba
+filled s ink p = compose ink.op ink.colour (sight_at s p) ink.strength
 
 -- the strength of a dab at a distance from its centre
 abbrev pub strength_at : Brush → Ink → ℤ → ℤ → ℕ

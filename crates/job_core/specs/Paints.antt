@@ -1,5 +1,5 @@
 -- What painting one tile of a job leaves.
-use Rattle.std.specs.Prelude.{◌≡◌, Bool, true, false, ◌&&◌, nat_eq, List, [], ◌∷◌, map, All, refl}
+use Rattle.std.specs.Prelude.{◌≡◌, Bool, true, false, ◌&&◌, nat_eq, List, [], ◌∷◌, map, All, option_to_list, refl}
 use Rattle.std.specs.Coded.{Coded, code_by, coded×, coded_list}
 use Rattle.pixel_core.specs.Rgba.{Rgba}
 use Rattle.pixel_core.specs.Words.{pixel_code}
@@ -12,6 +12,7 @@ use Rattle.tile_core.specs.Pixels.{Pixels, pixel_at}
 use Rattle.tile_core.specs.Shots.{Sight, sight_at, sight_code}
 use Rattle.doc_model.specs.contracts.job.Job as job
 use Rattle.doc_model.specs.declared.job.Job.{Job}
+use Rattle.job_core.specs.declared.blocks.Blocks.{Blocks}
 use Rattle.doc_model.specs.Jobs.{apply, writes}
 use Rattle.doc_model.specs.Shots.{in_tile}
 use Rattle.doc_model.specs.Layers.{Layer, at, painted, plain}
@@ -54,6 +55,14 @@ pub record IsPainted (w : Paint) : Type 0 where
   pub key_is : IsWorldKey w.key
   pub values : All (HasValue w.job w.shot w.key) w.blocks
   pub covers : (p : Point) → any_holds (map (λ (b : Piece). b.rect) w.blocks) p ≡ (any_holds (writes w.job) p && in_tile w.key p)
+
+-- the job, painted on the shot in the key's tile, leaves these blocks
+abbrev pub Leaves : Job → Sight → Key → List Piece → Type 0
+Leaves job shot key blocks = IsPainted (paint job shot key blocks)
+
+-- one block, or two, as a list
+abbrev pub pieces_of : Blocks → List Piece
+pieces_of bs = bs.first ∷ option_to_list bs.second
 
 -- whether the blocks are one that has 64 columns and rows, and so all points of its tile
 abbrev pub is_whole : List Piece → Bool

@@ -5,7 +5,9 @@ use Rattle.geom_core.specs.Areas.{Point, Area, lies_in, meets, world}
 use Rattle.geom_core.specs.Grid.{Key}
 use Rattle.tile_core.specs.Pixels.{Pixels, pixel_at}
 use Rattle.doc_model.specs.declared.track.Stamp.{Stamp}
-use Rattle.doc_model.specs.Trails.{along, how_many_on}
+use Rattle.doc_model.specs.declared.track.Segment.{Segment}
+use Rattle.doc_model.specs.Trails.{along, how_many_on, on_segment}
+use Rattle.doc_model.specs.Tracks.{point_of}
 use Rattle.doc_model.specs.Jobs.{square, all_stamped}
 use Rattle.doc_model.specs.Shots.{in_tile}
 use Rattle.job_core.specs.declared.ink.Ink.{Ink}
@@ -14,6 +16,10 @@ use Rattle.job_core.specs.declared.dabs.Brush.{Brush}
 -- the tile has the new pixels where dabs round these points are laid on the old ones, one after another
 abbrev pub LaysStamps : Key → Stamp → List Point → Pixels → Pixels → Type 0
 LaysStamps key s cs old new = (p : Point) → in_tile key p ≡ true → pixel_at new p ≡ all_stamped s cs p (pixel_at old p)
+
+-- the points of a segment round which dabs lie
+abbrev pub points_on : ℕ → Segment → List Point
+points_on gap segment = on_segment gap (point_of segment.from) (point_of segment.to)
 
 -- the dabs round these points lie in the world
 abbrev pub AllInside : Stamp → List Point → Type 0

@@ -2,7 +2,7 @@
 
 ghost use Rattle.std.specs.Prelude.{[], ◌∷◌, IfOk};
 ghost use Rattle.doc_model.specs.declared.job.Job.TheVariants.{Blur};
-ghost use Rattle.job_core.specs.Paints.{paint, IsPainted};
+ghost use Rattle.job_core.specs.Paints.{Leaves};
 ghost use Rattle.job_core.specs.Due.{IsDue};
 
 use crate::part::part_in;
@@ -20,7 +20,7 @@ pub fn blurred(
     r: u8,
 ) -> Result<Block, NoMemory>
     requires { IsDue (Blur rect.now r) shot.now key }
-    ensures { IfOk result (λ b. IsPainted (paint (Blur rect.now r) shot.now key (b ∷ []))) }
+    ensures { IfOk result (λ b. Leaves (Blur rect.now r) shot.now key (b ∷ [])) }
 {
     let part = part_in(key, rect);
     blur_block(alloc, shot, key, &part, r)

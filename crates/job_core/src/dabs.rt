@@ -1,6 +1,6 @@
 //! Dabs.
 
-ghost use Rattle.std.specs.Prelude.{◌≡◌, [], ◌∷◌, ◌+◌, ◌-◌, ◌*◌, ◌≤◌, ◌<◌, ◌≤ℤ◌, ◌+ℤ◌, ◌-ℤ◌, ℕ, negsuc, pos, true, IfOk, vec_len, length, min};
+ghost use Rattle.std.specs.Prelude.{◌≡◌, [], ◌∷◌, ◌+◌, ◌-◌, ◌*◌, ◌≤◌, ◌<◌, ◌≤ℤ◌, ◌+ℤ◌, ◌-ℤ◌, negsuc, pos, true, IfOk, vec_len, length, min};
 ghost use Rattle.std.specs.Int.{next_multiple_of};
 ghost use Rattle.geom_core.specs.Areas.{lies_in, world};
 ghost use Rattle.geom_core.specs.Rects.{IsWithin};
@@ -9,11 +9,11 @@ ghost use Rattle.geom_core.specs.Keys.{IsWorldKey};
 ghost use Rattle.tile_core.specs.Pixels.{HasPixels};
 ghost use Rattle.job_core.specs.Tasks.{dab_of};
 ghost use Rattle.doc_model.specs.Jobs.{square as square_of};
-ghost use Rattle.job_core.specs.Paints.{paint, IsPainted};
+ghost use Rattle.job_core.specs.Paints.{Leaves};
 ghost use Rattle.job_core.specs.Due.{IsDue};
 ghost use Rattle.job_core.specs.Made.{dabbed as dabbed_at};
-ghost use Rattle.job_core.specs.Laid.{ChangesRows};
-ghost use Rattle.job_core.specs.Dabs.{brushed_from, DabsRow, HasStrengths, WeakensRow};
+ghost use Rattle.job_core.specs.Laid.{ChangesPart};
+ghost use Rattle.job_core.specs.Dabs.{brushed_from, dab_on, DabsRow, HasStrengths, WeakensRow};
 
 use crate::ink::Ink;
 use crate::part::part_in;
@@ -56,7 +56,7 @@ pub fn dabbed(
     ink: &Ink,
 ) -> Result<Block, NoMemory>
     requires { IsDue (dab_of brush.now ink.now) shot.now key }
-    ensures { IfOk result (λ b. IsPainted (paint (dab_of brush.now ink.now) shot.now key (b ∷ []))) }
+    ensures { IfOk result (λ b. Leaves (dab_of brush.now ink.now) shot.now key (b ∷ [])) }
 {
     let part = part_in(key, &brush.square());
     let pixels = brushed(alloc, shot, key, &part, brush, ink)?;
@@ -72,13 +72,17 @@ fn brushed(
     brush: &Brush,
     ink: &Ink,
 ) -> Result<Vec<Pixel>, NoMemory>
+    // The part lies in the tile, and in the square round the brush, which lies in the world.
     requires key { IsWorldKey key }
     requires inside { IsWithin part.now (tile key) }
     requires radius { brush.now.r ≤ 128 }
     requires round { IsWithin part.now (square_of brush.now.x brush.now.y brush.now.r) }
     requires in_world { IsWithin (square_of brush.now.x brush.now.y brush.now.r) world }
+
+    // Its pixels, in row order.
     ensures all { IfOk result (λ v. vec_len v ≡ part.now.h * part.now.w) }
-    ensures has { IfOk result (λ v. HasPixels part.now (dabbed_at shot.now brush.now ink.now) v.items) }
+    ensures has { IfOk result
+        (λ v. HasPixels part.now (dabbed_at shot.now brush.now ink.now) v.items) }
 {
     let mut pixels = shot.read(alloc, key, part)?;
     let whole = Part {
@@ -101,16 +105,21 @@ pub fn lay_dab(
     brush: &Brush,
     ink: &Ink,
 )
+    // The place lies in the rows ..
     requires across { place.left + place.w ≤ width }
     requires down { (place.top + place.h) * width ≤ length pixels.old }
     requires few { length pixels.old ≤ 4096 }
+
+    // .. and has the sides of the part, at most a tile's ..
     requires w { place.w ≡ part.now.w }
     requires h { place.h ≡ part.now.h }
     requires some { 1 ≤ place.w × 1 ≤ place.h }
     requires small { place.w ≤ 64 × place.h ≤ 64 }
+
+    // .. which lies in the square round the brush.
     requires radius { brush.now.r ≤ 128 }
     requires round { IsWithin part.now (square_of brush.now.x brush.now.y brush.now.r) }
-    ensures { ChangesRows (brushed_from brush.now ink.now (part.now.x -ℤ brush.now.x) (part.now.y -ℤ brush.now.y)) width place.left place.top place.w place.h pixels.old pixels.new }
+    ensures { ChangesPart (dab_on brush.now ink.now part.now) width place pixels.old pixels.new }
 {
     let dx = steps(brush.x, part.x());
     let dy = steps(brush.y, part.y());
@@ -137,16 +146,19 @@ fn lay_dab_rows(
     brush: &Brush,
     ink: &Ink,
 )
+    // The part lies in the rows, and has at most a tile's sides ..
     requires across { part.left + part.w ≤ width }
     requires down { (part.top + part.h) * width ≤ length pixels.old }
     requires few { length pixels.old ≤ 4096 }
     requires small { part.w ≤ 64 × part.h ≤ 64 }
+
+    // .. and no column or row of it lies further than 128 from the centre.
     requires radius { brush.now.r ≤ 128 }
     requires left { negsuc 127 ≤ℤ dx }
     requires right { (dx +ℤ pos part.w) ≤ℤ pos 129 }
     requires top { negsuc 127 ≤ℤ dy }
     requires bottom { (dy +ℤ pos part.h) ≤ℤ pos 129 }
-    ensures { ChangesRows (brushed_from brush.now ink.now dx dy) width part.left part.top part.w part.h pixels.old pixels.new }
+    ensures { ChangesPart (brushed_from brush.now ink.now dx dy) width part pixels.old pixels.new }
 {
     let mut from = part.top * width + part.left;
     for row in 0..part.h {
@@ -166,6 +178,8 @@ fn lay_dab_rows(
 fn lay_dab_row(row: &mut [Pixel], dx: i16, dy: i16, brush: &Brush, ink: &Ink)
     requires small { length row.old ≤ 64 }
     requires radius { brush.now.r ≤ 128 }
+
+    // No place of the row lies further than 128 from the centre.
     requires left { negsuc 127 ≤ℤ dx }
     requires right { (dx +ℤ pos (length row.old)) ≤ℤ pos 129 }
     requires top { negsuc 127 ≤ℤ dy }
@@ -190,10 +204,13 @@ fn whole_blocks(chord: Chord, places: usize) -> Chord
     requires small { places ≤ 64 }
     requires order { chord.first ≤ chord.end }
     requires within { chord.end ≤ places }
+
+    // The chord's places are among them, and no place is behind the row.
     ensures left { result.first ≤ chord.first }
     ensures right { chord.end ≤ result.end }
     ensures inside { result.end ≤ places }
-    ensures count { result.end ≡ result.first + min (next_multiple_of (chord.end - chord.first) BLOCK) places }
+    ensures count { result.end
+        ≡ result.first + min (next_multiple_of (chord.end - chord.first) BLOCK) places }
 {
     let count = (chord.end - chord.first)
         .next_multiple_of(BLOCK)
@@ -209,6 +226,8 @@ fn whole_blocks(chord: Chord, places: usize) -> Chord
 fn lay_soft_row(row: &mut [Pixel], dx: i16, dy: i16, brush: &Brush, ink: &Ink)
     requires small { length row.old ≤ 64 }
     requires radius { brush.now.r ≤ 128 }
+
+    // No place of the row lies further than 128 from the centre.
     requires left { negsuc 127 ≤ℤ dx }
     requires right { (dx +ℤ pos (length row.old)) ≤ℤ pos 129 }
     requires top { negsuc 127 ≤ℤ dy }

@@ -1,20 +1,19 @@
 //! Fills.
 
-ghost use Rattle.std.specs.Prelude.{◌≡◌, [], ◌∷◌, ◌*◌, ◌+◌, ◌≤◌, true, IfOk, vec_len, length};
+ghost use Rattle.std.specs.Prelude.{◌≡◌, [], ◌∷◌, ◌*◌, ◌+◌, ◌≤◌, IfOk, vec_len, length};
 ghost use Rattle.geom_core.specs.Rects.{IsWithin};
 ghost use Rattle.geom_core.specs.Grid.{tile};
 ghost use Rattle.geom_core.specs.Keys.{IsWorldKey};
-ghost use Rattle.pixel_core.specs.Compose.{compose};
 ghost use Rattle.tile_core.specs.Pixels.{HasPixels};
-ghost use Rattle.tile_core.specs.Shots.{sight_at};
 ghost use Rattle.job_core.specs.Tasks.{fill_of};
-ghost use Rattle.job_core.specs.Paints.{paint, IsPainted};
+ghost use Rattle.job_core.specs.Paints.{Leaves};
 ghost use Rattle.job_core.specs.Due.{IsDue};
-ghost use Rattle.job_core.specs.Laid.{ChangesRows, inked as inked_pixel};
+ghost use Rattle.job_core.specs.Made.{filled as filled_at};
+ghost use Rattle.job_core.specs.Laid.{ChangesPart, inked as inked_pixel};
 
 use crate::ink::Ink;
 use crate::part::part_in;
-use geom_core::{NoMemory, Rect, TileKey};
+use geom_core::{NoMemory, Rect, TILE_SIDE, TileKey};
 use pixel_core::Pixel;
 use pixel_rows::lay_colour;
 use std::alloc::Global;
@@ -29,7 +28,7 @@ pub fn filled(
     ink: &Ink,
 ) -> Result<Block, NoMemory>
     requires { IsDue (fill_of rect.now ink.now) shot.now key }
-    ensures { IfOk result (λ b. IsPainted (paint (fill_of rect.now ink.now) shot.now key (b ∷ []))) }
+    ensures { IfOk result (λ b. Leaves (fill_of rect.now ink.now) shot.now key (b ∷ [])) }
 {
     let part = part_in(key, rect);
     let pixels = inked(alloc, shot, key, &part, ink)?;
@@ -47,7 +46,7 @@ fn inked(
     requires key { IsWorldKey key }
     requires inside { IsWithin part.now (tile key) }
     ensures all { IfOk result (λ v. vec_len v ≡ part.now.h * part.now.w) }
-    ensures has { IfOk result (λ v. HasPixels part.now (λ p. compose ink.now.op ink.now.colour (sight_at shot.now p) ink.now.strength) v.items) }
+    ensures has { IfOk result (λ v. HasPixels part.now (filled_at shot.now ink.now) v.items) }
 {
     let mut pixels = shot.read(alloc, key, part)?;
     lay_colour(ink.op, ink.colour, ink.strength, &mut pixels);
@@ -59,12 +58,12 @@ pub fn lay_ink(tile: &mut [Pixel], part: Part, ink: &Ink)
     requires whole { length tile.old ≡ 4096 }
     requires across { part.left + part.w ≤ 64 }
     requires down { part.top + part.h ≤ 64 }
-    ensures { ChangesRows (inked_pixel ink.now) 64 part.left part.top part.w part.h tile.old tile.new }
+    ensures { ChangesPart (inked_pixel ink.now) 64 part tile.old tile.new }
 {
-    let mut from = 64 * part.top + part.left;
+    let mut from = TILE_SIDE * part.top + part.left;
     for _row in 0..part.h {
         let row = &mut tile[from..from + part.w];
         lay_colour(ink.op, ink.colour, ink.strength, row);
-        from += 64;
+        from += TILE_SIDE;
     }
 }

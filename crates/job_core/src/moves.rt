@@ -1,19 +1,19 @@
 //! Moves.
 
-ghost use Rattle.std.specs.Prelude.{◌≡◌, ◌∷◌, ◌*◌, true, pos, ◌-ℤ◌, IfOk, IfSome, IfNone, vec_len, length, replicate, option_to_list};
-ghost use Rattle.geom_core.specs.Areas.{holds, lies_in, moved as moved_area, world, Point};
-ghost use Rattle.geom_core.specs.Rects.{IsWithin, IsShared};
+ghost use Rattle.std.specs.Prelude.{◌≡◌, ◌*◌, true, pos, ◌-ℤ◌, IfOk, IfSome, IfNone, vec_len, length, replicate};
+ghost use Rattle.geom_core.specs.Areas.{lies_in, moved as moved_area, world};
+ghost use Rattle.geom_core.specs.Rects.{IsWithin};
 ghost use Rattle.geom_core.specs.Grid.{tile};
 ghost use Rattle.geom_core.specs.Keys.{IsWorldKey};
 ghost use Rattle.tile_core.specs.Pixels.{HasPixels};
 ghost use Rattle.doc_model.specs.declared.job.Job.TheVariants.{Move};
-ghost use Rattle.job_core.specs.Paints.{paint, IsPainted};
+ghost use Rattle.job_core.specs.Paints.{Leaves, pieces_of};
 ghost use Rattle.job_core.specs.Due.{IsDue};
-ghost use Rattle.job_core.specs.Made.{IsBlock, IsStep, brought as brought_to, left_at};
+ghost use Rattle.job_core.specs.Made.{IsBlock, IsLeft, IsStep, TakesOver, brought as brought_to, left_at};
 ghost use Rattle.job_core.specs.Laid.{LaysOver};
 
 use crate::blocks::Blocks;
-use crate::part::part_in;
+use crate::part::{moved_back, part_in};
 use crate::rows::lay_over;
 use geom_core::{NoMemory, Rect, TileKey};
 use pixel_core::Pixel;
@@ -32,7 +32,7 @@ pub fn moved(
 ) -> Result<Blocks, NoMemory>
     requires due { IsDue (Move rect.now dx dy) shot.now key }
     requires to { to.now ≡ moved_area rect.now dx dy }
-    ensures { IfOk result (λ bs. IsPainted (paint (Move rect.now dx dy) shot.now key (bs.first ∷ option_to_list bs.second))) }
+    ensures { IfOk result (λ bs. Leaves (Move rect.now dx dy) shot.now key (pieces_of bs)) }
 {
     let Some(part) = to.clip(&key.rect()) else {
         let part = part_in(key, rect);
@@ -80,8 +80,9 @@ fn left_behind(
     requires step { IsStep dx dy }
     requires inside { lies_in rect.now world ≡ true }
     requires to { to.now ≡ moved_area rect.now dx dy }
-    ensures none { IfOk result (λ left. IfNone left ((p : Point) → holds rect.now p ≡ true → holds (tile key) p ≡ true → holds to.now p ≡ true)) }
-    ensures some { IfOk result (λ left. IfSome left (λ b. IsShared rect.now (tile key) b.rect × IsBlock key b.rect (left_at shot.now to.now dx dy) b)) }
+    ensures none { IfOk result (λ left. IfNone left (TakesOver rect.now key to.now)) }
+    ensures some { IfOk result
+        (λ left. IfSome left (IsLeft shot.now rect.now key to.now dx dy)) }
 {
     let Some(part) = rect.clip(&key.rect()) else {
         return Ok(None);
@@ -172,15 +173,6 @@ fn brought(
     ensures all { IfOk result (λ v. vec_len v ≡ rect.now.h * rect.now.w) }
     ensures has { IfOk result (λ v. HasPixels rect.now (brought_to shot.now dx dy) v.items) }
 {
-    let from = brought_from(rect, dx, dy);
+    let from = moved_back(rect, dx, dy);
     shot.pixels_on(alloc, &from)
-}
-
-/// The rectangle moved back by (dx, dy).
-fn brought_from(rect: &Rect, dx: i32, dy: i32) -> Rect
-    requires step { IsStep dx dy }
-    requires from { lies_in (moved_area rect.now (pos 0 -ℤ dx) (pos 0 -ℤ dy)) world ≡ true }
-    ensures { result ≡ moved_area rect.now (pos 0 -ℤ dx) (pos 0 -ℤ dy) }
-{
-    rect.moved(-dx, -dy).unwrap()
 }

@@ -1,12 +1,12 @@
 //! What a job leaves in one tile.
 
-ghost use Rattle.std.specs.Prelude.{◌≡◌, true, IfOk, IfSome, IfNone, slice_get, length, ◌<◌, ◌≤◌, Some, ◌∷◌, option_to_list, vec_len};
+ghost use Rattle.std.specs.Prelude.{◌≡◌, true, IfOk, slice_get, length, ◌<◌, ◌≤◌, Some, vec_len};
 ghost use Rattle.std.specs.List.{list_any, list_all};
 ghost use Rattle.geom_core.specs.Grid.{same_key, all_keys_of};
 ghost use Rattle.geom_core.specs.Areas.{lies_in};
 ghost use Rattle.doc_model.specs.Jobs.{reads, writes, checks};
 ghost use Rattle.doc_model.specs.Lawful.{within_limits};
-ghost use Rattle.job_core.specs.Paints.{paint, made_of, is_whole, IsPainted, FillsTile};
+ghost use Rattle.job_core.specs.Paints.{Leaves, pieces_of, made_of, is_whole, IsPainted, FillsTile};
 ghost use Rattle.job_core.specs.Due.{IsDue};
 
 use crate::blocks::{Blocks, alone};
@@ -15,6 +15,7 @@ use crate::dabs::dabbed;
 use crate::fills::filled;
 use crate::made::Made;
 use crate::moves::moved;
+use crate::part::written;
 use crate::task::{Task, task_of};
 use crate::tracks::tracked;
 use doc_model::Job;
@@ -118,10 +119,13 @@ pub fn paint_tile<'a>(
     shot: &'a Shot,
     key: TileKey,
 ) -> Result<Painted<'a>, NoMemory>
+    // The shot has what the job reads, and the job writes in the tile.
     requires checked { checks job.now ≡ true }
     requires limits { within_limits job.now ≡ true }
     requires seen { list_all (λ a. list_any (lies_in a) shot.now.rects) (reads job.now) ≡ true }
     requires met { list_any (same_key key) (all_keys_of (writes job.now)) ≡ true }
+
+    // What it leaves is known by these three.
     ensures job { IfOk result (λ w. w.job ≡ job.now) }
     ensures shot { IfOk result (λ w. w.shot ≡ shot.now) }
     ensures key { IfOk result (λ w. w.key ≡ key) }
@@ -134,7 +138,7 @@ pub fn paint_tile<'a>(
 /// The blocks that the job leaves in the key's tile.
 fn blocks_of(alloc: Global, job: &Job, shot: &Shot, key: TileKey) -> Result<Blocks, NoMemory>
     requires { IsDue job.now shot.now key }
-    ensures { IfOk result (λ bs. IsPainted (paint job.now shot.now key (bs.first ∷ option_to_list bs.second))) }
+    ensures { IfOk result (λ bs. Leaves job.now shot.now key (pieces_of bs)) }
 {
     match task_of(job) {
         Task::Fill { rect, ink } => Ok(alone(filled(alloc, shot, key, &rect, &ink)?)),
@@ -143,13 +147,4 @@ fn blocks_of(alloc: Global, job: &Job, shot: &Shot, key: TileKey) -> Result<Bloc
         Task::Blur { rect, r } => Ok(alone(blurred(alloc, shot, key, &rect, r)?)),
         Task::Track { track, cell } => Ok(alone(tracked(alloc, shot, key, &track, cell)?)),
     }
-}
-
-/// The rectangle with that index, from 0, of those that the job may change.
-fn written(job: &Job, i: usize) -> Rect
-    requires checked { checks job.now ≡ true }
-    requires there { i < length (writes job.now) }
-    ensures { slice_get (writes job.now) i ≡ Some result }
-{
-    job.writes()[i]
 }

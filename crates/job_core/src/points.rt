@@ -1,18 +1,15 @@
 //! Point operations, laid straight on the pixels of a tile.
 
-ghost use Rattle.std.specs.Prelude.{◌≡◌, ◌≤◌, ◌∷◌, ◌&&◌, [], true, false, All, length, ◌+◌, ◌*◌, IfSome, IfNone, IsTrue, replicate, slice_get, Some};
-ghost use Rattle.std.specs.List.{list_any, list_all, take_while};
-ghost use Rattle.pixel_core.specs.Rgba.{Rgba};
-ghost use Rattle.geom_core.specs.Areas.{Area, holds, lies_in, meets, Point};
-ghost use Rattle.geom_core.specs.Rects.{IsInWorld};
-ghost use Rattle.geom_core.specs.Grid.{keys_of, same_key, all_keys_of, tile};
+ghost use Rattle.std.specs.Prelude.{◌≡◌, ◌≤◌, ◌∷◌, ◌&&◌, [], true, false, All, length, ◌*◌, IfSome, IfNone, IsTrue, replicate, Some};
+ghost use Rattle.std.specs.List.{take_while};
+ghost use Rattle.geom_core.specs.Areas.{holds, lies_in, meets, Point};
+ghost use Rattle.geom_core.specs.Grid.{tile};
 ghost use Rattle.geom_core.specs.Keys.{IsWorldKey};
-ghost use Rattle.tile_core.specs.Pixels.{Pixels};
 ghost use Rattle.doc_model.specs.Shots.{in_tile};
 ghost use Rattle.doc_model.specs.Lawful.{within_limits};
-ghost use Rattle.doc_model.specs.Jobs.{checks, writes, square as square_of};
+ghost use Rattle.doc_model.specs.Jobs.{checks, writes};
 ghost use Rattle.job_core.specs.Points.{is_point_op, is_within as is_within_of, spot, IsPointJob, IsPointWork, IsRun, LaysJob, LaysPoints};
-ghost use Rattle.job_core.specs.Laid.{LeavesAll};
+ghost use Rattle.job_core.specs.Laid.{PlainAs};
 ghost use Rattle.job_core.specs.Tasks.{fill_of, dab_of};
 
 use crate::dabs::{Brush, lay_dab};
@@ -22,7 +19,7 @@ use crate::part::part_in;
 use crate::task::{Task, task_of};
 use crate::tracks::lay_track;
 use doc_model::{Job, Kind, square_round};
-use geom_core::{Rect, TileKey, tile_of};
+use geom_core::{Rect, TILE_SIDE, TileKey, tile_of};
 use pixel_core::Pixel;
 use std::marker::Model;
 use tile_core::{Lays, Tile, part_in_tile};
@@ -111,16 +108,18 @@ impl<'a> PointWork<'a> {
         self.covering_ink()?.on_all(tile)
     }
 
-    /// The same where all points of the tile have that one pixel before it.
+    /// The one pixel that one job leaves at all points of the tile, where all have `ground` before it.
+    /// None where it finds none, as for dabs, for fills that don't cover the tile and for several jobs.
     pub fn plain_on_ground(&self, ground: Pixel) -> Option<Pixel>
-        ensures { IfSome result (λ c. LaysPoints self.now (replicate 4096 ground) (replicate 4096 c)) }
+        ensures { IfSome result
+            (λ c. LaysPoints self.now (replicate 4096 ground) (replicate 4096 c)) }
     {
         Some(self.covering_ink()?.on(ground))
     }
 
     /// The ink of one fill that covers the tile.
     fn covering_ink(&self) -> Option<Ink>
-        ensures { IfSome result (λ ink. (old : Pixels) (c : Rgba) → LeavesAll ink old c → LaysPoints self.now old (replicate 4096 c)) }
+        ensures { IfSome result (PlainAs (LaysPoints self.now)) }
     {
         match self.jobs {
             [(_, job)] => covering(self.key, job),
@@ -176,7 +175,7 @@ fn is_within(job: &Job, bounds: &Rect) -> bool
 fn covering(key: TileKey, job: &Job) -> Option<Ink>
     requires key { IsWorldKey key }
     requires work { IsPointJob key job.now }
-    ensures { IfSome result (λ ink. (old : Pixels) (c : Rgba) → LeavesAll ink old c → LaysJob key job.now old (replicate 4096 c)) }
+    ensures { IfSome result (PlainAs (LaysJob key job.now)) }
 {
     match task_of(job) {
         Task::Fill { rect, ink } => covers(key, &rect).then_some(ink),
@@ -228,5 +227,5 @@ pub fn dab_in(key: TileKey, brush: &Brush, ink: &Ink, tile: &mut [Pixel])
     ensures { LaysJob key (dab_of brush.now ink.now) tile.old tile.new }
 {
     let part = part_in(key, &brush.square());
-    lay_dab(tile, 64, part_in_tile(&part), &part, brush, ink);
+    lay_dab(tile, TILE_SIDE, part_in_tile(&part), &part, brush, ink);
 }

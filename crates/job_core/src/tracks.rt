@@ -2,15 +2,14 @@
 
 ghost use Rattle.std.specs.Prelude.{◌≡◌, ◌∷◌, [], ◌≤◌, ◌<◌, ◌+◌, ◌≤ℤ◌, ◌+ℤ◌, ◌-ℤ◌, ℕ, pos, negsuc, true, false, length, IfOk};
 ghost use Rattle.job_core.specs.Due.{IsDue};
-ghost use Rattle.job_core.specs.Paints.{paint, IsPainted};
+ghost use Rattle.job_core.specs.Paints.{Leaves};
 ghost use Rattle.std.specs.List.{list_all};
 ghost use Rattle.geom_core.specs.Areas.{point, lies_in, world};
 ghost use Rattle.geom_core.specs.Keys.{IsWorldKey};
-ghost use Rattle.doc_model.specs.Trails.{on_segment};
 ghost use Rattle.doc_model.specs.Tracks.{point_of};
 ghost use Rattle.doc_model.specs.Jobs.{square as square_of, squares};
 ghost use Rattle.job_core.specs.Points.{LaysJob};
-ghost use Rattle.job_core.specs.Tracks.{LaysStamps, AllInside, IsNear, IsBeside, AreWithin, stands, reaches};
+ghost use Rattle.job_core.specs.Tracks.{LaysStamps, points_on, AllInside, IsNear, IsBeside, AreWithin, stands, reaches};
 
 use crate::dabs::Brush;
 use crate::ink::Ink;
@@ -30,7 +29,7 @@ pub fn tracked(
     cell: TileKey,
 ) -> Result<Block, NoMemory>
     requires { IsDue (Job.Track track.now cell) shot.now key }
-    ensures { IfOk result (λ b. IsPainted (paint (Job.Track track.now cell) shot.now key (b ∷ []))) }
+    ensures { IfOk result (λ b. Leaves (Job.Track track.now cell) shot.now key (b ∷ [])) }
 {
     let rect = key.rect();
     let mut pixels = shot.read(alloc, key, &rect)?;
@@ -60,9 +59,9 @@ fn lay_segment(key: TileKey, segment: &Segment, gap: u8, stamp: &Stamp, tile: &m
     requires key { IsWorldKey key }
     requires gap { 1 ≤ gap }
     requires radius { stamp.now.r ≤ 128 }
-    requires inside { AllInside stamp.now (on_segment gap (point_of segment.now.from) (point_of segment.now.to)) }
+    requires inside { AllInside stamp.now (points_on gap segment.now) }
     requires whole { length tile.old ≡ 4096 }
-    ensures { LaysStamps key stamp.now (on_segment gap (point_of segment.now.from) (point_of segment.now.to)) tile.old tile.new }
+    ensures { LaysStamps key stamp.now (points_on gap segment.now) tile.old tile.new }
 {
     let span = near_dabs(segment, gap, stamp.r, &key.rect());
     for k in span.first..span.end {
@@ -106,7 +105,8 @@ struct Span {
 fn near_dabs(segment: &Segment, gap: u8, r: u8, bounds: &Rect) -> Span
     requires { 1 ≤ gap }
     ensures few { result.end ≤ 65535 }
-    ensures near { IsNear (point_of segment.now.from) (point_of segment.now.to) gap r bounds.now result.first result.end }
+    ensures near { IsNear (point_of segment.now.from) (point_of segment.now.to) gap r bounds.now
+        result.first result.end }
 {
     let count = segment.dab_count(gap);
     let Segment { from, to } = *segment;
@@ -130,7 +130,8 @@ fn near_steps(from: i16, back: bool, r: u8, start: i32, size: u32) -> Steps
     requires low { negsuc 16383 ≤ℤ start }
     requires high { start ≤ℤ pos 16383 }
     requires size { size ≤ 32768 }
-    ensures { (n : ℕ) → IsBeside result.low result.high n → reaches (stands from back n) r start size ≡ false }
+    ensures { (n : ℕ) → IsBeside result.low result.high n
+        → reaches (stands from back n) r start size ≡ false }
 {
     let low = first_reached(start, r);
     let high = last_reached(start, size, r);
@@ -157,7 +158,7 @@ fn first_reached(start: i32, r: u8) -> i32
     start - i32::from(r)
 }
 
-/// The last place from which it does.
+/// The last place from which a dab reaches a part of an axis.
 fn last_reached(start: i32, size: u32, r: u8) -> i32
     requires low { negsuc 16383 ≤ℤ start }
     requires high { start ≤ℤ pos 16383 }

@@ -11,14 +11,13 @@ use Rattle.doc_model.specs.declared.command.Outcome.{Outcome}
 use Rattle.doc_model.specs.Meaning.{Story, meaning}
 use Rattle.doc_model.specs.Picture.{Frame, picture, frame, canvas_area}
 use Rattle.doc_model.specs.Strokes.{entries}
-use Rattle.ppm_out.specs.Scenes.{colours_of}
-use Rattle.ppm_out.specs.Sides.{HasSides}
+use Rattle.tile_core.specs.Scenes.{HasSides, colours_of}
 use Rattle.machine_model.specs.State.{State}
 use Rattle.machine_model.specs.Settled.{story}
 use Rattle.machine_model.specs.MeaningLaws.{HasMeaning}
 use Rattle.machine_model.proofs.CanvasPoints.{same_list}
-use Rattle.desk_parts.specs.Cached.{ShowsCache}
-use Rattle.desk_machine.specs.Shown.{ShowsPicture}
+use Rattle.desk_state.specs.Cached.{ShowsCache}
+use Rattle.desk_events.specs.Shown.{ShowsPicture}
 use Rattle.script_text.specs.Script.{Contents, meaning_of}
 use Rattle.live_run.specs.Last.{ShowsLast}
 
@@ -35,9 +34,9 @@ last_is d script f outcomes h clean canvas fed shows told =
     let same : meaning_of script ≡ story d = (λ i. meaning (sym canvas i) (entries (sym fed i))) ∙ h.means in
     let doc : d.present ≡ (meaning_of script).document = h.present ∙ ap (λ (s : Story). s.document) (sym same) in
     let is : frame d.present d.canvas ≡ frame (meaning_of script).document script.canvas = λ i. frame (doc i) (canvas i) in
-    let sides : HasSides d.canvas f = record { width = shows.width; height = shows.height } in
+    let sides : HasSides d.canvas.w d.canvas.h f = record { width = shows.width; height = shows.height } in
     record {
-      sides = subst (λ (c : Canvas). All (HasSides c) (f ∷ [])) canvas (All-cons (HasSides d.canvas) f [] sides (All-nil (HasSides d.canvas)));
+      sides = subst (λ (c : Canvas). All (HasSides c.w c.h) (f ∷ [])) canvas (All-cons (HasSides d.canvas.w d.canvas.h) f [] sides (All-nil (HasSides d.canvas.w d.canvas.h)));
       colours = ap (λ (x : Frame). x ∷ []) (cached_colours d f clean shows ∙ is);
       outcomes_are = told ∙ sym (ap (λ (s : Story). s.outcomes) same);
     }

@@ -24,8 +24,8 @@ use Rattle.doc_model.specs.Picture.{canvas_area}
 use Rattle.doc_model.specs.Shots.{in_tile}
 use Rattle.machine_model.specs.State.{State}
 use Rattle.machine_model.specs.Groups.{cache}
-use Rattle.desk_work.proofs.KeyLists.{key_in}
-use Rattle.desk_machine.specs.Shown as desk
+use Rattle.slot_work.proofs.KeyLists.{key_in}
+use Rattle.desk_events.specs.Shown as desk
 use Rattle.live_view.specs.declared.update.Update.{Update}
 use Rattle.live_view.specs.Shown.{Rows, updates_of, newer, shown, with_row}
 use Rattle.live_view.specs.Views.{Feed, published, pending, all_updates}

@@ -2,7 +2,7 @@
 
 ghost use Rattle.std.specs.Prelude.{◌≡◌, [], ◌∷◌, IfOk, IfSome, OnOk};
 ghost use Rattle.doc_model.specs.Canvases.{IsOfLimits};
-ghost use Rattle.desk_parts.specs.Cached.{ShowsCache, PutsCache};
+ghost use Rattle.desk_state.specs.Cached.{ShowsCache, PutsCache};
 ghost use Rattle.tile_core.specs.Frames.{IsTileOf};
 ghost use Rattle.live_view.specs.Shown.{updates_of, shown};
 ghost use Rattle.live_view.specs.Views.{published, pending, IsOnCanvas};

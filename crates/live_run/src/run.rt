@@ -3,10 +3,11 @@
 ghost use Rattle.std.specs.Prelude.{◌≡◌, ◌≤◌, ◌-◌, ◌^◌, [], length, replicate, IfOk, OnOk};
 ghost use Rattle.pixel_core.specs.Rgba.{clear};
 ghost use Rattle.doc_model.specs.Canvases.{IsOfLimits};
-ghost use Rattle.machine_model.specs.Settled.{IsSettled};
-ghost use Rattle.live_view.specs.Shown.{updates_of, StartsWith};
+ghost use Rattle.crew_run.specs.Painted.{IsPaintedBy};
+ghost use Rattle.live_view.specs.Shown.{updates_of};
 ghost use Rattle.live_view.specs.Views.{published, pending};
-ghost use Rattle.live_run.specs.Showing.{ShowsRoot, ShowsPicture};
+ghost use Rattle.live_run.specs.Painted.{IsShownBy};
+ghost use Rattle.live_run.specs.Showing.{ShowsRoot};
 
 use crate::screen::{Screen, show};
 use crew_run::run_watched;
@@ -37,13 +38,7 @@ pub fn run_live<K: Naming + Send + Sync, R: Threads + Wait + Sync, G: Gate>(
 ) -> Result<(Desk, LiveWriter<K>), NoMemory>
     requires workers { workers ≤ 16 }
     requires few { length script.now.commands ≤ 2 ^ 32 - 1 }
-    ensures settled { IfOk result (λ r. IsSettled r.0) }
-    ensures canvas { IfOk result (λ r. r.0.canvas ≡ script.now.canvas) }
-    ensures fed { IfOk result (λ r. r.0.fed ≡ script.now.commands) }
-    ensures pending { IfOk result (λ r. pending r.1 ≡ []) }
-    ensures goes_on { IfOk result (λ r. StartsWith (published r.1) (published live)) }
-    ensures root { IfOk result (λ r. ShowsRoot (updates_of (published r.1)) r.0) }
-    ensures picture { IfOk result (λ r. ShowsPicture (updates_of (published r.1)) r.0) }
+    ensures { IfOk result (λ r. IsShownBy script.now live r.1 r.0) }
 {
     let mut live = live;
     match paint_live(rt, alloc, script, workers, gate, &mut live) {
@@ -55,7 +50,7 @@ pub fn run_live<K: Naming + Send + Sync, R: Threads + Wait + Sync, G: Gate>(
     }
 }
 
-/// The same as `run_live`, with a writer that is lent.
+/// Paints and publishes a script as `run_live` does, with a writer that is lent.
 ///
 /// # Errors
 /// `NoMemory`; the writer may have published some of it, and some may be pending.
@@ -69,13 +64,7 @@ pub fn paint_live<K: Naming + Send + Sync, R: Threads + Wait + Sync, G: Gate>(
 ) -> Result<Desk, NoMemory>
     requires workers { workers ≤ 16 }
     requires few { length script.now.commands ≤ 2 ^ 32 - 1 }
-    ensures settled { IfOk result (λ d. IsSettled d) }
-    ensures canvas { IfOk result (λ d. d.canvas ≡ script.now.canvas) }
-    ensures fed { IfOk result (λ d. d.fed ≡ script.now.commands) }
-    ensures pending { OnOk result (pending live.new ≡ []) }
-    ensures goes_on { OnOk result (StartsWith (published live.new) (published live.old)) }
-    ensures root { IfOk result (λ d. ShowsRoot (updates_of (published live.new)) d) }
-    ensures picture { IfOk result (λ d. ShowsPicture (updates_of (published live.new)) d) }
+    ensures { IfOk result (λ d. IsShownBy script.now live.old live.new d) }
 {
     let begun = live.tell();
     let blank = Tile::clear(alloc)?;
@@ -102,9 +91,7 @@ fn paint_watched<K: Naming + Send + Sync, R: Threads + Wait + Sync, G: Gate>(
     requires workers { workers ≤ 16 }
     requires few { length script.now.commands ≤ 2 ^ 32 - 1 }
     requires blank { blank.now ≡ replicate 4096 clear }
-    ensures settled { IfOk result (λ d. IsSettled d) }
-    ensures canvas { IfOk result (λ d. d.canvas ≡ script.now.canvas) }
-    ensures fed { IfOk result (λ d. d.fed ≡ script.now.commands) }
+    ensures { IfOk result (λ d. IsPaintedBy script.now d) }
 {
     let screen = Screen::new(live, blank);
     run_watched(rt, alloc, script, workers, gate, &screen)

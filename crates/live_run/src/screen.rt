@@ -30,7 +30,8 @@ pub(crate) fn show<K: Naming, R: Wait>(
 ) -> Result<(), NoMemory>
     requires { blank.now ≡ replicate 4096 clear }
     ensures pending { OnOk result (pending live.new ≡ []) }
-    ensures shows { OnOk result (ShowsTiles (updates_of (published live.new)) desk.now (keys_of rect.now)) }
+    ensures shows { OnOk result
+        (ShowsTiles (updates_of (published live.new)) desk.now (keys_of rect.now)) }
 {
     put_root(rt, live, blank, desk, rect)?;
     live.publish(rt)

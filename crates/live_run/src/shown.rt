@@ -2,8 +2,8 @@
 
 ghost use Rattle.std.specs.Prelude.{◌≡◌, ◌≤◌, ◌-◌, ◌^◌, [], length, IfOk};
 ghost use Rattle.doc_model.specs.Canvases.{IsOfLimits};
-ghost use Rattle.machine_model.specs.Settled.{IsSettled};
-ghost use Rattle.desk_parts.specs.Cached.{ShowsCache};
+ghost use Rattle.desk_state.specs.Cached.{ShowsCache};
+ghost use Rattle.crew_run.specs.Painted.{IsPaintedBy};
 ghost use Rattle.live_view.specs.Shown.{updates_of};
 ghost use Rattle.live_view.specs.Views.{published, pending};
 ghost use Rattle.live_run.specs.Last.{ShowsLast};
@@ -42,7 +42,7 @@ pub fn run_live_shown<R: Threads + Wait + Sync, G: Gate>(
     named_shown::<Brand, R, G>(rt, alloc, script, workers, gate, open_live())
 }
 
-/// The same, with the live view under a name.
+/// What `run_live_shown` gives, with the live view under a name.
 fn named_shown<K: Naming + Send + Sync, R: Threads + Wait + Sync, G: Gate>(
     rt: &R,
     alloc: Global,
@@ -69,9 +69,7 @@ fn last_shown<K: Naming, R: Wait>(
     desk: Desk,
     live: LiveWriter<K>,
 ) -> Result<Shown, NoMemory>
-    requires settled { IsSettled desk }
-    requires canvas { desk.canvas ≡ script.now.canvas }
-    requires fed { desk.fed ≡ script.now.commands }
+    requires painted { IsPaintedBy script.now desk }
     requires none { pending live ≡ [] }
     requires root { ShowsRoot (updates_of (published live)) desk }
     ensures { IfOk result (λ s. ShowsLast script.now s.film s.outcomes.items) }

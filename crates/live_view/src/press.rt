@@ -1,14 +1,14 @@
 //! What publishes: the wall's writer, and the list of what was published.
 ghost use Rattle.std.specs.Prelude.{◌≡◌, ◌≢◌, ◌<◌, ◌^◌, ◌++◌, ◌∷◌, [], length, drop, OnOk, OnErr};
 ghost use Rattle.past_core.specs.Spans.{entries};
-ghost use Rattle.live_view.specs.declared.press.Stage.TheVariants.{Open, Marked};
+ghost use Rattle.live_view.specs.declared.press.RowStage.TheVariants.{Open, Marked};
 ghost use Rattle.live_view.specs.Rule.{Stands};
 ghost use Rattle.live_view.specs.Shown.{with_row};
 ghost use Rattle.live_view.specs.Walls.{updates_in};
 
 use crate::row::{Row, ThisRow};
-use crate::rule::Published;
-use crate::update::{Op, Update, Updates};
+use crate::rule::WallRule;
+use crate::update::{Update, Updates, WallChange};
 use crate::wall::Wall;
 use crossbeam_utils::rule::Unruled;
 use geom_core::NoMemory;
@@ -17,11 +17,11 @@ use past_core::{Line, Naming};
 use std::sync::Wait;
 
 /// The writer of a wall, under the rule.
-pub(crate) type RuledWriter<K> = Writer<Wall, Op, (), Published<K>>;
+pub(crate) type RuledWriter<K> = Writer<Wall, WallChange, (), WallRule<K>>;
 
 /// How far the pending row has come: not at all, it stands in the list, or the wall will take in that it does.
 #[derive(Clone, Copy)]
-pub(crate) enum Stage {
+pub(crate) enum RowStage {
     Open,
     Listed,
     Marked,
@@ -32,7 +32,7 @@ pub(crate) enum Stage {
 pub(crate) struct Press<K: Naming> {
     pub(crate) writer: RuledWriter<K>,
     pub(crate) line: Line<Updates>,
-    pub(crate) stage: Stage,
+    pub(crate) stage: RowStage,
     pub(crate) count: u64,
 }
 
@@ -54,15 +54,15 @@ impl<K: Naming> Press<K> {
             ≡ updates_in (drop self.old.writer.behind self.old.writer.log.items)) }
     {
         match self.stage {
-            Stage::Open => match self.writer.append(Op::Lay(update)) {
+            RowStage::Open => match self.writer.append(WallChange::Lay(update)) {
                 Ok(()) => {
                     self.count += 1;
                     Ok(())
                 }
                 Err(_) => Err(NoMemory),
             },
-            Stage::Listed => Err(NoMemory),
-            Stage::Marked => Err(NoMemory),
+            RowStage::Listed => Err(NoMemory),
+            RowStage::Marked => Err(NoMemory),
         }
     }
 
@@ -110,15 +110,15 @@ impl<K: Naming> Press<K> {
         ensures listed { OnOk result (self.new.stage ≢ Open) }
     {
         match self.stage {
-            Stage::Open => {
+            RowStage::Open => {
                 if !self.line.add::<ThisRow<N>>() {
                     return Err(NoMemory);
                 }
-                self.stage = Stage::Listed;
+                self.stage = RowStage::Listed;
                 Ok(())
             }
-            Stage::Listed => Ok(()),
-            Stage::Marked => Ok(()),
+            RowStage::Listed => Ok(()),
+            RowStage::Marked => Ok(()),
         }
     }
 
@@ -135,15 +135,15 @@ impl<K: Naming> Press<K> {
         ensures marked { OnOk result (self.new.stage ≡ Marked) }
     {
         match self.stage {
-            Stage::Open => unreachable!(),
-            Stage::Listed => match self.writer.append(Op::Mark(self.line.past())) {
+            RowStage::Open => unreachable!(),
+            RowStage::Listed => match self.writer.append(WallChange::Mark(self.line.past())) {
                 Ok(()) => {
-                    self.stage = Stage::Marked;
+                    self.stage = RowStage::Marked;
                     Ok(())
                 }
                 Err(_) => Err(NoMemory),
             },
-            Stage::Marked => Ok(()),
+            RowStage::Marked => Ok(()),
         }
     }
 
@@ -174,7 +174,7 @@ impl<K: Naming> Press<K> {
         let (writer, shown) = writer.publish_as::<Unruled, R>(rt);
         match shown {
             Ok(()) => {
-                let stage = Stage::Open;
+                let stage = RowStage::Open;
                 let press = Press {
                     writer,
                     line,

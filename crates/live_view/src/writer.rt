@@ -3,10 +3,10 @@ ghost use Rattle.std.specs.Prelude.{◌≡◌, ◌≤◌, ◌<◌, ◌+◌, ◌^
 ghost use Rattle.live_view.specs.Shown.{updates_of, with_row, StartsWith};
 ghost use Rattle.live_view.specs.Views.{published, pending, total};
 
-use crate::press::{Press, RuledWriter, Stage};
+use crate::press::{Press, RowStage, RuledWriter};
 use crate::reader::LiveReader;
 use crate::told::Told;
-use crate::update::{Op, Update, Updates};
+use crate::update::{Update, Updates, WallChange};
 use crate::wall::Wall;
 use geom_core::{NoMemory, TileKey};
 use left_right::writer::Writer;
@@ -65,7 +65,7 @@ impl LiveOpened {
             press: Some(Press {
                 writer,
                 line,
-                stage: Stage::Open,
+                stage: RowStage::Open,
                 count: 0,
             }),
         })

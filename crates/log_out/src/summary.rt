@@ -6,7 +6,7 @@ ghost use Rattle.std.specs.Io.KnownBytes.{Appends};
 ghost use Rattle.io_edge.specs.Told.{AppendsPrefix};
 ghost use Rattle.io_edge.specs.Faults.{HasCause};
 ghost use Rattle.doc_model.specs.Meaning.{refused};
-ghost use Rattle.ppm_out.specs.Scenes.{colours_of};
+ghost use Rattle.tile_core.specs.Scenes.{colours_of};
 ghost use Rattle.log_out.specs.Summary.{sheet_of, colour_sum as sum_of};
 ghost use Rattle.log_out.specs.Log.{done, cancelled, counts, frame_line, sum_text};
 

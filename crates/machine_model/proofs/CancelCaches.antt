@@ -1,6 +1,5 @@
 -- A cancel keeps what caches and running walks hold; and what an undo or redo of a stroke shares with it.
-use Rattle.machine_model.proofs.Choices.{none_and}
-use Rattle.geom_core.proofs.Tests.{kept, or_left, or_right, none_left, none_right, not_true}
+use Rattle.geom_core.proofs.Tests.{kept, or_left, or_right, none_left, none_right, not_true, no_first}
 use Rattle.std.proofs.Common.{◌≡◌, ℕ, suc, zero, ◌<◌, Bool, true, false, ◌&&◌, ◌||◌, List, [], ◌∷◌, Option, Some, None, refl, sym, ap, ◌∙◌, arith, subst, ◌⊎◌, inl, inr, take}
 use Rattle.std.specs.Ordering.{nat_cmp}
 use Rattle.std.specs.FinMap.{FinMap}
@@ -79,7 +78,7 @@ areas_outside (k ∷ jobs) (suc n) (suc j) p out h = areas_outside jobs n j p (n
 
 shown_outside : (jobs : Jobs) (layer : Layer) (d : ℕ → Key → Bool) (n : ℕ) (p : Point) → ((j : ℕ) → j < n → any_holds (writes_at jobs j) p ≡ false) → shown jobs layer d n p ≡ at layer p
 shown_outside jobs layer d zero p out = refl
-shown_outside jobs layer d (suc n) p out = kept _ _ _ (none_and _ _ (out n (omega arith))) ∙ shown_outside jobs layer d n p (λ j h. out j (omega arith))
+shown_outside jobs layer d (suc n) p out = kept _ _ _ (no_first _ _ (out n (omega arith))) ∙ shown_outside jobs layer d n p (λ j h. out j (omega arith))
 
 module _ (old new : State) (tree : IsTree old.base) (present_tree : IsTree old.present) (way : IsOnWay old old.way) (step : CancelStep old new) where
   -- the stroke's layer

@@ -24,7 +24,6 @@ use Rattle.machine_model.specs.UnderWay.{IsOnWay}
 use Rattle.machine_model.specs.Walking.{IsGroupOf}
 use Rattle.machine_model.specs.Counted.{painters, ended, ended_jobs}
 use Rattle.machine_model.specs.Sound.{IsOrderly}
-use Rattle.machine_model.proofs.Lists.{length_last}
 use Rattle.machine_model.proofs.StateTrees.{base_distinct}
 use Rattle.machine_model.proofs.FeedKeeps.{head_is, not_begun}
 use Rattle.machine_model.proofs.Stories.{told_more}
@@ -32,6 +31,7 @@ use Rattle.machine_model.proofs.WalksStand.{SameShape, shape_same, shape_with, a
 use Rattle.machine_model.proofs.SlotChanges.{ended_few}
 use Rattle.machine_model.proofs.LeavingCounts.{jobs_left, kept_few}
 use Rattle.machine_model.proofs.JobKeeps.{parent_stands}
+use Rattle.geom_core.proofs.Tests.{length_more}
 
 -- one rectangle or none is queued
 pub bound_right : (s : State) (g : ℕ) (o : Option Area) → IsQueue (canvas_area s.canvas) s.updates → IsQueue (canvas_area s.canvas) (updates_with s g o)
@@ -83,7 +83,7 @@ cancel_keeps old new sound step = subst IsOrderly (sym step.new_is) (record {
     below = sound.counted.below;
     differ = sound.counted.differ;
     own = sound.counted.own;
-    budget = budget old.next (length old.updates) _ _ (length step.stroke.jobs) _ _ (painters old.slots) _ _ sound.counted.budget right.few (jobs_left old (Strokes step.stroke) (cancel_outcome (conflict step.stroke.jobs)) is_head) (length_last old.outcomes (cancel_outcome (conflict step.stroke.jobs))) all_ended;
+    budget = budget old.next (length old.updates) _ _ (length step.stroke.jobs) _ _ (painters old.slots) _ _ sound.counted.budget right.few (jobs_left old (Strokes step.stroke) (cancel_outcome (conflict step.stroke.jobs)) is_head) (length_more old.outcomes (cancel_outcome (conflict step.stroke.jobs))) all_ended;
   };
 })
   where

@@ -3,19 +3,7 @@ use Rattle.std.proofs.Common.{◌≡◌, Bool, true, false, ◌&&◌, refl, arit
 use Rattle.pixel_core.specs.Rgba.{Rgba}
 use Rattle.doc_model.specs.declared.tree.Look.{Look}
 use Rattle.doc_model.specs.Picture.{with_look}
-
--- nothing passes both where the second test fails
-pub and-false : (b : Bool) → (b && false) ≡ false
-and-false true = refl
-and-false false = refl
-
--- the same by an equation
-pub and_none : (a b : Bool) → b ≡ false → (a && b) ≡ false
-and_none a b e = grind arith
-
--- or where the first test fails
-pub none_and : (a b : Bool) → a ≡ false → (a && b) ≡ false
-none_and a b e = rw e refl
+use Rattle.geom_core.proofs.Tests.{and-false, no_second, no_first}
 
 -- the second test counts only where the first passes
 pub same_and : (a b c : Bool) → (a ≡ true → b ≡ c) → (a && b) ≡ (a && c)

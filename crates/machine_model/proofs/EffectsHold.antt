@@ -1,9 +1,8 @@
 -- What the events do, and what they leave alone.
-use Rattle.machine_model.proofs.Choices.{and_none}
 use Rattle.std.proofs.Common.{false, ◌≡◌, ◌≢◌, ℕ, true, ◌&&◌, cond, [], Option, Some, None, refl, sym, ap, ◌∙◌, subst, eqb, ◌||◌, arith, ◌∷◌}
 use Rattle.geom_core.specs.Areas.{holds, Point}
 use Rattle.geom_core.specs.Rects.{any_holds}
-use Rattle.geom_core.proofs.Tests.{taken, kept, both_true, or_left, neither}
+use Rattle.geom_core.proofs.Tests.{taken, kept, both_true, or_left, neither, no_second, no_first}
 use Rattle.doc_model.specs.declared.command.Outcome.TheVariants.{Done}
 use Rattle.doc_model.specs.Layers.{at, Layer, painted}
 use Rattle.doc_model.proofs.LayerLaws.{at-painted}
@@ -28,7 +27,6 @@ use Rattle.doc_model.specs.Queues.{queued_for}
 use Rattle.machine_model.specs.Groups.{cache, parent_of}
 use Rattle.machine_model.specs.Covers.{composes}
 use Rattle.machine_model.specs.Walks.{walk_value}
-use Rattle.machine_model.proofs.Choices.{none_and}
 use Rattle.machine_model.proofs.CanvasPoints.{canvas_grid}
 use Rattle.machine_model.proofs.WalkPaths.{path_all}
 use Rattle.machine_model.proofs.WalkPublishCaches.{cache_set}
@@ -64,7 +62,7 @@ publish_stays_in_tile old new place key sound step = go (painting old place step
       is = ap (λ (s : State). s.present) step.new_is ∙ adjusted_is step.stroke.layer (published step.painter.job step.painter.shot key) way.layer old.present (tree_distinct old.present (present_tree old sound)) was;
       default_pixel = default-published step.painter.job step.painter.shot key way.layer;
       inside = λ p written hit. shows p ∙ taken (any_holds (writes step.painter.job) p && in_tile key p) _ _ (both_true _ _ written hit);
-      out_of_tile = λ p out. shows p ∙ kept (any_holds (writes step.painter.job) p && in_tile key p) _ _ (and_none (any_holds (writes step.painter.job) p) _ out);
+      out_of_tile = λ p out. shows p ∙ kept (any_holds (writes step.painter.job) p && in_tile key p) _ _ (no_second (any_holds (writes step.painter.job) p) _ out);
       out_of_writes = λ p out. shows p ∙ kept (any_holds (writes step.painter.job) p && in_tile key p) _ _ (ap (λ b. b && in_tile key p) out);
     }
       where
@@ -121,8 +119,8 @@ walk_stays_in_tile old new place g key step = record {
   at_work = step.runs;
   others = λ h p apart. ap (λ l. at l p) (set h ∙ kept (eqb h g) _ _ (other h apart));
   inside = λ p held hit. shows p ∙ taken ((holds w.patch.rect p || false) && in_tile key p) _ _ (both_true _ _ (or_left _ _ held) hit);
-  out_of_tile = λ p out. shows p ∙ kept ((holds w.patch.rect p || false) && in_tile key p) _ _ (and_none (holds w.patch.rect p || false) _ out);
-  out_of_patch = λ p out. shows p ∙ kept ((holds w.patch.rect p || false) && in_tile key p) _ _ (none_and (holds w.patch.rect p || false) _ (neither _ _ out refl));
+  out_of_tile = λ p out. shows p ∙ kept ((holds w.patch.rect p || false) && in_tile key p) _ _ (no_second (holds w.patch.rect p || false) _ out);
+  out_of_patch = λ p out. shows p ∙ kept ((holds w.patch.rect p || false) && in_tile key p) _ _ (no_first (holds w.patch.rect p || false) _ (neither _ _ out refl));
 }
   where
     w : Walker

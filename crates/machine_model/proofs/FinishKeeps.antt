@@ -2,7 +2,7 @@
 use Rattle.std.proofs.Common.{◌≡◌, ℕ, suc, zero, ◌+◌, ◌*◌, ◌≤◌, Bool, true, false, ◌&&◌, List, [], ◌∷◌, ◌++◌, Option, Some, None, length, map, refl, sym, ap, ◌∙◌, arith, subst, inl, inr, ◌||◌}
 use Rattle.std.specs.FinSet as set
 use Rattle.std.proofs.lemmas.List.Folds.{list_any-append}
-use Rattle.geom_core.proofs.Tests.{true_or_false, kept, or_left, or_right, is_some-None}
+use Rattle.geom_core.proofs.Tests.{true_or_false, kept, or_left, or_right, is_some-None, length_more}
 use Rattle.geom_core.proofs.Keys.{key_of_any_held}
 use Rattle.geom_core.specs.Areas.{Area, holds, Point}
 use Rattle.geom_core.specs.Rects.{any_holds}
@@ -28,7 +28,6 @@ use Rattle.machine_model.specs.Reached.{ReachesOneLayer}
 use Rattle.machine_model.specs.UnderWay.{AtRest, UnderWay, IsOnWay, writes_at, shown}
 use Rattle.machine_model.specs.Counted.{painters, ended, ended_jobs}
 use Rattle.machine_model.specs.Sound.{IsOrderly}
-use Rattle.machine_model.proofs.Lists.{length_last}
 use Rattle.machine_model.proofs.FeedKeeps.{head_is, not_begun}
 use Rattle.machine_model.proofs.FinishedLayer.{whole_layer}
 use Rattle.machine_model.proofs.Stories.{told_more}
@@ -91,7 +90,7 @@ finish_nothing old stroke sound at_head closed clear none = record {
     below = sound.counted.below;
     differ = sound.counted.differ;
     own = sound.counted.own;
-    budget = budget old.next (length old.updates) _ _ _ _ (painters old.slots) _ _ sound.counted.budget (jobs_left old (Strokes stroke) (no_paint_outcome stroke.layer old.base) is_head) (length_last old.outcomes (no_paint_outcome stroke.layer old.base));
+    budget = budget old.next (length old.updates) _ _ _ _ (painters old.slots) _ _ sound.counted.budget (jobs_left old (Strokes stroke) (no_paint_outcome stroke.layer old.base) is_head) (length_more old.outcomes (no_paint_outcome stroke.layer old.base));
   };
 }
   where
@@ -144,7 +143,7 @@ finish_whole old stroke sound at_head closed clear paint begun idle = record {
     below = sound.counted.below;
     differ = sound.counted.differ;
     own = sound.counted.own;
-    budget = budget old.next (length old.updates) _ (length stroke.jobs) _ _ (painters old.slots) _ _ sound.counted.budget (jobs_left old (Strokes stroke) outcome.Done is_head) (length_last old.outcomes outcome.Done) all_ended;
+    budget = budget old.next (length old.updates) _ (length stroke.jobs) _ _ (painters old.slots) _ _ sound.counted.budget (jobs_left old (Strokes stroke) outcome.Done is_head) (length_more old.outcomes outcome.Done) all_ended;
   };
 }
   where

@@ -11,8 +11,8 @@ use Rattle.doc_model.specs.Strokes.{conflict}
 use Rattle.machine_model.specs.State.{State, Slot, Free, Paints, Walks}
 use Rattle.machine_model.specs.Slots.{is_painter, no_painter}
 use Rattle.machine_model.specs.Painters.{painter_in, done, is_done}
-use Rattle.geom_core.proofs.Tests.{not_true}
-use Rattle.machine_model.proofs.Lists.{take_all, length_map}
+use Rattle.geom_core.proofs.Tests.{not_true, length_map}
+use Rattle.machine_model.proofs.Lists.{take_all}
 use Rattle.machine_model.specs.Guards.{kept_jobs}
 use Rattle.machine_model.specs.UnderWay.{UnderWay, after_jobs, jobs_only}
 use Rattle.machine_model.proofs.ShownPixels.{shown_all, default-after}

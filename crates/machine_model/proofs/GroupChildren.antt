@@ -1,5 +1,5 @@
 -- The children of a group in a document whose layer q has other pixels.
-use Rattle.geom_core.proofs.Tests.{none_left, none_right, kept}
+use Rattle.geom_core.proofs.Tests.{none_left, none_right, kept, same_choice}
 use Rattle.std.proofs.Common.{◌≡◌, ℕ, Bool, true, false, cond, List, ◌∷◌, refl, ap, ◌∙◌, eqb}
 use Rattle.std.specs.Ordering.{nat_cmp}
 use Rattle.std.specs.FinMap.{FinMap}
@@ -15,9 +15,6 @@ join_with q x none b = refl
 join_with q x (paint id look y rest) b = ap (paint id look (cond (eqb q id) x y)) (join_with q x rest b)
 join_with q x (group id look nodes rest) b = ap (group id look (with_content q x nodes)) (join_with q x rest b)
 
-same_cond : {A : Type 0} (b : Bool) {x x' y y' : A} → x ≡ x' → y ≡ y' → cond b x y ≡ cond b x' y'
-same_cond b e h i = cond b (e i) (h i)
-
 chosen : {A B : Type 0} (b : Bool) (f : A → B) (x y : A) → cond b (f x) (f y) ≡ f (cond b x y)
 chosen true f x y = refl
 chosen false f x y = refl
@@ -27,12 +24,12 @@ children_with : {A : Type 0} (g q : ℕ) (x : A) (f : Forest A) → children g (
 children_with g q x none = refl
 children_with g q x (paint id look y rest) = children_with g q x rest
 children_with g q x (group id look nodes rest) =
-    same_cond (eqb g id) refl (ap (λ a. join a (children g (with_content q x rest))) (children_with g q x nodes) ∙ ap (join (with_content q x (children g nodes))) (children_with g q x rest) ∙ join_with q x (children g nodes) (children g rest))
+    same_choice (eqb g id) refl (ap (λ a. join a (children g (with_content q x rest))) (children_with g q x nodes) ∙ ap (join (with_content q x (children g nodes))) (children_with g q x rest) ∙ join_with q x (children g nodes) (children g rest))
     ∙ chosen (eqb g id) (with_content q x) nodes (join (children g nodes) (children g rest))
 
 -- nor those of a group
 pub nodes_with : (g q : ℕ) (x : Layer) (doc : Doc) → nodes_in g (with_content q x doc) ≡ with_content q x (nodes_in g doc)
-nodes_with g q x doc = same_cond (eqb g 0) refl (children_with g q x doc) ∙ chosen (eqb g 0) (with_content q x) doc (children g doc)
+nodes_with g q x doc = same_choice (eqb g 0) refl (children_with g q x doc) ∙ chosen (eqb g 0) (with_content q x) doc (children g doc)
 
 -- whether q is one of the children
 abbrev pub is_child : ℕ → List Child → Bool

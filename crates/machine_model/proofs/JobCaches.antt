@@ -1,6 +1,5 @@
 -- The events that change no pixel and no cache keep what caches and running walks hold.
-use Rattle.machine_model.proofs.Choices.{and-false}
-use Rattle.geom_core.proofs.Tests.{and_left, and_right, not_true, or_cases, or_left, or_right, is_some-None}
+use Rattle.geom_core.proofs.Tests.{and_left, and_right, not_true, or_cases, or_left, or_right, is_some-None, and-false}
 use Rattle.std.proofs.Common.{◌≡◌, ℕ, Bool, true, false, ◌&&◌, ◌||◌, List, [], ◌∷◌, Option, Some, None, refl, sym, ap, ◌∙◌, subst, inl, inr}
 use Rattle.std.specs.Prelude.{slice_get, slice_set}
 use Rattle.std.specs.List.{list_any, AllByRecursion}

@@ -7,8 +7,8 @@ use Rattle.doc_model.specs.Strokes as strokes
 use Rattle.doc_model.specs.Kept as strokes_kept
 use Rattle.machine_model.specs.State.{State, head}
 use Rattle.machine_model.specs.Counted.{jobs_in}
-use Rattle.machine_model.proofs.Lists.{length_last}
 use Rattle.machine_model.proofs.Stories.{take_one_more}
+use Rattle.geom_core.proofs.Tests.{length_more}
 
 -- the number of jobs of one entry
 abbrev pub jobs_of : Entry → ℕ
@@ -35,7 +35,7 @@ jobs_in_last (x ∷ es) e =
 
 -- the jobs of the entries that have left, with one entry more
 pub jobs_left : (s : State) (e : Entry) (o : Outcome) → head s ≡ Some e → jobs_in (take (length (s.outcomes ++ o ∷ [])) (entries s.fed)) ≡ jobs_in (take (length s.outcomes) (entries s.fed)) + jobs_of e
-jobs_left s e o h = ap (λ n. jobs_in (take n (entries s.fed))) (length_last s.outcomes o) ∙ ap jobs_in (take_one_more (length s.outcomes) (entries s.fed) e h) ∙ jobs_in_last (take (length s.outcomes) (entries s.fed)) e
+jobs_left s e o h = ap (λ n. jobs_in (take n (entries s.fed))) (length_more s.outcomes o) ∙ ap jobs_in (take_one_more (length s.outcomes) (entries s.fed) e h) ∙ jobs_in_last (take (length s.outcomes) (entries s.fed)) e
 
 length_take_le : {A : Type 0} (m : ℕ) (xs : List A) → length (take m xs) ≤ length xs
 length_take_le zero xs = omega arith

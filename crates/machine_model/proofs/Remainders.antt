@@ -3,13 +3,14 @@ use Rattle.std.proofs.Common.{◌≡◌, ℕ, suc, zero, ◌+◌, ◌*◌, ◌<�
 use Rattle.std.specs.Prelude.{slice_get, slice_set}
 use Rattle.std.specs.List.{filter, list_any}
 use Rattle.std.proofs.lemmas.Bool.Decides.{nat_tests}
-use Rattle.geom_core.proofs.Tests.{true_or_false, or_left, or_cases, both_true}
+use Rattle.geom_core.proofs.Tests.{true_or_false, or_left, or_cases, both_true, equal_test}
 use Rattle.geom_core.proofs.Tiles.{key_same, key_is}
 use Rattle.geom_core.specs.Grid.{Key, same_key}
 use Rattle.machine_model.specs.State.{Slot}
 use Rattle.machine_model.specs.Groups.{on}
 use Rattle.machine_model.specs.Guards.{same_pair}
 use Rattle.machine_model.specs.Remaining.{tiles_left, group_left, pairs_left, slot_left, slots_left}
+use Rattle.std.proofs.lemmas.Bool.{eqb-true}
 
 -- no more pass a test than there are
 pub filtered_few : {A : Type 0} (f : A → Bool) (xs : List A) → length (filter f xs) ≤ length xs
@@ -70,12 +71,6 @@ tile_spent key published keys there fresh = one_fewer
       ap not (or_left (same_key k key) (list_any (same_key k) published) (key_is k key (sym (key_same key k e)))),
     )
 
-group_same : (g h : ℕ) → eqb g h ≡ true → g ≡ h
-group_same g h e = grind (arith, nat_tests)
-
-group_is : (g : ℕ) → eqb g g ≡ true
-group_is g = grind (arith, nat_tests)
-
 -- what is left of any group is no more
 group_kept : (g : ℕ) (key : Key) (published : List (ℕ × Key)) (keys : List Key) (h : ℕ) → length (group_left ((g, key) ∷ published) keys h) ≤ length (group_left published keys h)
 group_kept g key published keys h = fewer (λ k. not (list_any (same_pair h k) published)) (λ k. not (list_any (same_pair h k) ((g, key) ∷ published))) (λ k e. not_either (same_pair h k (g, key)) (list_any (same_pair h k) published) e) keys
@@ -95,7 +90,7 @@ group_spent g key published keys there fresh = one_fewer
     at : (k : Key) → same_key key k ≡ true → (not (list_any (same_pair g k) published) ≡ true) × (not (list_any (same_pair g k) ((g, key) ∷ published)) ≡ false)
     at k e = (
       subst (λ l. not (list_any (same_pair g l) published) ≡ true) (key_same key k e) (ap not fresh),
-      ap not (or_left (same_pair g k (g, key)) (list_any (same_pair g k) published) (both_true _ _ (group_is g) (key_is k key (sym (key_same key k e))))),
+      ap not (or_left (same_pair g k (g, key)) (list_any (same_pair g k) published) (both_true _ _ (equal_test g) (key_is k key (sym (key_same key k e))))),
     )
 
 -- a pair that was published is no longer left
@@ -103,7 +98,7 @@ pub pair_spent : (g : ℕ) (key : Key) (published : List (ℕ × Key)) (keys : L
 pair_spent g key published keys [] on_path there fresh = cc
 pair_spent g key published keys (h ∷ gs) on_path there fresh = elim (or_cases (eqb h g) (on g gs) on_path) [
   | inl e ↦
-      let s : length (group_left ((g, key) ∷ published) keys h) < length (group_left published keys h) = subst (λ q. length (group_left ((g, key) ∷ published) keys q) < length (group_left published keys q)) (sym (group_same h g e)) (group_spent g key published keys there fresh) in
+      let s : length (group_left ((g, key) ∷ published) keys h) < length (group_left published keys h) = subst (λ q. length (group_left ((g, key) ∷ published) keys q) < length (group_left published keys q)) (sym (eqb-true h g e)) (group_spent g key published keys there fresh) in
       let m : pairs_left ((g, key) ∷ published) keys gs ≤ pairs_left published keys gs = pairs_kept g key published keys gs in
       omega arith
   | inr e ↦

@@ -1,7 +1,7 @@
 -- How many serials are used.
 use Rattle.std.proofs.Common.{◌≡◌, ℕ, suc, zero, ◌+◌, ◌*◌, ◌≤◌, Bool, true, false, cond, List, [], ◌∷◌, ◌++◌, Option, Some, None, length, take, drop, map, refl, sym, ap, ◌∙◌, arith, eqb, ◌⊎◌, inl, inr, append_assoc, append-nil}
 use Rattle.std.specs.List.{list_any}
-use Rattle.geom_core.proofs.Tests.{and_left, and_right, both_true, none_left, none_right, true_or_false}
+use Rattle.geom_core.proofs.Tests.{and_left, and_right, both_true, none_left, none_right, true_or_false, length_map, length_more}
 use Rattle.doc_model.specs.declared.job.Job.{Job}
 use Rattle.doc_model.specs.declared.job.Kind.{Kind}
 use Rattle.doc_model.specs.declared.command.Command.{Command}
@@ -15,7 +15,6 @@ use Rattle.machine_model.specs.Guards.{kept_jobs}
 use Rattle.machine_model.specs.UnderWay.{IsOnWay}
 use Rattle.machine_model.specs.Counted.{jobs_in, painters, ended, ended_jobs}
 use Rattle.machine_model.specs.CountLaws.{SerialsAreFew, SerialsFit}
-use Rattle.machine_model.proofs.Lists.{length_map, length_last}
 use Rattle.machine_model.proofs.SlotChanges.{ended_few}
 use Rattle.machine_model.proofs.FeedKeeps.{head_is}
 use Rattle.machine_model.proofs.Stories.{take_one_more}
@@ -35,7 +34,7 @@ job_more : (n : ℕ) (kind : Kind) (job : Job) (e : Entry) → jobs_of (with_job
 job_more n kind job (Strokes s) = go (eqb s.no n)
   where
     go : (b : Bool) → jobs_of (cond b (Strokes (record s { jobs = s.jobs ++ (kind, job) ∷ [] })) (Strokes s)) ≤ suc (length s.jobs)
-    go true = let e : length (s.jobs ++ (kind, job) ∷ []) ≡ suc (length s.jobs) = length_last s.jobs (kind, job) in omega arith
+    go true = let e : length (s.jobs ++ (kind, job) ∷ []) ≡ suc (length s.jobs) = length_more s.jobs (kind, job) in omega arith
     go false = omega arith
 job_more n kind job (Changes c) = omega arith
 job_more n kind job Undoes = omega arith
@@ -83,7 +82,7 @@ fates_same n fate (e ∷ es) = jobs_in_one (with_fate n fate e) (map (with_fate 
 entry_more : (es : List Entry) (e : Entry) → jobs_of e ≡ 0 → total (es ++ e ∷ []) ≤ suc (total es)
 entry_more es e none =
     let a : jobs_in (es ++ e ∷ []) ≡ jobs_in es + jobs_of e = jobs_in_last es e in
-    let b : length (es ++ e ∷ []) ≡ suc (length es) = length_last es e in
+    let b : length (es ++ e ∷ []) ≡ suc (length es) = length_more es e in
     omega arith
 
 -- a command makes one more entry or one more job at most

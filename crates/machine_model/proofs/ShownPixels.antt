@@ -1,12 +1,11 @@
 -- What stands at a point while a stroke is under way. Of jobs only their laws are used.
-use Rattle.machine_model.proofs.Choices.{none_and}
 use Rattle.std.proofs.Common.{◌≡◌, ℕ, suc, zero, ◌<◌, Bool, true, false, ◌&&◌, [], ◌∷◌, Some, refl, sym, ap, ◌∙◌, arith, eqb}
 use Rattle.std.specs.Prelude.{slice_get}
 use Rattle.std.proofs.lemmas.Bool.Decides.{nat_tests}
 use Rattle.geom_core.specs.Areas.{Point}
 use Rattle.geom_core.specs.Rects.{any_holds}
 use Rattle.geom_core.specs.Grid.{Key, key_of}
-use Rattle.geom_core.proofs.Tests.{taken, kept, both_true}
+use Rattle.geom_core.proofs.Tests.{taken, kept, both_true, no_first}
 use Rattle.doc_model.specs.declared.job.Job.{Job}
 use Rattle.doc_model.specs.declared.job.Kind.{Kind}
 use Rattle.doc_model.specs.Layers.{Layer, at}
@@ -44,7 +43,7 @@ shown_all jobs layer d (suc n) p all = go (shown_all jobs layer d n p (λ j h. a
   where
     go : shown jobs layer d n p ≡ at (after_jobs jobs layer n) p → (b : Bool) → any_holds (writes_at jobs n) p ≡ b → shown jobs layer d (suc n) p ≡ at (after_jobs jobs layer (suc n)) p
     go rest true e = taken _ _ _ (both_true _ _ e (all n (omega arith) e))
-    go rest false e = kept _ _ _ (none_and _ _ e) ∙ rest ∙ sym (after_outside jobs layer n p e)
+    go rest false e = kept _ _ _ (no_first _ _ e) ∙ rest ∙ sym (after_outside jobs layer n p e)
 
 -- where the job i has painted a point that no later started job holds, the value after it stands there
 pub shown_last : (jobs : Jobs) (layer : Layer) (d : ℕ → Key → Bool) (n i : ℕ) (p : Point) → i < n → any_holds (writes_at jobs i) p ≡ true → d i (key_of p) ≡ true
@@ -57,7 +56,7 @@ shown_last jobs layer d (suc n) i p lt h painted later = go (λ l. shown_last jo
 
     go : (i < n → shown jobs layer d n p ≡ at (after_jobs jobs layer (suc i)) p) → (b : Bool) → eqb i n ≡ b → shown jobs layer d (suc n) p ≡ at (after_jobs jobs layer (suc i)) p
     go rest true e = here n (grind (arith, nat_tests))
-    go rest false e = let below : i < n = grind (arith, nat_tests) in kept _ _ _ (none_and _ _ (later n below (omega arith))) ∙ rest below
+    go rest false e = let below : i < n = grind (arith, nat_tests) in kept _ _ _ (no_first _ _ (later n below (omega arith))) ∙ rest below
 
 -- what stands at a point depends on which of the jobs that hold it have painted it
 pub shown_same : (jobs : Jobs) (layer : Layer) (d d' : ℕ → Key → Bool) (n : ℕ) (p : Point) → ((j : ℕ) → j < n → (any_holds (writes_at jobs j) p && d j (key_of p)) ≡ (any_holds (writes_at jobs j) p && d' j (key_of p)))

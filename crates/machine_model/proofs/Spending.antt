@@ -2,7 +2,7 @@
 use Rattle.std.proofs.Common.{◌≡◌, ℕ, suc, zero, ◌+◌, ◌*◌, ◌<◌, ◌≤◌, Bool, true, false, not, List, [], ◌∷◌, Option, Some, None, length, drop, map, refl, sym, ap, ◌∙◌, arith, subst}
 use Rattle.std.specs.Prelude.{slice_get, slice_set, Result, Ok, Err}
 use Rattle.std.specs.List.{list_all}
-use Rattle.geom_core.proofs.Tests.{and_left, and_right, is_some-None}
+use Rattle.geom_core.proofs.Tests.{and_left, and_right, is_some-None, length_more}
 use Rattle.geom_core.specs.Grid.{Key, keys_of, all_keys_of}
 use Rattle.doc_model.specs.declared.canvas.Patch.{Patch}
 use Rattle.doc_model.specs.declared.job.Kind.{Kind}
@@ -27,7 +27,7 @@ use Rattle.machine_model.specs.Sound.{IsOrderly}
 use Rattle.machine_model.specs.MeaningLaws.{is_feed}
 use Rattle.machine_model.specs.Remaining.{patch_events, queue_events, job_left, slot_left, slots_left, jobs_left, entry_left, entries_left, left, pairs_left}
 use Rattle.machine_model.specs.EndingLaws.{EventsAreSpent, RunsEnd}
-use Rattle.machine_model.proofs.Lists.{length_last, each_get}
+use Rattle.machine_model.proofs.Lists.{each_get}
 use Rattle.machine_model.proofs.FeedKeeps.{head_is}
 use Rattle.machine_model.proofs.Remainders.{tile_spent, pair_spent, pairs_few, slot_spent}
 use Rattle.machine_model.proofs.Bounds.{groups_few, tiles_few}
@@ -183,12 +183,12 @@ finish_spends old new sound step = go (is_paint step.stroke.layer old.base) refl
         absurd (let f : true ≡ false = sym there ∙ ap (λ (t : Stroke). is_paint t.layer old.base) one ∙ no_layer in cc)
 
     go : (b : Bool) → is_paint step.stroke.layer old.base ≡ b → new ≡ after_finish old step.stroke b → left new < left old
-    go false no_layer e = entry_goes old new (Strokes step.stroke) at_head (ap (λ (s : State). s.fed) e) (ap (λ (s : State). length s.outcomes) e ∙ length_last old.outcomes _) (ap (λ (s : State). s.way) e ∙ not_begun old.way sound.on_way no_layer) (ap (λ (s : State). s.slots) e) (few_after old new Finish sound step)
-    go true layer e = entry_goes old new (Strokes step.stroke) at_head (ap (λ (s : State). s.fed) e) (ap (λ (s : State). length s.outcomes) e ∙ length_last old.outcomes _) (ap (λ (s : State). s.way) e) (ap (λ (s : State). s.slots) e) (few_after old new Finish sound step)
+    go false no_layer e = entry_goes old new (Strokes step.stroke) at_head (ap (λ (s : State). s.fed) e) (ap (λ (s : State). length s.outcomes) e ∙ length_more old.outcomes _) (ap (λ (s : State). s.way) e ∙ not_begun old.way sound.on_way no_layer) (ap (λ (s : State). s.slots) e) (few_after old new Finish sound step)
+    go true layer e = entry_goes old new (Strokes step.stroke) at_head (ap (λ (s : State). s.fed) e) (ap (λ (s : State). length s.outcomes) e ∙ length_more old.outcomes _) (ap (λ (s : State). s.way) e) (ap (λ (s : State). s.slots) e) (few_after old new Finish sound step)
 
 cancel_spends : (old new : State) → IsOrderly old → CancelStep old new → left new < left old
 cancel_spends old new sound step = entry_goes old new (Strokes step.stroke) (head_is (head old) step.stroke step.at_head)
-    (ap (λ (s : State). s.fed) step.new_is) (ap (λ (s : State). length s.outcomes) step.new_is ∙ length_last old.outcomes _)
+    (ap (λ (s : State). s.fed) step.new_is) (ap (λ (s : State). length s.outcomes) step.new_is ∙ length_more old.outcomes _)
     (ap (λ (s : State). s.way) step.new_is) (ap (λ (s : State). s.slots) step.new_is) (few_after old new Cancel sound step)
 
 -- what an entry that takes effect leaves: one more outcome, and what stays
@@ -203,24 +203,24 @@ moves old mid d Whole h = record { fed = h.fed; count = h.count; way = h.way; sl
 moves old mid d (Part id keys) h = record { fed = h.fed; count = h.count; way = h.way; slots = h.slots }
 
 change_leaves : (s : State) (r : Result Doc TreeFault) → Leaves s (after_change s r)
-change_leaves s (Ok doc) = record { fed = refl; count = length_last s.outcomes _; way = refl; slots = refl }
-change_leaves s (Err fault) = record { fed = refl; count = length_last s.outcomes _; way = refl; slots = refl }
+change_leaves s (Ok doc) = record { fed = refl; count = length_more s.outcomes _; way = refl; slots = refl }
+change_leaves s (Err fault) = record { fed = refl; count = length_more s.outcomes _; way = refl; slots = refl }
 
 undo_leaves : (s : State) (past : List (Doc × Reach)) → Leaves s (after_undo s past)
-undo_leaves s [] = record { fed = refl; count = length_last s.outcomes _; way = refl; slots = refl }
-undo_leaves s (e ∷ past) = moves s (record (with_outcome s Done) { past = past; future = (s.base, e.1) ∷ s.future }) e.0 e.1 (record { fed = refl; count = length_last s.outcomes _; way = refl; slots = refl })
+undo_leaves s [] = record { fed = refl; count = length_more s.outcomes _; way = refl; slots = refl }
+undo_leaves s (e ∷ past) = moves s (record (with_outcome s Done) { past = past; future = (s.base, e.1) ∷ s.future }) e.0 e.1 (record { fed = refl; count = length_more s.outcomes _; way = refl; slots = refl })
 
 redo_leaves : (s : State) (future : List (Doc × Reach)) → Leaves s (after_redo s future)
-redo_leaves s [] = record { fed = refl; count = length_last s.outcomes _; way = refl; slots = refl }
-redo_leaves s (e ∷ future) = moves s (record (with_outcome s Done) { past = (s.base, e.1) ∷ s.past; future = future }) e.0 e.1 (record { fed = refl; count = length_last s.outcomes _; way = refl; slots = refl })
+redo_leaves s [] = record { fed = refl; count = length_more s.outcomes _; way = refl; slots = refl }
+redo_leaves s (e ∷ future) = moves s (record (with_outcome s Done) { past = (s.base, e.1) ∷ s.past; future = future }) e.0 e.1 (record { fed = refl; count = length_more s.outcomes _; way = refl; slots = refl })
 
 entry_leaves : (s : State) (e : Entry) → stroke_of (Some e) ≡ None → Leaves s (after_entry s e)
 entry_leaves s (Strokes stroke) h = cc
 entry_leaves s (Changes change) h = change_leaves s (changed plain change s.base)
 entry_leaves s Undoes h = undo_leaves s s.past
 entry_leaves s Redoes h = redo_leaves s s.future
-entry_leaves s (Purges n) h = record { fed = refl; count = length_last s.outcomes _; way = refl; slots = refl }
-entry_leaves s Exports h = record { fed = refl; count = length_last s.outcomes _; way = refl; slots = refl }
+entry_leaves s (Purges n) h = record { fed = refl; count = length_more s.outcomes _; way = refl; slots = refl }
+entry_leaves s Exports h = record { fed = refl; count = length_more s.outcomes _; way = refl; slots = refl }
 
 act_spends : (old new : State) → IsOrderly old → ActStep old new → left new < left old
 act_spends old new sound step = entry_goes old new step.entry step.at_head left_as.fed left_as.count (left_as.way ∙ at_rest old.way sound.on_way) left_as.slots (few_after old new Act sound step)

@@ -1,5 +1,4 @@
 -- A job that starts keeps what holds of the stroke under way. Of jobs only their laws are used.
-use Rattle.machine_model.proofs.Choices.{and_none}
 use Rattle.std.proofs.Common.{◌≡◌, ◌≢◌, ℕ, suc, zero, ◌-◌, ◌<◌, ◌≤◌, Bool, true, false, ◌&&◌, cond, List, [], ◌∷◌, Option, Some, None, is_some, refl, sym, ap, ◌∙◌, arith, eqb, subst}
 use Rattle.std.specs.Prelude.{slice_get, slice_set}
 use Rattle.std.specs.Option.{unwrap_or}
@@ -9,7 +8,7 @@ use Rattle.pixel_core.specs.Rgba.{Rgba, clear}
 use Rattle.geom_core.specs.Areas.{Point}
 use Rattle.geom_core.specs.Rects.{any_holds}
 use Rattle.geom_core.specs.Grid.{Key, key_of}
-use Rattle.geom_core.proofs.Tests.{taken, kept, none_left, none_right}
+use Rattle.geom_core.proofs.Tests.{taken, kept, none_left, none_right, no_second}
 use Rattle.doc_model.specs.declared.job.Job.{Job}
 use Rattle.doc_model.specs.declared.job.Kind.{Kind}
 use Rattle.doc_model.specs.declared.job.Kind.TheVariants.{Con, Seq, Bar, Uni}
@@ -154,7 +153,7 @@ way_after_start old new place n step begun way = subst (λ s. UnderWay s (suc n)
     done_new q = ap (λ o. is_done o q) (painters n ∙ taken (eqb step.next n) _ _ (grind (arith, nat_tests, same_next)))
 
     unpainted : (p : Point) → shown jobs way.base_layer (done slots') (suc n) p ≡ shown jobs way.base_layer (done slots') n p
-    unpainted p = kept (any_holds (writes_at jobs n) p && done slots' n (key_of p)) _ _ (and_none (any_holds (writes_at jobs n) p) _ (done_new (key_of p)))
+    unpainted p = kept (any_holds (writes_at jobs n) p && done slots' n (key_of p)) _ _ (no_second (any_holds (writes_at jobs n) p) _ (done_new (key_of p)))
 
     same_layer : layer_in step.stroke.layer old.present ≡ way.layer
     same_layer = ap (λ (t : Stroke). layer_in t.layer old.present) same_stroke

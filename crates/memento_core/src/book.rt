@@ -1,6 +1,6 @@
 //! Books of revisions.
 
-ghost use Rattle.std.specs.Prelude.{◌≡◌, ◌+◌, true, [], ◌∷◌, None, Some, is_some, take, OnOk, OnErr, IsNone, IfSome, IfNone, ◌↔◌};
+ghost use Rattle.std.specs.Prelude.{◌≡◌, ◌+◌, true, [], None, Some, is_some, take, OnOk, OnErr, IsNone, IfSome, IfNone, ◌↔◌};
 ghost use Rattle.std.specs.FinMap as map;
 ghost use Rattle.std.specs.FinSet as set;
 ghost use Rattle.geom_core.specs.Keys.{IsWorldKey};
@@ -18,6 +18,9 @@ use std::sync::ledger::Ledger;
 
 /// The revisions of one plane: those that can be rolled back, those that can be rolled forward again,
 /// and an open transaction, in which what stands under each key is noted before it changes.
+///
+/// For hosts that keep a plane of tiles of their own and let a user undo its changes. A store keeps
+/// its revisions beside the other entries of its history.
 ///
 /// What the calls below call a step is the exchange of one tile with the plane.
 #[derive(Drop)]
@@ -71,7 +74,8 @@ impl<T: Drop> Book<T> {
     pub fn note(&mut self, key: TileKey, old: Option<T>) -> Result<(), NoMemory>
         requires open { is_some self.old.index ≡ true }
         requires world { IsWorldKey key }
-        ensures ok { (r : Keyed T) → self.old.index ≡ Some r → OnOk result (self.new ≡ record self.old { index = Some (noted_under r key old) }) }
+        ensures ok { (r : Keyed T) → self.old.index ≡ Some r
+            → OnOk result (self.new ≡ record self.old { index = Some (noted_under r key old) }) }
         ensures err { OnErr result (self.new ≡ self.old) }
     {
         match &mut self.index {
@@ -101,9 +105,14 @@ impl<T: Drop> Book<T> {
     ) -> Touched
         requires open { is_some self.old.index ≡ true }
         requires stand { (r : Keyed T) → self.old.index ≡ Some r → AllStand r (P.plane plane.old) }
+
+        // Only the index is gone, and what was noted in it stands in the plane again.
         ensures new { self.new ≡ record self.old { index = None } }
-        ensures back { (r : Keyed T) → self.old.index ≡ Some r → PutsBack r (P.plane plane.old) (P.plane plane.new) }
+        ensures back { (r : Keyed T) → self.old.index ≡ Some r
+            → PutsBack r (P.plane plane.old) (P.plane plane.new) }
         ensures rest { P.bare plane.new ≡ P.bare plane.old }
+
+        // What the call tells, and what it counts.
         ensures touched { (r : Keyed T) → self.old.index ≡ Some r → HasTouched (keys_in r) result }
         ensures counts { steps.new ≡ steps.old + result.count }
     {
@@ -124,11 +133,18 @@ impl<T: Drop> Book<T> {
     ) -> Option<Touched>
         requires closed { self.old.index ≡ None }
         requires stand { FirstStands self.old.past (P.plane plane.old) }
+
+        // Where there is no revision, all stays.
         ensures none { IsNone result ↔ (self.old.past ≡ []) }
         ensures kept { IfNone result ((self.new ≡ self.old) × (plane.new ≡ plane.old)) }
-        ensures back { IfSome result (λ t. RollsBack self.old self.new (P.plane plane.old) (P.plane plane.new)) }
+
+        // Else the newest is exchanged, and can be again.
+        ensures back { IfSome result
+            (λ t. RollsBack self.old self.new (P.plane plane.old) (P.plane plane.new)) }
         ensures stands { IfSome result (λ t. FirstStands self.new.redo (P.plane plane.new)) }
         ensures rest { P.bare plane.new ≡ P.bare plane.old }
+
+        // What the call tells, and what it counts.
         ensures touched { IfSome result (HasTouched (first_keys self.old.past)) }
         ensures counts { steps.new ≡ steps.old + set.len (first_keys self.old.past) }
     {
@@ -147,11 +163,18 @@ impl<T: Drop> Book<T> {
     ) -> Option<Touched>
         requires closed { self.old.index ≡ None }
         requires stand { FirstStands self.old.redo (P.plane plane.old) }
+
+        // Where nothing was rolled back, all stays.
         ensures none { IsNone result ↔ (self.old.redo ≡ []) }
         ensures kept { IfNone result ((self.new ≡ self.old) × (plane.new ≡ plane.old)) }
-        ensures forth { IfSome result (λ t. RollsForward self.old self.new (P.plane plane.old) (P.plane plane.new)) }
+
+        // Else the last of it is exchanged, and can be again.
+        ensures forth { IfSome result
+            (λ t. RollsForward self.old self.new (P.plane plane.old) (P.plane plane.new)) }
         ensures stands { IfSome result (λ t. FirstStands self.new.past (P.plane plane.new)) }
         ensures rest { P.bare plane.new ≡ P.bare plane.old }
+
+        // What the call tells, and what it counts.
         ensures touched { IfSome result (HasTouched (first_keys self.old.redo)) }
         ensures counts { steps.new ≡ steps.old + set.len (first_keys self.old.redo) }
     {

@@ -5,7 +5,7 @@ ghost use Rattle.std.specs.FinSet as set;
 ghost use Rattle.geom_core.specs.Grid.{key_cmp};
 ghost use Rattle.geom_core.specs.Keys.{IsWorldKey};
 ghost use Rattle.geom_core.specs.Touches.{bound_of};
-ghost use Rattle.geom_core.specs.Exchanged.{widened, HasTouched};
+ghost use Rattle.geom_core.specs.Exchanged.{HasTouched};
 
 use geom_core::{NoMemory, Rect, TileKey, Touched};
 use std::alloc::Global;
@@ -85,17 +85,7 @@ fn bound_of(tiles: &BTreeSet<TileKey>) -> Option<Rect>
 {
     let mut bound = None;
     for key in tiles {
-        bound = wider(bound, key.rect());
+        bound = Some(Rect::round(bound, &key.rect()));
     }
     bound
-}
-
-/// The least rectangle round both.
-fn wider(bound: Option<Rect>, rect: Rect) -> Option<Rect>
-    ensures { result ≡ Some (widened bound rect) }
-{
-    match bound {
-        Some(bound) => Some(bound.bound(&rect)),
-        None => Some(rect),
-    }
 }

@@ -113,7 +113,8 @@ fn exchange_all<T: Drop, P: Plane<T>, L: Ledger>(
 )
     requires once { IsEachOnce (keys_noted notes.old) }
     requires there { AllStand (noted notes.old) (P.plane plane.old) }
-    ensures exchanges { Exchanges (noted notes.old) (noted notes.new) (P.plane plane.old) (P.plane plane.new) }
+    ensures exchanges { Exchanges (noted notes.old) (noted notes.new)
+        (P.plane plane.old) (P.plane plane.new) }
     ensures rest { P.bare plane.new ≡ P.bare plane.old }
     ensures keys { keys_noted notes.new ≡ keys_noted notes.old }
     ensures counts { steps.new ≡ steps.old + length notes.old }

@@ -6,7 +6,7 @@ use Rattle.std.specs.FinMap as fin
 use Rattle.geom_core.specs.Areas.{holds, Point}
 use Rattle.geom_core.specs.Rects.{any_holds}
 use Rattle.geom_core.specs.Grid.{Key, key_of, same_key, tile}
-use Rattle.geom_core.proofs.Tests.{true_or_false, is_some-None, or_left, or_right, or_cases, taken, kept}
+use Rattle.geom_core.proofs.Tests.{true_or_false, is_some-None, or_left, or_right, or_cases, taken, kept, and-true}
 use Rattle.geom_core.proofs.Tiles.{own_tile, key_same}
 use Rattle.doc_model.specs.Layers.{at}
 use Rattle.doc_model.proofs.LayerLaws.{at-painted, at-plain, default-painted, default-plain}
@@ -31,10 +31,6 @@ nothing_there : (s : Sheet) (p : Point) → any_holds (map tile (fin.keys s.tile
 nothing_there s p h =
     let none : fin.get s.tiles (key_of p) ≡ None = is_some-None _ (fin.contains_key-keys s.tiles (key_of p) ∙ none_by _ _ (any_tile p (fin.keys s.tiles)) h) in
     ap (λ o. pixel_or (unwrap_or o None) s.default_pixel p) none
-
-and-true : (b : Bool) → (b && true) ≡ b
-and-true true = refl
-and-true false = refl
 
 pub at-layer_of : (s : Sheet) (p : Point) → at (layer_of s) p ≡ sheet_at s p
 unfolding layer_of

@@ -1,5 +1,10 @@
 //! Tests of the lower crates, from pixels to the pictures of groups, of what waits to be composed, and of
 //! slots of workers: worked values, and that each call can succeed. They stand above the crates that they test, so that each of those is proved once.
+//!
+//! # Decisions
+//!
+//! - That shared values may go from thread to thread is tried in the crates of tests (`crosses`), where values
+//!   of several crates stand at hand.
 #![tactic(auto)]
 
 #[cfg(test)]

@@ -9,7 +9,8 @@ use Rattle.std.specs.Io.KnownBytes.{Appends}
 use Rattle.io_edge.specs.declared.outside.Failed.{Failed}
 use Rattle.io_edge.specs.Told.{AppendsPrefix}
 use Rattle.io_edge.proofs.Written.{prefix_behind, appends_to, flat_at}
-use Rattle.ppm_out.specs.Scenes.{colours_of, scene_bytes}
+use Rattle.ppm_out.specs.Scenes.{scene_bytes}
+use Rattle.tile_core.specs.Scenes.{colours_of}
 
 -- the colours of points, one after another
 pub concat_is : (f : Point → List ℕ) (ps : List Point) → flat_map f ps ≡ concat (map f ps)

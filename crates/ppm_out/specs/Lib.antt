@@ -1,3 +1,2 @@
 pub mod Pictures
 pub mod Scenes
-pub mod Sides

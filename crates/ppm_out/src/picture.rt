@@ -7,7 +7,8 @@ ghost use Rattle.std.specs.Io.KnownBytes.{Appends};
 ghost use Rattle.io_edge.specs.Told.{AppendsPrefix};
 ghost use Rattle.io_edge.specs.Faults.{HasCause};
 ghost use Rattle.ppm_out.specs.Pictures.{header, frame_bytes};
-ghost use Rattle.ppm_out.specs.Scenes.{colours_of, scene_bytes};
+ghost use Rattle.ppm_out.specs.Scenes.{scene_bytes};
+ghost use Rattle.tile_core.specs.Scenes.{colours_of};
 
 use crate::rows::{Alone, LaysRows, Threaded, lay_rows};
 use io_edge::{Failed, Sink, write_all, write_pieces};

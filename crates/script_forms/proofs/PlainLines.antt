@@ -9,8 +9,8 @@ use Rattle.script_lines.specs.declared.cause.Cause.{Cause}
 use Rattle.script_lines.specs.Values.{rgba, natural}
 use Rattle.script_lines.specs.Fronts.{Begins, is_field, with_field}
 use Rattle.script_lines.proofs.FieldLemmas.{space_lines, feed_lines}
-use Rattle.script_forms.specs.declared.words.Work.{Work}
-use Rattle.script_forms.specs.declared.words.Work.TheVariants.{Fill, Dab}
+use Rattle.script_forms.specs.declared.words.JobWord.{JobWord}
+use Rattle.script_forms.specs.declared.words.JobWord.TheVariants.{Fill, Dab}
 use Rattle.script_forms.specs.declared.jobs.Outline.{Outline}
 use Rattle.script_forms.specs.declared.jobs.Ink.{Ink}
 use Rattle.script_forms.specs.declared.jobs.Tip.{Tip}
@@ -68,7 +68,7 @@ ink_last text t1 t2 behind i a b c = record {
 
 -- lines
 
-paint_told : (work : Work) (number kind : List ℕ) (others : Fields) (n : ℕ) (k : Kind) (j : Job) → job_fields work (length others) ≡ true → natural 0 4294967295 number ≡ Ok n → kind_of kind ≡ Ok k → job_of work others ≡ Ok j → paint work (number ∷ kind ∷ others) ≡ Ok (Add n k j)
+paint_told : (work : JobWord) (number kind : List ℕ) (others : Fields) (n : ℕ) (k : Kind) (j : Job) → job_fields work (length others) ≡ true → natural 0 4294967295 number ≡ Ok n → kind_of kind ≡ Ok k → job_of work others ≡ Ok j → paint work (number ∷ kind ∷ others) ≡ Ok (Add n k j)
 unfolding paint
 paint_told work number kind others n k j count a b c = rw (count, a, b, c) refl
 

@@ -11,15 +11,13 @@ use Rattle.script_lines.specs.declared.cause.Cause.{Cause}
 use Rattle.script_lines.specs.declared.cause.Cause.TheVariants.{OutOfWorld}
 use Rattle.script_forms.specs.Jobs.{checked}
 use Rattle.script_forms.specs.Ranges.{in_world}
+use Rattle.geom_core.proofs.Tests.{no_first}
 
 pub both : (a b : Bool) → a ≡ true → b ≡ true → (a && (b && true)) ≡ true
 both a b h k = rw (h, k) refl
 
 pub one : (a : Bool) → a ≡ true → (a && true) ≡ true
 one a h = rw h refl
-
-pub left_not : (a b : Bool) → a ≡ false → (a && b) ≡ false
-left_not a b h = rw h refl
 
 pub right_not : (a b : Bool) → b ≡ false → (a && (b && true)) ≡ false
 right_not true b h = rw h refl

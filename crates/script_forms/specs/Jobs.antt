@@ -18,8 +18,8 @@ use Rattle.doc_model.specs.declared.command.Command.{Command}
 use Rattle.doc_model.specs.declared.command.Command.TheVariants.{Add}
 use Rattle.script_lines.specs.declared.cause.Cause.{Cause}
 use Rattle.script_lines.specs.declared.cause.Cause.TheVariants.{FieldCount, OutOfWorld, TooManyDabs, UnknownWord}
-use Rattle.script_forms.specs.declared.words.Work.{Work}
-use Rattle.script_forms.specs.declared.words.Work.TheVariants.{Fill, Dab, Move, Blur, Track}
+use Rattle.script_forms.specs.declared.words.JobWord.{JobWord}
+use Rattle.script_forms.specs.declared.words.JobWord.TheVariants.{Fill, Dab, Move, Blur, Track}
 use Rattle.script_forms.specs.declared.jobs.Outline.{Outline}
 use Rattle.script_forms.specs.declared.jobs.Ink.{Ink}
 use Rattle.script_forms.specs.declared.jobs.Tip.{Tip}
@@ -158,14 +158,14 @@ path (number ∷ others) = if are_points (length others - 6) then (do
 path _ = Err FieldCount
 
 -- whether a job has so many fields behind its stroke and its kind
-abbrev pub job_fields : Work → ℕ → Bool
+abbrev pub job_fields : JobWord → ℕ → Bool
 job_fields Move n = n == 6
 job_fields Blur n = n == 5
 job_fields Track n = are_points (n - 8)
 job_fields work n = n == 7
 
 -- the job that these fields say
-unfoldable pub job_of : Work → Fields → Result Job Cause
+unfoldable pub job_of : JobWord → Fields → Result Job Cause
 job_of Fill (left ∷ top ∷ width ∷ height ∷ colour ∷ operation ∷ strength ∷ []) = do
   o ← outline left top width height
   i ← ink colour operation strength
@@ -187,7 +187,7 @@ job_of Track fields = track fields
 job_of work fields = Err FieldCount
 
 -- a job of a stroke
-unfoldable pub paint : Work → Fields → Result Command Cause
+unfoldable pub paint : JobWord → Fields → Result Command Cause
 paint work (number ∷ kind ∷ others) = if job_fields work (length others) then (do
   n ← natural 0 4294967295 number
   k ← kind_of kind

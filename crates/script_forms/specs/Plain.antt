@@ -5,7 +5,7 @@ use Rattle.script_lines.specs.declared.cause.Cause.TheVariants.{FieldCount}
 use Rattle.doc_model.specs.declared.command.Command.{Command}
 use Rattle.script_lines.specs.Lines.{lines}
 use Rattle.script_lines.specs.Fronts.{with_field}
-use Rattle.script_forms.specs.declared.words.Work.{Work}
+use Rattle.script_forms.specs.declared.words.JobWord.{JobWord}
 use Rattle.script_forms.specs.declared.jobs.Outline.{Outline}
 use Rattle.script_forms.specs.declared.jobs.Ink.{Ink}
 use Rattle.script_forms.specs.declared.jobs.Tip.{Tip}
@@ -39,14 +39,14 @@ pub record IsInkLine (text : List ℕ) (i : Ink) (behind : List ℕ) : Type 0 wh
   pub line : lines text ≡ (colour ∷ operation ∷ strength ∷ []) ∷ lines behind
 
 -- the first line is what stands behind the word of that job, it says the command, and the other lines stand behind
-pub record IsPaintLine (work : Work) (text : List ℕ) (c : Command) (behind : List ℕ) : Type 0 where
+pub record IsPaintLine (work : JobWord) (text : List ℕ) (c : Command) (behind : List ℕ) : Type 0 where
   pub others : Fields
   pub told : paint work others ≡ Ok c
   pub line : lines text ≡ others ∷ lines behind
 
 -- the first line is a job's, it says the command, and the other lines stand behind
 pub record IsJobLine (text : List ℕ) (c : Command) (behind : List ℕ) : Type 0 where
-  pub work : Work
+  pub work : JobWord
   pub others : Fields
   pub told : paint work others ≡ Ok c
   pub line : lines text ≡ (work_text work ∷ others) ∷ lines behind

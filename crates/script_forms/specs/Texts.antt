@@ -4,12 +4,12 @@ use Rattle.pixel_core.specs.declared.blending.Op.{Op}
 use Rattle.pixel_core.specs.declared.blending.Op.TheVariants.{Over, Erase, Multiply, Screen, Addition}
 use Rattle.doc_model.specs.declared.job.Kind.{Kind}
 use Rattle.doc_model.specs.declared.job.Kind.TheVariants.{Con, Seq, Bar, Uni}
-use Rattle.script_forms.specs.declared.words.Work.{Work}
-use Rattle.script_forms.specs.declared.words.Work.TheVariants.{Fill, Dab, Move, Blur, Track}
+use Rattle.script_forms.specs.declared.words.JobWord.{JobWord}
+use Rattle.script_forms.specs.declared.words.JobWord.TheVariants.{Fill, Dab, Move, Blur, Track}
 use Rattle.script_forms.specs.declared.words.Word.{Word}
 use Rattle.script_forms.specs.declared.words.Word.TheVariants.{Layer, Group, Remove, Place, Look, Stroke, Paint, End, Cancel, Undo, Redo, Purge, Export}
 
-abbrev pub work_text : Work → List ℕ
+abbrev pub work_text : JobWord → List ℕ
 work_text Fill = codes "fill"
 work_text Dab = codes "dab"
 work_text Move = codes "move"

@@ -11,7 +11,7 @@ ghost use Rattle.script_forms.specs.Ranges.{job_in_range, in_range, is_sound, Is
 ghost use Rattle.script_forms.specs.Jobs.{outline as told_outline, ink as told_ink, tip as told_tip, job_of as told_job, job_fields as fields_of_job, paint as told_paint, area_of, checked};
 
 use crate::tracks::{are_points, track};
-use crate::words::{Work, edge_of, kind_of, op_of};
+use crate::words::{JobWord, edge_of, kind_of, op_of};
 use doc_model::{Command, Job};
 use geom_core::Rect;
 use pixel_core::{Op, Pixel};
@@ -237,7 +237,7 @@ fn fill_fields(
     operation: &[u8],
     strength: &[u8],
 ) -> Result<Job, Cause>
-    ensures value { result ≡ told_job Work.Fill (left.now ∷ top.now ∷ width.now ∷ height.now ∷ colour.now ∷ operation.now ∷ strength.now ∷ []) }
+    ensures value { result ≡ told_job JobWord.Fill (left.now ∷ top.now ∷ width.now ∷ height.now ∷ colour.now ∷ operation.now ∷ strength.now ∷ []) }
     ensures ranges { IfOk result (λ j. job_in_range j ≡ true) }
     ensures sound { IfOk result (λ j. (checks j && within_limits j) ≡ true) }
 {
@@ -248,7 +248,7 @@ fn fill_fields(
 
 #[tactic(auto, unfolding(crate::specs::Jobs::job_of))]
 fn fill(fields: &[&[u8]]) -> Result<Job, Cause>
-    ensures value { result ≡ told_job Work.Fill (pointed fields.now) }
+    ensures value { result ≡ told_job JobWord.Fill (pointed fields.now) }
     ensures ranges { IfOk result (λ j. job_in_range j ≡ true) }
     ensures sound { IfOk result (λ j. (checks j && within_limits j) ≡ true) }
 {
@@ -270,7 +270,7 @@ fn dab_fields(
     operation: &[u8],
     strength: &[u8],
 ) -> Result<Job, Cause>
-    ensures value { result ≡ told_job Work.Dab (left.now ∷ top.now ∷ radius.now ∷ edge.now ∷ colour.now ∷ operation.now ∷ strength.now ∷ []) }
+    ensures value { result ≡ told_job JobWord.Dab (left.now ∷ top.now ∷ radius.now ∷ edge.now ∷ colour.now ∷ operation.now ∷ strength.now ∷ []) }
     ensures ranges { IfOk result (λ j. job_in_range j ≡ true) }
     ensures sound { IfOk result (λ j. (checks j && within_limits j) ≡ true) }
 {
@@ -281,7 +281,7 @@ fn dab_fields(
 
 #[tactic(auto, unfolding(crate::specs::Jobs::job_of))]
 fn dab(fields: &[&[u8]]) -> Result<Job, Cause>
-    ensures value { result ≡ told_job Work.Dab (pointed fields.now) }
+    ensures value { result ≡ told_job JobWord.Dab (pointed fields.now) }
     ensures ranges { IfOk result (λ j. job_in_range j ≡ true) }
     ensures sound { IfOk result (λ j. (checks j && within_limits j) ≡ true) }
 {
@@ -302,7 +302,7 @@ fn move_fields(
     columns: &[u8],
     rows: &[u8],
 ) -> Result<Job, Cause>
-    ensures value { result ≡ told_job Work.Move (left.now ∷ top.now ∷ width.now ∷ height.now ∷ columns.now ∷ rows.now ∷ []) }
+    ensures value { result ≡ told_job JobWord.Move (left.now ∷ top.now ∷ width.now ∷ height.now ∷ columns.now ∷ rows.now ∷ []) }
     ensures ranges { IfOk result (λ j. job_in_range j ≡ true) }
     ensures sound { IfOk result (λ j. (checks j && within_limits j) ≡ true) }
 {
@@ -314,7 +314,7 @@ fn move_fields(
 
 #[tactic(auto, unfolding(crate::specs::Jobs::job_of))]
 fn move_by(fields: &[&[u8]]) -> Result<Job, Cause>
-    ensures value { result ≡ told_job Work.Move (pointed fields.now) }
+    ensures value { result ≡ told_job JobWord.Move (pointed fields.now) }
     ensures ranges { IfOk result (λ j. job_in_range j ≡ true) }
     ensures sound { IfOk result (λ j. (checks j && within_limits j) ≡ true) }
 {
@@ -334,7 +334,7 @@ fn blur_fields(
     height: &[u8],
     radius: &[u8],
 ) -> Result<Job, Cause>
-    ensures value { result ≡ told_job Work.Blur (left.now ∷ top.now ∷ width.now ∷ height.now ∷ radius.now ∷ []) }
+    ensures value { result ≡ told_job JobWord.Blur (left.now ∷ top.now ∷ width.now ∷ height.now ∷ radius.now ∷ []) }
     ensures ranges { IfOk result (λ j. job_in_range j ≡ true) }
     ensures sound { IfOk result (λ j. (checks j && within_limits j) ≡ true) }
 {
@@ -345,7 +345,7 @@ fn blur_fields(
 
 #[tactic(auto, unfolding(crate::specs::Jobs::job_of))]
 fn blur(fields: &[&[u8]]) -> Result<Job, Cause>
-    ensures value { result ≡ told_job Work.Blur (pointed fields.now) }
+    ensures value { result ≡ told_job JobWord.Blur (pointed fields.now) }
     ensures ranges { IfOk result (λ j. job_in_range j ≡ true) }
     ensures sound { IfOk result (λ j. (checks j && within_limits j) ≡ true) }
 {
@@ -356,35 +356,35 @@ fn blur(fields: &[&[u8]]) -> Result<Job, Cause>
 }
 
 /// Whether a job has so many fields behind its stroke and its kind.
-fn has_fields(work: Work, count: usize) -> bool
+fn has_fields(work: JobWord, count: usize) -> bool
     ensures { result ≡ fields_of_job work count }
 {
     match work {
-        Work::Fill | Work::Dab => count == 7,
-        Work::Move => count == 6,
-        Work::Blur => count == 5,
-        Work::Track => are_points(count.saturating_sub(8)),
+        JobWord::Fill | JobWord::Dab => count == 7,
+        JobWord::Move => count == 6,
+        JobWord::Blur => count == 5,
+        JobWord::Track => are_points(count.saturating_sub(8)),
     }
 }
 
 #[tactic(auto, unfolding(crate::specs::Jobs::job_of))]
-fn job_of(work: Work, fields: &[&[u8]]) -> Result<Job, Cause>
+fn job_of(work: JobWord, fields: &[&[u8]]) -> Result<Job, Cause>
     ensures value { result ≡ told_job work (pointed fields.now) }
     ensures ranges { IfOk result (λ j. job_in_range j ≡ true) }
     ensures sound { IfOk result (λ j. (checks j && within_limits j) ≡ true) }
 {
     match work {
-        Work::Fill => fill(fields),
-        Work::Dab => dab(fields),
-        Work::Move => move_by(fields),
-        Work::Blur => blur(fields),
-        Work::Track => track(fields),
+        JobWord::Fill => fill(fields),
+        JobWord::Dab => dab(fields),
+        JobWord::Move => move_by(fields),
+        JobWord::Blur => blur(fields),
+        JobWord::Track => track(fields),
     }
 }
 
 /// A job of a stroke.
 #[tactic(auto, unfolding(crate::specs::Jobs::paint))]
-pub fn paint(work: Work, fields: &[&[u8]]) -> Result<Command, Cause>
+pub fn paint(work: JobWord, fields: &[&[u8]]) -> Result<Command, Cause>
     ensures value { result ≡ told_paint work (pointed fields.now) }
     ensures ranges { IfOk result (λ c. in_range c ≡ true) }
     ensures sound { IfOk result (λ c. is_sound c ≡ true) }

@@ -8,7 +8,7 @@ ghost use Rattle.script_lines.specs.Colours.{is_pixel, is_byte};
 ghost use Rattle.script_forms.specs.Jobs.{kind_of, op_of, edge_of};
 ghost use Rattle.script_forms.specs.Ranges.{in_range, is_sound, IsOutline, IsTip};
 ghost use Rattle.script_forms.specs.Plain.{BeginsOutline, BeginsTip, IsInkLine, IsPaintLine, IsJobLine};
-ghost use Rattle.script_forms.specs.declared.words.Work.TheVariants.{Fill, Dab};
+ghost use Rattle.script_forms.specs.declared.words.JobWord.TheVariants.{Fill, Dab};
 
 use crate::jobs::{Ink, Outline, Tip, dab_of, fill_of};
 use doc_model::{Command, Kind};

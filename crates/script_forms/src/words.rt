@@ -9,9 +9,9 @@ use doc_model::Kind;
 use pixel_core::Op;
 use script_lines::Cause;
 
-/// What a job does.
+/// The word of a job, which says what it does.
 #[derive(Clone, Copy, Debug, PartialEq, Eq)]
-pub enum Work {
+pub enum JobWord {
     Fill,
     Dab,
     Move,
@@ -28,7 +28,7 @@ pub enum Word {
     Place,
     Look,
     Stroke,
-    Paint(Work),
+    Paint(JobWord),
     End,
     Cancel,
     Undo,
@@ -49,11 +49,11 @@ pub fn word_of(field: &[u8]) -> Option<Word>
     ensures { result ≡ said_word field.now }
 {
     match field {
-        b"fill" => Some(Word::Paint(Work::Fill)),
-        b"dab" => Some(Word::Paint(Work::Dab)),
-        b"move" => Some(Word::Paint(Work::Move)),
-        b"blur" => Some(Word::Paint(Work::Blur)),
-        b"track" => Some(Word::Paint(Work::Track)),
+        b"fill" => Some(Word::Paint(JobWord::Fill)),
+        b"dab" => Some(Word::Paint(JobWord::Dab)),
+        b"move" => Some(Word::Paint(JobWord::Move)),
+        b"blur" => Some(Word::Paint(JobWord::Blur)),
+        b"track" => Some(Word::Paint(JobWord::Track)),
         b"layer" => Some(Word::Layer),
         b"group" => Some(Word::Group),
         b"remove" => Some(Word::Remove),

@@ -1,4 +1,12 @@
 //! Lines and fields of scripts, and what a field spells: numbers and colours.
+//!
+//! # Decisions
+//!
+//! - The causes of faults stand here, below the parser, so that fields answer them directly.
+//! - The bytes of a line are gone over once for its fields: what ends a field also tells where the line ends.
+//!   The fields of each line in turn stand in one vector, so that a line takes no memory of its own.
+//! - The digits of a colour are read by a table, since which of them are letters a processor can't foresee. A
+//!   digit that is none gives a number too large for a byte, so that the four bytes are tested at once.
 #![tactic(auto)]
 
 mod cause;

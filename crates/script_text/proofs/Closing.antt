@@ -18,6 +18,7 @@ use Rattle.doc_model.specs.Feeding.{is_closed_entry}
 use Rattle.script_text.specs.declared.reading.Start.{Start}
 use Rattle.script_text.specs.Reading.{left_open}
 use Rattle.script_text.specs.Read.{started_by, StartsAre}
+use Rattle.geom_core.proofs.Tests.{and_left, and_right}
 
 -- the number of an entry that is a stroke
 abbrev pub number_of : Entry → Option ℕ
@@ -89,20 +90,12 @@ shut true b c h = absurd (cc (h))
 shut false true c h = absurd (cc (h))
 shut false false c h = refl
 
-both_left : (a b : Bool) → (a && b) ≡ true → a ≡ true
-both_left true b h = refl
-both_left false b h = h
-
-both_right : (a b : Bool) → (a && b) ≡ true → b ≡ true
-both_right true b h = h
-both_right false b h = absurd (cc (h))
-
 -- where no number names an open stroke, each entry is closed
 closed_rest : (front xs : List Entry) → list_all (λ n. not (list_any (is_open_stroke n) (front ++ xs))) (numbers xs) ≡ true → list_all is_closed_entry xs ≡ true
 closed_rest front [] h = refl
 closed_rest front (Strokes s ∷ xs) h =
-    let again : list_all (λ n. not (list_any (is_open_stroke n) ((front ++ Strokes s ∷ []) ++ xs))) (numbers xs) ≡ true = subst (λ l. list_all (λ n. not (list_any (is_open_stroke n) l)) (numbers xs) ≡ true) (sym (append_assoc front (Strokes s ∷ []) xs)) (both_right _ _ h) in
-    let here : not (list_any (is_open_stroke s.no) (front ++ Strokes s ∷ xs)) ≡ true = both_left _ _ h in
+    let again : list_all (λ n. not (list_any (is_open_stroke n) ((front ++ Strokes s ∷ []) ++ xs))) (numbers xs) ≡ true = subst (λ l. list_all (λ n. not (list_any (is_open_stroke n) l)) (numbers xs) ≡ true) (sym (append_assoc front (Strokes s ∷ []) xs)) (and_right _ _ h) in
+    let here : not (list_any (is_open_stroke s.no) (front ++ Strokes s ∷ xs)) ≡ true = and_left _ _ h in
     let this : is_open_fate s.fate ≡ false = shut (list_any (is_open_stroke s.no) front) (is_open_fate s.fate) (list_any (is_open_stroke s.no) xs) (rw (list_any-append (is_open_stroke s.no) front (Strokes s ∷ xs), same s.no) at here) in
     rw (this, closed_rest (front ++ Strokes s ∷ []) xs again) refl
 closed_rest front (Changes c ∷ xs) h = closed_rest (front ++ Changes c ∷ []) xs (subst (λ l. list_all (λ n. not (list_any (is_open_stroke n) l)) (numbers xs) ≡ true) (sym (append_assoc front (Changes c ∷ []) xs)) h)

@@ -7,7 +7,7 @@ use Rattle.doc_model.specs.declared.canvas.Canvas.{Canvas}
 use Rattle.doc_model.specs.declared.command.Command.{Command}
 use Rattle.doc_model.specs.Strokes.{entries}
 use Rattle.script_lines.specs.Lines.{is_command}
-use Rattle.script_forms.specs.declared.words.Work.{Work}
+use Rattle.script_forms.specs.declared.words.JobWord.{JobWord}
 use Rattle.script_forms.specs.declared.words.Word.TheVariants.{Paint}
 use Rattle.script_forms.specs.Forms.{word_of, canvas_text, path_text}
 use Rattle.script_forms.specs.Texts.{work_text}
@@ -32,7 +32,7 @@ pub record SaysJob (f : Fields) (c : Command) : Type 0 where
 abbrev pub job_fields : (text behind : List ℕ) (c : Command) → IsJobLine text c behind → Fields
 job_fields text behind c is = work_text is.work ∷ is.others
 
-says_job : (work : Work) (others : Fields) (c : Command) → paint work others ≡ Ok c → SaysJob (work_text work ∷ others) c
+says_job : (work : JobWord) (others : Fields) (c : Command) → paint work others ≡ Ok c → SaysJob (work_text work ∷ others) c
 unfolding cause_by command_of
 says_job work others c told =
     let w = words (Paint work) in

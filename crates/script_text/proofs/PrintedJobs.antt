@@ -20,8 +20,8 @@ use Rattle.doc_model.specs.declared.command.Command.TheVariants.{Add}
 use Rattle.doc_model.specs.Lawful.{within_limits, of_limits}
 use Rattle.script_lines.specs.Values.{number_in}
 use Rattle.script_lines.specs.Colours.{is_byte, is_pixel}
-use Rattle.script_forms.specs.declared.words.Work.{Work}
-use Rattle.script_forms.specs.declared.words.Work.TheVariants.{Fill, Dab, Move, Blur, Track}
+use Rattle.script_forms.specs.declared.words.JobWord.{JobWord}
+use Rattle.script_forms.specs.declared.words.JobWord.TheVariants.{Fill, Dab, Move, Blur, Track}
 use Rattle.script_forms.specs.declared.words.Word.{Word}
 use Rattle.script_forms.specs.declared.words.Word.TheVariants.{Paint}
 use Rattle.script_forms.specs.declared.jobs.Outline.{Outline}
@@ -128,7 +128,7 @@ blur_back : (a : Area) (r : ℕ) → IsPlaced a → (nat_le 1 r && nat_le r 16) 
 unfolding job_of
 blur_back a r l k h = rw (outline_back a l, from_one_back 16 r (omega arith) k) (checked_back (job.Blur a r) h)
 
-paint_back : (work : Work) (n : ℕ) (kind : Kind) (others : List (List ℕ)) (j : Job) → is_number n ≡ true → job_fields work (length others) ≡ true → job_of work others ≡ Ok j → paint work (decimal n ∷ kind_text kind ∷ others) ≡ Ok (Add n kind j)
+paint_back : (work : JobWord) (n : ℕ) (kind : Kind) (others : List (List ℕ)) (j : Job) → is_number n ≡ true → job_fields work (length others) ≡ true → job_of work others ≡ Ok j → paint work (decimal n ∷ kind_text kind ∷ others) ≡ Ok (Add n kind j)
 unfolding paint
 paint_back work n kind others j h l k = rw (l, upto_back 4294967295 n (omega arith) h, kind_back kind, k) refl
 

@@ -16,7 +16,7 @@ use Rattle.doc_model.specs.declared.job.Kind.TheVariants.{Con, Seq, Bar, Uni}
 use Rattle.script_lines.specs.Lines.{is_command}
 use Rattle.script_lines.specs.Fronts.{is_plain, is_field}
 use Rattle.script_lines.specs.Values.{natural}
-use Rattle.script_forms.specs.declared.words.Work.TheVariants.{Fill, Dab, Move, Blur, Track}
+use Rattle.script_forms.specs.declared.words.JobWord.TheVariants.{Fill, Dab, Move, Blur, Track}
 use Rattle.script_forms.specs.declared.words.Word.{Word}
 use Rattle.script_forms.specs.declared.words.Word.TheVariants.{Layer, Group, Remove, Place, Look, Stroke, Paint, End, Cancel, Undo, Redo, Purge, Export}
 use Rattle.script_forms.specs.Jobs.{kind_of, op_of, edge_of}

@@ -23,22 +23,18 @@ use Rattle.script_forms.specs.Ranges.{in_range, is_sound, in_limits}
 use Rattle.script_text.specs.Reading.{left_open, start_by, cause_of, misfit}
 use Rattle.command_log.specs.declared.refusal.Misfit.{Misfit}
 use Rattle.command_log.specs.Misfits.{misfit_of}
-use Rattle.command_log.proofs.Tables.{and_false}
 use Rattle.command_log.proofs.Following.{misfits as log_misfits}
 use Rattle.script_text.specs.Read.{IsGathered, TakesCommand, started_by}
+use Rattle.geom_core.proofs.Tests.{and-false, and_right}
 
 -- a command that may not follow those before it
 pub lawful_at : (es : List Entry) (cs : List Command) (i : ℕ) (c : Command) → i < length cs → c ≡ get_or cs i c → may_follow (all_fed es (take i cs)) c ≡ false → lawful_after es cs ≡ false
 lawful_at es [] i c h e f = absurd (omega arith)
 lawful_at es (d ∷ cs) zero c h e f = rw (subst (λ k. may_follow es k ≡ false) e f) refl
-lawful_at es (d ∷ cs) (suc i) c h e f = rw (lawful_at (fed es d) cs i c (omega arith) e f) (and_false (may_follow es d))
-
-second_true : (a b : Bool) → (a && b) ≡ true → b ≡ true
-second_true true b k = k
-second_true false b k = absurd (cc (k))
+lawful_at es (d ∷ cs) (suc i) c h e f = rw (lawful_at (fed es d) cs i c (omega arith) e f) (and-false (may_follow es d))
 
 closed_not : (n : ℕ) (e : Entry) → is_open_stroke n e ≡ true → is_closed_entry e ≡ false
-closed_not n (Strokes s) k = rw (second_true (s.no == n) (is_open_fate s.fate) k) refl
+closed_not n (Strokes s) k = rw (and_right (s.no == n) (is_open_fate s.fate) k) refl
 closed_not n (Changes c) k = absurd (cc (k))
 closed_not n Undoes k = absurd (cc (k))
 closed_not n Redoes k = absurd (cc (k))
@@ -47,7 +43,7 @@ closed_not n Exports k = absurd (cc (k))
 
 not_closed_more : (n : ℕ) (e : Entry) (es : List Entry) (b : Bool) → is_open_stroke n e ≡ b → (list_any (is_open_stroke n) es ≡ true → list_all is_closed_entry es ≡ false) → (b || list_any (is_open_stroke n) es) ≡ true → (is_closed_entry e && list_all is_closed_entry es) ≡ false
 not_closed_more n e es true k rest l = rw (closed_not n e k) refl
-not_closed_more n e es false k rest l = rw (rest l) (and_false (is_closed_entry e))
+not_closed_more n e es false k rest l = rw (rest l) (and-false (is_closed_entry e))
 
 -- an open stroke isn't closed
 open_not_closed : (n : ℕ) (es : List Entry) → list_any (is_open_stroke n) es ≡ true → list_all is_closed_entry es ≡ false
@@ -88,7 +84,7 @@ pub bad_range : (cs : List Command) (i : ℕ) (c : Command) → i < length cs �
 bad_range cs i c h e f = rw (list_all_at in_range cs i c h (subst (λ k. in_range k ≡ false) e f)) refl
 
 pub bad_place : (cs : List Command) (i : ℕ) (c : Command) → i < length cs → c ≡ get_or cs i c → may_follow (entries (take i cs)) c ≡ false → (list_all in_range cs && lawful cs) ≡ false
-bad_place cs i c h e f = rw (lawful_at [] cs i c h e f) (and_false (list_all in_range cs))
+bad_place cs i c h e f = rw (lawful_at [] cs i c h e f) (and-false (list_all in_range cs))
 
 start_is : (n : ℕ) (c : Command) → map (λ (s : Start). s.no) (option_to_list (start_by n (Some c))) ≡ filter_map started_by (c ∷ [])
 start_is n (command.Change change) = refl
@@ -129,7 +125,7 @@ unfolding is_script
 not_closed c cs h = rw h (go (in_limits c && list_all in_range cs) (lawful cs))
   where
     go : (p r : Bool) → (p && (r && false)) ≡ false
-    go p r = rw (and_false r) (and_false p)
+    go p r = rw (and-false r) (and-false p)
 
 -- the fault of a stroke that is left open, where one is
 abbrev pub left_fault : Option ℕ → Option ScriptFault

@@ -31,6 +31,7 @@ use Rattle.doc_model.specs.Trails.{Trail}
 use Rattle.brush_path.specs.Cells.{jobs}
 use Rattle.script_text.specs.Paths.{path_in, path_commands, adding, cells_in}
 use Rattle.script_text.specs.Pieces.{IsReading, AreRead}
+use Rattle.geom_core.proofs.Tests.{length_map}
 
 abbrev pub line : ℕ → Fields → NumberedLine
 line n f = (n, f)
@@ -138,17 +139,13 @@ starts_are (l ∷ before) = go (command_in l.1) (starts_are before) ∙ sym (sam
     go (Some (command.Purge keep)) h = h
     go (Some command.Export) h = h
 
-pub count_all : {A B : Type 0} (f : A → B) (xs : List A) → length (map f xs) ≡ length xs
-count_all f [] = refl
-count_all f (x ∷ xs) = ap suc (count_all f xs)
-
 -- there are not many more lines than bytes
 pub few_lines : (bytes : List ℕ) → length (lines bytes) ≤ length bytes + 1
-few_lines bytes = omega (arith, count_all fields (slice_split (λ b. b == 10) bytes), length-slice_split (λ b. b == 10) bytes, count_by-le-length (λ b. b == 10) bytes)
+few_lines bytes = omega (arith, length_map fields (slice_split (λ b. b == 10) bytes), length-slice_split (λ b. b == 10) bytes, count_by-le-length (λ b. b == 10) bytes)
 
 -- a text has a line
 pub some_line : (text : List ℕ) → 1 ≤ length (lines text)
-some_line text = omega (arith, count_all fields (slice_split (λ b. b == 10) text), length-slice_split (λ b. b == 10) text)
+some_line text = omega (arith, length_map fields (slice_split (λ b. b == 10) text), length-slice_split (λ b. b == 10) text)
 
 -- what a loop over the lines knows: those that were read, and those that are left
 pub record Going (all : List Fields) (n : ℕ) (r : Reading) (left : List Fields) : Type 0 where

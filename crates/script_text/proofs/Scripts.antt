@@ -11,6 +11,7 @@ use Rattle.script_lines.specs.Colours.{is_pixel}
 use Rattle.script_forms.specs.Ranges.{in_limits, in_range}
 use Rattle.script_text.specs.Script.{Contents}
 use Rattle.script_text.specs.Closed.{all_closed, is_script}
+use Rattle.std.proofs.lemmas.Bool.{eqb-true}
 
 pub record HoldsOfScript (s : Contents) : Type 0 where
   pub canvas : IsOfLimits s.canvas
@@ -19,9 +20,6 @@ pub record HoldsOfScript (s : Contents) : Type 0 where
 
 at_most : (a b : ℕ) → nat_le a b ≡ true → a ≤ b
 at_most a b h = grind (arith, nat_tests)
-
-equal : (a b : ℕ) → eqb a b ≡ true → a ≡ b
-equal a b h = grind (arith, nat_tests)
 
 pub script_holds : (s : Contents) → is_script s ≡ true → HoldsOfScript s
 unfolding is_script
@@ -36,7 +34,7 @@ script_holds s h =
       canvas = record {
         w = (at_most 1 s.canvas.w (and_left (nat_le 1 s.canvas.w) _ columns), at_most s.canvas.w 2048 (and_right (nat_le 1 s.canvas.w) _ columns));
         h = (at_most 1 s.canvas.h (and_left (nat_le 1 s.canvas.h) _ rows), at_most s.canvas.h 2048 (and_right (nat_le 1 s.canvas.h) _ rows));
-        paper = equal s.canvas.paper.a 255 (and_right (is_pixel s.canvas.paper) _ (and_right ((nat_le 1 s.canvas.w && nat_le s.canvas.w 2048) && (nat_le 1 s.canvas.h && nat_le s.canvas.h 2048)) _ limits));
+        paper = eqb-true s.canvas.paper.a 255 (and_right (is_pixel s.canvas.paper) _ (and_right ((nat_le 1 s.canvas.w && nat_le s.canvas.w 2048) && (nat_le 1 s.canvas.h && nat_le s.canvas.h 2048)) _ limits));
       };
       follows = and_left (lawful s.commands) _ rest;
       closed = and_right (lawful s.commands) _ rest;

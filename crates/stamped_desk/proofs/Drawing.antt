@@ -27,21 +27,21 @@ use Rattle.machine_model.proofs.Lists.{all_map, all_get, get_set}
 use Rattle.walker_core.specs.Composing.{Composition}
 use Rattle.walker_core.specs.Readings.{readings}
 use Rattle.walker_core.specs.Sameness.{ReadTheSame}
-use Rattle.desk_parts.specs.Choices.{IsIdle, DoesAtOnce}
-use Rattle.desk_parts.specs.Enabled.{IsEnd}
-use Rattle.desk_parts.specs.Settles.{Settles}
+use Rattle.desk_state.specs.Choices.{IsIdle, DoesAtOnce}
+use Rattle.desk_state.specs.Enabled.{IsEnd}
+use Rattle.desk_state.specs.Settles.{Settles}
 use Rattle.stamped_desk.specs.Marks.{Mark}
-use Rattle.desk_work.specs.Lacking.{IsOfJob}
-use Rattle.desk_machine.specs.declared.tickets.PaintTicket.{PaintTicket}
-use Rattle.desk_machine.specs.declared.tickets.WalkTicket.{WalkTicket}
-use Rattle.desk_machine.specs.Commits.{AreOfWork, ReadsAsWork}
-use Rattle.desk_machine.specs.Tickets.{IsPaintTicket, IsWalkTicket}
-use Rattle.desk_machine.specs.declared.tickets.SlotId.{SlotId}
+use Rattle.slot_work.specs.Lacking.{IsOfJob}
+use Rattle.desk_events.specs.declared.tickets.PaintTicket.{PaintTicket}
+use Rattle.desk_events.specs.declared.tickets.WalkTicket.{WalkTicket}
+use Rattle.desk_events.specs.Commits.{AreOfWork, ReadsAsWork}
+use Rattle.desk_events.specs.Tickets.{IsPaintTicket, IsWalkTicket}
+use Rattle.desk_events.specs.declared.tickets.SlotId.{SlotId}
 use Rattle.desk_core.specs.declared.answers.Ended.{Ended}
 use Rattle.desk_core.specs.declared.answers.Ended.TheVariants as ended
 use Rattle.desk_core.specs.declared.tickets.Taken.{Taken}
 use Rattle.desk_core.specs.declared.tickets.Taken.TheVariants as taken
-use Rattle.desk_machine.specs.Sparing.{ShowsBefore, IsPrior, ArePrior}
+use Rattle.desk_events.specs.Sparing.{ShowsBefore, IsPrior, ArePrior}
 use Rattle.stamped_desk.specs.Drawn.{ShotIsPrior, IsDrawnJob, IsDrawnWalk, IsDrawn, AreDrawn}
 use Rattle.stamped_desk.specs.Stamped.{Batch, batch, IsMadeOf, AreMadeOf, AreOne, IsKnown}
 use Rattle.stamped_desk.proofs.Standing.{step_stood}

@@ -19,12 +19,13 @@ use Rattle.machine_model.specs.Slots.{is_painter, no_painter}
 use Rattle.machine_model.specs.Guards.{kept_jobs, is_paint}
 use Rattle.machine_model.specs.UnderWay.{UnderWay, IsOnWay, SlotIsStarted, jobs_only, after_jobs, writes_at}
 use Rattle.machine_model.specs.Sound.{IsOrderly}
-use Rattle.machine_model.proofs.Lists.{all_get, length_map}
+use Rattle.machine_model.proofs.Lists.{all_get}
 use Rattle.machine_model.proofs.Covers.{any_found}
 use Rattle.machine_model.proofs.GrownStroke.{get_front}
 use Rattle.machine_model.proofs.FeedKeeps.{head_after}
-use Rattle.desk_machine.specs.Sparing.{ShowsBefore}
+use Rattle.desk_events.specs.Sparing.{ShowsBefore}
 use Rattle.stamped_desk.specs.Drawn.{ShotIsPrior}
+use Rattle.geom_core.proofs.Tests.{length_map}
 
 -- ---- more jobs behind
 

@@ -12,11 +12,11 @@ use Rattle.machine_model.specs.State.{State, Painter, Walker, Paints, Walks, hea
 use Rattle.machine_model.specs.Guards.{kept_jobs}
 use Rattle.machine_model.specs.Sound.{IsOrderly}
 use Rattle.walker_core.specs.Readings.{readings}
-use Rattle.desk_machine.specs.declared.tickets.PaintTicket.{PaintTicket}
-use Rattle.desk_machine.specs.declared.tickets.WalkTicket.{WalkTicket}
+use Rattle.desk_events.specs.declared.tickets.PaintTicket.{PaintTicket}
+use Rattle.desk_events.specs.declared.tickets.WalkTicket.{WalkTicket}
 use Rattle.desk_core.specs.declared.tickets.Taken.{Taken}
 use Rattle.desk_core.specs.declared.tickets.Taken.TheVariants as taken
-use Rattle.desk_machine.specs.Sparing.{ShowsBefore}
+use Rattle.desk_events.specs.Sparing.{ShowsBefore}
 
 -- at the points of the tiles that the job writes in, the pixels are those that the jobs before it leave of the layer under way, but where a job from that index on writes
 abbrev pub ShotIsPrior : State → ℕ → Painter → (Point → Rgba) → Type 0

@@ -10,10 +10,10 @@ use Rattle.tile_core.specs.Shots.{Sight, sight_at}
 use Rattle.stamped_desk.specs.Marks.{Mark}
 use Rattle.whole_tiles.specs.Plans.{Plan}
 use Rattle.whole_tiles.specs.Wholes.{Entire, entire_code}
-use Rattle.desk_work.specs.Lacking.{IsOfJob}
-use Rattle.desk_machine.specs.declared.tickets.SlotId.{SlotId}
-use Rattle.desk_machine.specs.contracts.tickets.SlotId as slot_id
-use Rattle.desk_machine.specs.declared.tickets.PaintTicket.{PaintTicket}
+use Rattle.slot_work.specs.Lacking.{IsOfJob}
+use Rattle.desk_events.specs.declared.tickets.SlotId.{SlotId}
+use Rattle.desk_events.specs.contracts.tickets.SlotId as slot_id
+use Rattle.desk_events.specs.declared.tickets.PaintTicket.{PaintTicket}
 use Rattle.desk_core.specs.declared.tickets.Taken.{Taken}
 use Rattle.desk_core.specs.declared.tickets.Taken.TheVariants as taken
 

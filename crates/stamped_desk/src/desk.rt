@@ -1,21 +1,18 @@
 //! The desk, and the stamps.
 
 ghost use Rattle.std.specs.Prelude.{◌≡◌, ◌<◌, ◌-◌, ◌^◌, true, length, Some, IfOk, IfSome, OnErr, OnOk};
-ghost use Rattle.std.specs.List.{list_all};
 ghost use Rattle.doc_model.specs.Lawful.{may_follow};
 ghost use Rattle.doc_model.specs.Strokes.{entries};
-ghost use Rattle.machine_model.specs.MeaningLaws.{waits_for_commands};
-ghost use Rattle.machine_model.specs.State.{is_free};
-ghost use Rattle.machine_model.specs.Settled.{IsSettled};
-ghost use Rattle.machine_model.specs.Event.{Feed, Start, WalkStart};
+ghost use Rattle.machine_model.specs.Event.{Feed};
 ghost use Rattle.machine_model.specs.Step.{Step};
-ghost use Rattle.desk_parts.specs.Choices.{IsIdle, MayWant, HeadWaits, DoesAtOnce};
-ghost use Rattle.desk_parts.specs.Enabled.{IsEnd, MayEnd};
-ghost use Rattle.desk_parts.specs.Settles.{Settles};
-ghost use Rattle.desk_machine.specs.Tickets.{IsPaintTicket, IsWalkTicket};
-ghost use Rattle.desk_machine.specs.declared.tickets.PaintTicket.{PaintTicket};
-ghost use Rattle.desk_machine.specs.declared.tickets.WalkTicket.{WalkTicket};
+ghost use Rattle.desk_state.specs.Choices.{MayWant, HeadWaits, DoesAtOnce};
+ghost use Rattle.desk_state.specs.Enabled.{IsEnd, MayEnd};
+ghost use Rattle.desk_state.specs.Settles.{Settles};
+ghost use Rattle.desk_events.specs.Tickets.{StartsJob, StartsWalk};
+ghost use Rattle.desk_events.specs.declared.tickets.PaintTicket.{PaintTicket};
+ghost use Rattle.desk_events.specs.declared.tickets.WalkTicket.{WalkTicket};
 ghost use Rattle.desk_core.specs.Commits.{Commits, PublishesRow};
+ghost use Rattle.desk_core.specs.Taking.{StaysIdle, StaysSettled, WaitsIfFree};
 ghost use Rattle.desk_core.specs.declared.answers.Ended.TheVariants as ended;
 ghost use Rattle.desk_core.specs.declared.tickets.Taken.TheVariants as taken;
 ghost use Rattle.stamped_desk.specs.Stamped.{IsKnown};
@@ -102,13 +99,17 @@ impl<J: Naming> StampedDesk<J> {
         steps: &mut Steps<L>,
     ) -> Result<(Taken, Option<Stamp<J, Taken>>), NoMemory>
         // What each answer tells. A walk is started last.
-        ensures paint { (t : PaintTicket) → IfOk result (λ r. r.0 ≡ taken.Paint t → Step self.old (Start t.slot.place) self.new × IsPaintTicket t self.new) }
-        ensures walk { (t : WalkTicket) → IfOk result (λ r. r.0 ≡ taken.Walk t → Step self.old (WalkStart t.slot.place t.inputs.patch) self.new × IsWalkTicket t self.new) }
-        ensures last { (t : WalkTicket) → IfOk result (λ r. r.0 ≡ taken.Walk t → HeadWaits self.old) }
-        ensures did { IfOk result (λ r. r.0 ≡ taken.Did → DoesAtOnce self.old self.new steps.old steps.new) }
-        ensures idle { IfOk result (λ r. r.0 ≡ taken.Idle → IsIdle self.old × (self.new ≡ self.old)) }
-        ensures stuck { IfOk result (λ r. r.0 ≡ taken.Idle → list_all is_free self.old.slots ≡ true → waits_for_commands self.old ≡ true) }
-        ensures settled { IfOk result (λ r. r.0 ≡ taken.Settled → IsSettled self.old × (self.new ≡ self.old)) }
+        ensures paint { (t : PaintTicket) → IfOk result (λ r. r.0 ≡ taken.Paint t
+            → StartsJob self.old t self.new) }
+        ensures walk { (t : WalkTicket) → IfOk result (λ r. r.0 ≡ taken.Walk t
+            → StartsWalk self.old t self.new) }
+        ensures last { (t : WalkTicket) → IfOk result (λ r. r.0 ≡ taken.Walk t
+            → HeadWaits self.old) }
+        ensures did { IfOk result (λ r. r.0 ≡ taken.Did
+            → DoesAtOnce self.old self.new steps.old steps.new) }
+        ensures idle { IfOk result (λ r. r.0 ≡ taken.Idle → StaysIdle self.old self.new) }
+        ensures stuck { IfOk result (λ r. r.0 ≡ taken.Idle → WaitsIfFree self.old) }
+        ensures settled { IfOk result (λ r. r.0 ≡ taken.Settled → StaysSettled self.old self.new) }
         ensures err { OnErr result (MayWant self.old × (self.new ≡ self.old)) }
 
         // Of what the stamp is.
@@ -126,7 +127,8 @@ impl<J: Naming> StampedDesk<J> {
     /// # Errors
     /// `NoMemory`; of the tiles some, from the first on, are published, or none, and the job hasn't ended.
     pub fn commit(&mut self, tiles: &StampedTiles<J>) -> Result<Published, NoMemory>
-        ensures answer { Commits self.old tiles.now.slot.place tiles.now.slot.serial tiles.now.tiles result self.new }
+        ensures answer { Commits self.old tiles.now.slot.place tiles.now.slot.serial
+            tiles.now.tiles result self.new }
         ensures runs { Settles self.old self.new }
         ensures canvas { self.new.canvas ≡ self.old.canvas }
         ensures fed { self.new.fed ≡ self.old.fed }
@@ -151,7 +153,8 @@ impl<J: Naming> StampedDesk<J> {
         key: TileKey,
     ) -> Result<Published, NoMemory>
         requires { composed.now.readings ≡ walk.now.inputs }
-        ensures answer { PublishesRow self.old walk.now.slot.place walk.now.slot.serial composed.now key result self.new }
+        ensures answer { PublishesRow self.old walk.now.slot.place walk.now.slot.serial
+            composed.now key result self.new }
         ensures runs { Settles self.old self.new }
         ensures canvas { self.new.canvas ≡ self.old.canvas }
         ensures fed { self.new.fed ≡ self.old.fed }
@@ -170,7 +173,8 @@ impl<J: Naming> StampedDesk<J> {
         ensures taken { result ≡ ended.Done → MayEnd self.old slot.place slot.serial }
         ensures done { result ≡ ended.Done → IsEnd self.old slot.place self.new }
         ensures nothing { result ≡ ended.Nothing → self.new ≡ self.old }
-        ensures refused { result ≡ ended.Nothing → MayEnd self.old slot.place slot.serial → ⊥ }
+        ensures refused { result ≡ ended.Nothing
+            → MayEnd self.old slot.place slot.serial → ⊥ }
     {
         self.desk.end(slot)
     }

@@ -97,7 +97,8 @@ impl<J: Naming, T> Model for Stamps<J, T> {
 
     ghost view = { λ s. s.seen.log };
 
-    ghost invariant = { λ s. (s.made ≡ length s.seen.log) × (s.seen.book ≡ J.book) × (s.head ≡ head_of J.book) };
+    ghost invariant = { λ s. (s.made ≡ length s.seen.log) × (s.seen.book ≡ J.book)
+        × (s.head ≡ head_of J.book) };
 }
 
 /// Tells what was stamped with it. It is a number and no more.

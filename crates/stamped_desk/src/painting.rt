@@ -28,8 +28,8 @@ pub struct StampedPainting<J: Naming> {
 
 impl<J: Naming> Model for StampedPainting<J> {
     ghost use Rattle.std.specs.Prelude.{◌≡◌, Some, IfSome};
-    ghost use Rattle.desk_machine.specs.declared.tickets.PaintTicket.{PaintTicket};
-    ghost use Rattle.desk_machine.specs.contracts.tickets.PaintTicket.{the_row};
+    ghost use Rattle.desk_events.specs.declared.tickets.PaintTicket.{PaintTicket};
+    ghost use Rattle.desk_events.specs.contracts.tickets.PaintTicket.{the_row};
     ghost use Rattle.desk_core.specs.declared.tickets.Taken.TheVariants as taken;
     ghost use Rattle.stamped_desk.specs.Stamped.{ticket_of};
 
@@ -39,7 +39,8 @@ impl<J: Naming> Model for StampedPainting<J> {
 
     ghost view = { λ p. ticket_of p.slot p.stroke p.job p.since p.painting };
 
-    ghost invariant = { λ p. IfSome p.stamp (λ s. s.value ≡ Some (taken.Paint (ticket_of p.slot p.stroke p.job p.since p.painting))) };
+    ghost invariant = { λ p. IfSome p.stamp (λ s. s.value
+        ≡ Some (taken.Paint (ticket_of p.slot p.stroke p.job p.since p.painting))) };
 }
 
 impl<J: Naming> StampedPainting<J> {

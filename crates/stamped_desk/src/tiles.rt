@@ -30,7 +30,8 @@ impl<J: Naming> Model for StampedTiles<J> {
 
     ghost view = { λ t. batch t.slot t.tiles.items };
 
-    ghost invariant = { λ t. IfSome t.stamp (λ s. AreMadeOf s t.since (batch t.slot t.tiles.items)) };
+    ghost invariant = { λ t. IfSome t.stamp (λ s.
+        AreMadeOf s t.since (batch t.slot t.tiles.items)) };
 }
 
 impl<J: Naming> StampedTiles<J> {
@@ -71,7 +72,8 @@ impl<J: Naming> StampedTiles<J> {
     /// # Errors
     /// `NoMemory`; the tiles are as they were.
     pub fn append(&mut self, other: &mut StampedTiles<J>) -> Result<(), NoMemory>
-        ensures ok { OnOk result (self.new ≡ batch self.old.slot (self.old.tiles ++ other.old.tiles)) }
+        ensures ok { OnOk result (self.new
+            ≡ batch self.old.slot (self.old.tiles ++ other.old.tiles)) }
         ensures moved { OnOk result (other.new ≡ batch other.old.slot []) }
         ensures err { OnErr result (self.new ≡ self.old) }
         ensures stays { OnErr result (other.new ≡ other.old) }

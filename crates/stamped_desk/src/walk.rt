@@ -16,8 +16,8 @@ pub struct StampedWalk<J: Naming> {
 
 impl<J: Naming> Model for StampedWalk<J> {
     ghost use Rattle.std.specs.Prelude.{◌≡◌, Some, IfSome};
-    ghost use Rattle.desk_machine.specs.declared.tickets.WalkTicket.{WalkTicket};
-    ghost use Rattle.desk_machine.specs.contracts.tickets.WalkTicket.{the_row};
+    ghost use Rattle.desk_events.specs.declared.tickets.WalkTicket.{WalkTicket};
+    ghost use Rattle.desk_events.specs.contracts.tickets.WalkTicket.{the_row};
     ghost use Rattle.desk_core.specs.declared.tickets.Taken.TheVariants as taken;
 
     ghost Value = { WalkTicket };

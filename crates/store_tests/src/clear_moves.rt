@@ -29,7 +29,11 @@ fn moves(rt: &impl Abort, alloc: Global, store: &mut Store) -> Result<(), NoMemo
             let shot = store.grab(alloc, job.reads().as_slice())?;
             let painting = Painting::new(alloc, job, shot)?;
             assert!(rt; painting.tile_count() == 1);
-            store.put_whole(alloc, &painting.paint(alloc, 0)?, Base::Compared)?;
+            store.put_whole(
+                alloc,
+                &painting.paint_like(alloc, 0, &mut None)?,
+                Base::Compared,
+            )?;
             store.finish();
         }
         _ => assert!(rt; false),

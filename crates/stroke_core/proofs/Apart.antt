@@ -8,7 +8,7 @@ use Rattle.std.proofs.lemmas.List.{length-append}
 use Rattle.std.proofs.lemmas.List.Folds.{list_any_none}
 use Rattle.std.proofs.Math.ListN.{get_or-append}
 use Rattle.std.proofs.Math.Seq.{get_or-append_seam}
-use Rattle.geom_core.proofs.Tests.{true_or_false, and_left, and_right}
+use Rattle.geom_core.proofs.Tests.{true_or_false, and_left, and_right, both_true}
 use Rattle.geom_core.specs.Areas.{Area, meets, right, bottom}
 use Rattle.doc_model.specs.Strokes.{any_meet}
 use Rattle.stroke_core.specs.declared.bound.Bound.{Bound}
@@ -21,11 +21,8 @@ cross : (al ar bl br n m : ℕ) (x y : ℤ) → (pos al -ℤ pos 16384) ≤ℤ x
     → (int_lt x (y +ℤ pos m) && int_lt y (x +ℤ pos n)) ≡ true → (nat_le al br && nat_le bl ar) ≡ true
 cross al ar bl br n m x y a b c d h = grind (arith, ints, nat_tests)
 
-and_both : (a b : Bool) → a ≡ true → b ≡ true → (a && b) ≡ true
-and_both a b e f = rw (e, f) refl
-
 met : (a b : Bound) (x y : Area) → LiesIn a x → LiesIn b y → meets x y ≡ true → near a b ≡ true
-met a b x y p q m = and_both _ _
+met a b x y p q m = both_true _ _
     (cross a.left a.right b.left b.right x.w y.w x.x y.x p.left p.right q.left q.right (and_left _ _ m))
     (cross a.top a.bottom b.top b.bottom x.h y.h x.y y.y p.top p.bottom q.top q.bottom (and_right _ _ m))
 

@@ -28,6 +28,7 @@ use Rattle.strokes_top.specs.declared.choice.Choice.{Choice}
 use Rattle.strokes_top.specs.declared.choice.ChoiceError.{ChoiceError}
 use Rattle.strokes_top.specs.Choice.{command, choice, choice_by, emit_of, demo_of, artists_of, workers_of, number_of, number_or_none, flag_of, is_of_artists, is_trace, lets_draw, is_fit, if_fit, choice_of_values, unless_fault}
 use Rattle.strokes_top.specs.Named.{IsNamed}
+use Rattle.geom_core.proofs.Tests.{not_true}
 
 pub is_free : is_simple_and_free command ≡ true
 unfolding clap_on_literals
@@ -219,17 +220,13 @@ pub choice_fits : (words : List Text) (c : Choice) → choice words ≡ Some c �
 unfolding choice
 choice_fits words c h = unless_fits (fault_of command words) (choice_by (matches_of command words)) c (λ d. rows_fit (matches_of command words) d) h
 
-pub untrue : (b : Bool) → not b ≡ true → b ≡ false
-untrue false h = refl
-untrue true h = cc
-
 pub nothing : (o : Option ℕ) → is_some o ≡ false → o ≡ None
 nothing None h = refl
 nothing (Some n) h = cc
 
 -- artists draw no trace
 pub draws_alone : (c : Choice) (n : ℕ) → lets_draw c n ≡ true → c.replay ≡ false
-draws_alone c n h = untrue c.replay (second ((nat_le 1 n && nat_le n 16) && is_of_artists c.emit) _ h)
+draws_alone c n h = not_true c.replay (second ((nat_le 1 n && nat_le n 16) && is_of_artists c.emit) _ h)
 
 -- where a trace is read no script is generated and none is written
 replays : (c : Choice) → is_fit c ≡ true → c.replay ≡ true → (not (is_some c.demo) && not (is_trace c.emit)) ≡ true
@@ -240,7 +237,7 @@ replays c h is = go c.replay is (second (nat_le c.workers 16 && option_map_or (l
     go false is h = cc
 
 pub replay_paints : (c : Choice) → is_fit c ≡ true → c.replay ≡ true → is_trace c.emit ≡ false
-replay_paints c h is = untrue (is_trace c.emit) (second (not (is_some c.demo)) _ (replays c h is))
+replay_paints c h is = not_true (is_trace c.emit) (second (not (is_some c.demo)) _ (replays c h is))
 
 pub trace_reads : (c : Choice) → is_fit c ≡ true → is_trace c.emit ≡ true → c.replay ≡ false
 trace_reads c h t = go c.replay refl
@@ -253,7 +250,7 @@ trace_reads c h t = go c.replay refl
 
 -- and no artists draw
 pub replay_alone : (c : Choice) → is_fit c ≡ true → c.replay ≡ true → (c.demo ≡ None) × (c.artists ≡ None)
-replay_alone c h is = (nothing c.demo (untrue (is_some c.demo) (first (not (is_some c.demo)) _ (replays c h is))), go c.artists refl)
+replay_alone c h is = (nothing c.demo (not_true (is_some c.demo) (first (not (is_some c.demo)) _ (replays c h is))), go c.artists refl)
   where
     go : (a : Option ℕ) → c.artists ≡ a → c.artists ≡ None
     go None with_none = with_none

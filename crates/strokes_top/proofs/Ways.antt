@@ -15,8 +15,9 @@ use Rattle.strokes_top.specs.Reading.{WasRead, Spells, IsOfScript}
 use Rattle.strokes_top.specs.Written.{Writes, IsPainted}
 use Rattle.strokes_top.specs.Together.{IsDrawnBy, IsPaintedTogether}
 use Rattle.strokes_top.specs.Traces.{Replays, IsTraced, IsReplayed}
-use Rattle.strokes_top.specs.Run.{IsDrawn, lead, IsWhole, IsWritten, Gives, IsOf, IsAnswered}
-use Rattle.strokes_top.proofs.Choices.{untrue, nothing, choice_fits, fit_draws, draws_of, draws_alone, trace_alone, trace_reads, replay_alone, replay_paints}
+use Rattle.strokes_top.specs.Run.{IsDrawn, led, IsWhole, IsWritten, Gives, IsOf, IsAnswered}
+use Rattle.strokes_top.proofs.Choices.{nothing, choice_fits, fit_draws, draws_of, draws_alone, trace_alone, trace_reads, replay_alone, replay_paints}
+use Rattle.geom_core.proofs.Tests.{not_true}
 
 -- what holds of each script that has P
 some_weaker : (P Q : Contents → Type 0) → ((s : Contents) → P s → Q s) → (o : Option Contents) → IsSomeAnd o P → IsSomeAnd o Q
@@ -34,7 +35,7 @@ of_trace : (P Q : Contents → Type 0) → ((s : Contents) → P s → Q s) → 
 of_trace P Q f left rest h = read_weaker (Gives true P) (Replays Q) (λ b g. (g.0, g.1, f _ g.2)) left rest h
 
 -- what is no trace is the output behind its lead
-whole_output : (e : Emit) (asked : Choice) (drawn : Contents) (bytes : List ℕ) → is_trace e ≡ false → IsWhole e asked drawn bytes → bytes ≡ lead asked.artists drawn ++ output e drawn
+whole_output : (e : Emit) (asked : Choice) (drawn : Contents) (bytes : List ℕ) → is_trace e ≡ false → IsWhole e asked drawn bytes → bytes ≡ led asked.artists e drawn
 whole_output emit.Picture asked drawn bytes other h = h
 whole_output emit.Log asked drawn bytes other h = h
 whole_output emit.Sum asked drawn bytes other h = h
@@ -56,15 +57,15 @@ module _ (st : Status) (before after : Option (List ℕ)) (c : Choice) where
   plain_written : c.artists ≡ None → is_trace c.emit ≡ false → (s : Contents) → IsWritten st before after c s → Writes st before after s (output c.emit s)
   plain_written no_artists other s h =
       let same : h.drawn ≡ s = alone c.artists s h.drawn no_artists h.is_drawn in
-      let behind : h.bytes ≡ lead c.artists h.drawn ++ output c.emit h.drawn = whole_output c.emit c h.drawn h.bytes other h.whole in
-      let is : h.bytes ≡ output c.emit h.drawn = behind ∙ ap (λ a. lead a h.drawn ++ output c.emit h.drawn) no_artists in
+      let behind : h.bytes ≡ led c.artists c.emit h.drawn = whole_output c.emit c h.drawn h.bytes other h.whole in
+      let is : h.bytes ≡ output c.emit h.drawn = behind ∙ ap (λ a. led a c.emit h.drawn) no_artists in
       subst (λ t. Writes st before after t (output c.emit t)) same (subst (λ b. Writes st before after h.drawn b) is h.writes)
 
   together_written : (n : ℕ) → c.artists ≡ Some n → is_trace c.emit ≡ false → (s : Contents) → IsWritten st before after c s
       → (drawn : Contents) × IsDrawnBy n s drawn × Writes st before after drawn (text drawn ++ output c.emit drawn)
   together_written n is other s h =
-      let behind : h.bytes ≡ lead c.artists h.drawn ++ output c.emit h.drawn = whole_output c.emit c h.drawn h.bytes other h.whole in
-      let whole : h.bytes ≡ text h.drawn ++ output c.emit h.drawn = behind ∙ ap (λ a. lead a h.drawn ++ output c.emit h.drawn) is in
+      let behind : h.bytes ≡ led c.artists c.emit h.drawn = whole_output c.emit c h.drawn h.bytes other h.whole in
+      let whole : h.bytes ≡ text h.drawn ++ output c.emit h.drawn = behind ∙ ap (λ a. led a c.emit h.drawn) is in
       (h.drawn, subst (λ a. IsDrawn a s h.drawn) is h.is_drawn, subst (λ b. Writes st before after h.drawn b) whole h.writes)
 
   traced_written : c.artists ≡ None → is_trace c.emit ≡ true → (s : Contents) → IsWritten st before after c s → (bytes : List ℕ) × IsTraceOf s (c.workers + 1) bytes × Writes st before after s bytes
@@ -82,9 +83,9 @@ module _ (st : Status) (before after : Option (List ℕ)) (c : Choice) where
     plain_of : IsOf (IsWritten st before after c) c.demo c.replay left rest → IsPainted st left rest before after c
     plain_of h = λ plain.
         let rest_of : (not c.replay && not (is_trace c.emit)) ≡ true = second (not (is_some c.artists)) _ plain in
-        let artists : c.artists ≡ None = nothing c.artists (untrue (is_some c.artists) (first (not (is_some c.artists)) _ plain)) in
-        let reads : c.replay ≡ false = untrue c.replay (first (not c.replay) _ rest_of) in
-        let other : is_trace c.emit ≡ false = untrue (is_trace c.emit) (second (not c.replay) _ rest_of) in
+        let artists : c.artists ≡ None = nothing c.artists (not_true (is_some c.artists) (first (not (is_some c.artists)) _ plain)) in
+        let reads : c.replay ≡ false = not_true c.replay (first (not c.replay) _ rest_of) in
+        let other : is_trace c.emit ≡ false = not_true (is_trace c.emit) (second (not c.replay) _ rest_of) in
         reads_script (λ s. Writes st before after s (output c.emit s)) reads (plain_written artists other) h
 
     together_of : is_fit c ≡ true → IsOf (IsWritten st before after c) c.demo c.replay left rest → IsPaintedTogether st left rest before after c

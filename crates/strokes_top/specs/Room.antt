@@ -8,8 +8,10 @@ use Rattle.live_run.specs.Last.{ShowsLast}
 use Rattle.doc_model.specs.declared.canvas.Canvas.{Canvas}
 use Rattle.strokes_top.specs.declared.writing.Pictures.{Pictures}
 use Rattle.strokes_top.specs.declared.writing.Pictures.TheVariants as pictures
-use Rattle.strokes_top.specs.declared.choice.Emit.{Emit}
-use Rattle.strokes_top.specs.declared.choice.Emit.TheVariants.{Picture, Live, Trace}
+use Rattle.strokes_top.specs.declared.output.Form.{Form}
+use Rattle.strokes_top.specs.declared.output.Form.TheVariants.{Picture, Live}
+use Rattle.strokes_top.specs.declared.output.Output.{Output}
+use Rattle.strokes_top.specs.declared.output.Output.TheVariants.{Shown, Traced}
 
 -- the pictures are those of these frames
 abbrev pub ArePictures : Pictures → List Scene → Type 0
@@ -24,20 +26,33 @@ rows_at_once [] h = 0
 rows_at_once (s ∷ []) h = max 1 (min h 64)
 rows_at_once (s ∷ t ∷ scenes) h = h
 
+-- how many rows are laid at once of what is written in a form: none where it has no pictures
+abbrev pub rows_by : Form → List Scene → ℕ → ℕ
+rows_by Picture scenes h = rows_at_once scenes h
+rows_by Live scenes h = rows_at_once scenes h
+rows_by form scenes h = 0
+
+-- how many are of what is written
+abbrev pub rows_of : Output → ℕ → ℕ
+rows_of (Shown form lead film) h = rows_by form film h
+rows_of (Traced text) h = 0
+
 -- so many bytes are room for the colours of a row of one picture alone, or for those of each of several
 abbrev pub Suffices : List Scene → ℕ → Type 0
 Suffices [] n = Unit {0}
 Suffices (s ∷ []) n = 3 * s.width ≤ n
 Suffices (s ∷ t ∷ scenes) n = All (λ (f : Scene). 3 * (f.width * f.height) ≤ n) (s ∷ t ∷ scenes)
 
--- where pictures are written there is room for the colours of so many rows
-abbrev pub HasRoom : Emit → Canvas → List Scene → List ℕ → Type 0
-HasRoom Picture canvas scenes room = 3 * (canvas.w * rows_at_once scenes canvas.h) ≤ length room
-HasRoom Live canvas scenes room = 3 * (canvas.w * rows_at_once scenes canvas.h) ≤ length room
-HasRoom emit canvas scenes room = Unit {0}
+-- there is room for the colours of so many rows
+abbrev pub HasRoom : ℕ → Canvas → List ℕ → Type 0
+HasRoom rows canvas room = 3 * (canvas.w * rows) ≤ length room
 
--- the frames that are asked for: those of the exports, or that of the document that the script makes; a trace shows none
-abbrev pub ShowsFor : Emit → Contents → List Scene → List Outcome → Type 0
+-- the frames are those of the exports, or that of the document that the script makes
+abbrev pub ShowsFor : Form → Contents → List Scene → List Outcome → Type 0
 ShowsFor Live script scenes outcomes = ShowsLast script scenes outcomes
-ShowsFor Trace script scenes outcomes = Unit {0}
-ShowsFor emit script scenes outcomes = Shows script scenes outcomes
+ShowsFor form script scenes outcomes = Shows script scenes outcomes
+
+-- the frames of what is written are these
+abbrev pub IsShown : Output → Contents → List Outcome → Type 0
+IsShown (Shown form lead film) script outcomes = ShowsFor form script film outcomes
+IsShown (Traced text) script outcomes = Unit {0}

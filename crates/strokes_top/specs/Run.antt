@@ -25,10 +25,14 @@ abbrev pub lead : Option ℕ → Contents → List ℕ
 lead None drawn = []
 lead (Some n) drawn = text drawn
 
+-- the lead, and the output behind it
+abbrev pub led : Option ℕ → Emit → Contents → List ℕ
+led artists emit drawn = lead artists drawn ++ output emit drawn
+
 -- the bytes are all that is written of what was drawn: a trace of it, with one slot more than there are workers, or its lead and its output
 abbrev pub IsWhole : Emit → Choice → Contents → List ℕ → Type 0
 IsWhole Trace asked drawn bytes = IsTraceOf drawn (asked.workers + 1) bytes
-IsWhole emit asked drawn bytes = bytes ≡ lead asked.artists drawn ++ output emit drawn
+IsWhole emit asked drawn bytes = bytes ≡ led asked.artists emit drawn
 
 -- what was written of what was drawn of a script, by how the run ended
 pub record IsWritten (st : Status) (before after : Option (List ℕ)) (asked : Choice) (s : Contents) : Type 0 where

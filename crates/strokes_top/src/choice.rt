@@ -166,7 +166,7 @@ fn replay_in(matches: &ArgMatches<'_>) -> Option<bool>
 }
 
 /// Whether a trace is written.
-pub(crate) fn is_trace(emit: Emit) -> bool
+fn is_trace(emit: Emit) -> bool
     ensures { result ≡ said_trace emit }
 {
     matches!(emit, Emit::Trace)
@@ -221,7 +221,8 @@ fn asked_by(choice: Choice) -> Option<Asked>
 
 /// What the values of the options ask for, where each can be read and they fit together.
 fn asked_in(matches: &ArgMatches<'_>) -> Option<Asked>
-    ensures { option_map (λ (a : Asked). a.choice) result ≡ choice_by (rows_of (found_of matches.now)) }
+    ensures { option_map (λ (a : Asked). a.choice) result ≡
+        choice_by (rows_of (found_of matches.now)) }
 {
     let emit = emit_in(matches)?;
     let demo = demo_in(matches)?;

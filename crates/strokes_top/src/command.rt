@@ -49,20 +49,19 @@ fn paint<R: Threads + Wait + Sync, K: Sink, G: Gate>(
     gate: &G,
 ) -> Status
     ensures paints { Paints result (K.taken out.old) (K.taken out.new) asked.now.choice script }
-    ensures write_fault { result ≡ Status.WriteFault → Rose (K.faults out.old) (K.faults out.new) }
+    ensures write_fault { result ≡ Status.WriteFault →
+        Rose (K.faults out.old) (K.faults out.new) }
     ensures later { K.faults out.old ≤ K.faults out.new }
 {
-    let emit = asked.choice.emit;
     let Ok(painting) = painted(rt, alloc, asked, script, gate) else {
         return Status::NoMemory;
     };
     let threads = asked.choice.workers.saturating_add(1);
-    let canvas = painting.script.canvas();
-    let Ok(mut room) = room_for(alloc, emit, canvas, &painting.shown.film, threads) else {
+    let Ok(mut room) = room_for(alloc, &painting, threads) else {
         return Status::NoMemory;
     };
-    let refused = some_refused(&painting.shown.outcomes);
-    match write_painting(rt, threads, emit, &painting, &mut room, out) {
+    let refused = some_refused(&painting.outcomes);
+    match write_painting(rt, threads, &painting, &mut room, out) {
         Ok(()) if refused => Status::DoneWithRefusals,
         Ok(()) => Status::Done,
         Err(Failed) => Status::WriteFault,
@@ -91,7 +90,8 @@ fn answer<R: Threads + Wait + Sync, S: Source, K: Sink, G: Gate>(
         (S.faults source.old) (S.faults source.new) }
 
     // Which faults the sink has.
-    ensures write_fault { result ≡ Status.WriteFault → Rose (K.faults out.old) (K.faults out.new) }
+    ensures write_fault { result ≡ Status.WriteFault →
+        Rose (K.faults out.old) (K.faults out.new) }
     ensures later { K.faults out.old ≤ K.faults out.new }
 {
     let asked = match choice_of(alloc, words) {
@@ -122,37 +122,57 @@ pub fn run<R: Threads + Wait + Sync, S: Source, K: Sink, E: Sink, G: Gate>(
     err: &mut E,
     gate: &G,
 ) -> Status
-    // What was read, and what was written of it at codes 0, 1 and 5: without artists and traces, by artists, as a trace, and of a
-    // trace. Where the source doesn't tell what it has left, that is so of some bytes.
-    ensures painted { may_write result ≡ true → IfSome (choice words.now) (IsPainted result (S.left source.old) (S.left source.new) (K.taken out.old) (K.taken out.new)) }
-    ensures drawn { may_write result ≡ true → IfSome (choice words.now) (IsPaintedTogether result (S.left source.old) (S.left source.new) (K.taken out.old) (K.taken out.new)) }
-    ensures traced { may_write result ≡ true → IfSome (choice words.now) (IsTraced result (S.left source.old) (S.left source.new) (K.taken out.old) (K.taken out.new)) }
-    ensures replayed { may_write result ≡ true → IfSome (choice words.now) (IsReplayed result (S.left source.old) (S.left source.new) (K.taken out.old) (K.taken out.new)) }
+    // What was read, and what was written of it at codes 0, 1 and 5: without artists and traces, by artists, as
+    // a trace, and of a trace. Where the source doesn't tell what it has left, that is so of some bytes.
+    ensures painted { may_write result ≡ true → IfSome (choice words.now)
+        (IsPainted result (S.left source.old) (S.left source.new) (K.taken out.old) (K.taken out.new)) }
+    ensures drawn { may_write result ≡ true → IfSome (choice words.now)
+        (IsPaintedTogether result (S.left source.old) (S.left source.new) (K.taken out.old) (K.taken out.new)) }
+    ensures traced { may_write result ≡ true → IfSome (choice words.now)
+        (IsTraced result (S.left source.old) (S.left source.new) (K.taken out.old) (K.taken out.new)) }
+    ensures replayed { may_write result ≡ true → IfSome (choice words.now)
+        (IsReplayed result (S.left source.old) (S.left source.new) (K.taken out.old) (K.taken out.new)) }
 
     // When there is an output: where nothing fails an input without fault has one, if memory suffices.
-    ensures complete { IsGivenScript words.now (S.left source.old) → ¬ Rose (S.faults source.old) (S.faults source.new) → ¬ Rose (K.faults out.old) (K.faults out.new) → (is_done result ≡ true) ⊎ (result ≡ Status.NoMemory) }
-    ensures complete_trace { IsGivenTrace words.now (S.left source.old) → ¬ Rose (S.faults source.old) (S.faults source.new) → ¬ Rose (K.faults out.old) (K.faults out.new) → (is_done result ≡ true) ⊎ (result ≡ Status.NoMemory) }
+    ensures complete { IsGivenScript words.now (S.left source.old) →
+        ¬ Rose (S.faults source.old) (S.faults source.new) → ¬ Rose (K.faults out.old) (K.faults out.new) →
+        (is_done result ≡ true) ⊎ (result ≡ Status.NoMemory) }
+    ensures complete_trace { IsGivenTrace words.now (S.left source.old) →
+        ¬ Rose (S.faults source.old) (S.faults source.new) → ¬ Rose (K.faults out.old) (K.faults out.new) →
+        (is_done result ≡ true) ⊎ (result ≡ Status.NoMemory) }
 
     // When each other status comes.
     ensures usage { result ≡ Status.Usage → choice words.now ≡ None }
-    ensures taken_words { result ≢ Status.Usage → result ≢ Status.NoMemory → is_some (choice words.now) ≡ true }
-    ensures script { (line : ℕ) (cause : Cause) → result ≡ Status.Script line cause → IsFaulty (record { line = line; cause = cause }) words.now (S.left source.old) (S.left source.new) }
-    ensures trace { (line : ℕ) (cause : TraceCause) → result ≡ Status.Trace line cause → IsFaultyTrace (record { line = line; cause = cause }) words.now (S.left source.old) (S.left source.new) }
+    ensures taken_words { result ≢ Status.Usage → result ≢ Status.NoMemory →
+        is_some (choice words.now) ≡ true }
+    ensures script { (line : ℕ) (cause : Cause) → result ≡ Status.Script line cause →
+        IsFaulty (record { line = line; cause = cause }) words.now (S.left source.old) (S.left source.new) }
+    ensures trace { (line : ℕ) (cause : TraceCause) → result ≡ Status.Trace line cause →
+        IsFaultyTrace (record { line = line; cause = cause }) words.now (S.left source.old)
+        (S.left source.new) }
     ensures too_long_reads { result ≡ Status.TooLong → asks_for_demo words.now ≡ false }
-    ensures too_long { result ≡ Status.TooLong → ConsumesMore (limit_for words.now) CHUNK (S.left source.old) (S.left source.new) }
-    ensures within_limit { result ≢ Status.TooLong → ConsumesAtMost (limit_for words.now) (S.left source.old) (S.left source.new) }
-    ensures read_fault { result ≡ Status.ReadFault → Rose (S.faults source.old) (S.faults source.new) }
-    ensures write_fault { result ≡ Status.WriteFault → Rose (K.faults out.old) (K.faults out.new) }
+    ensures too_long { result ≡ Status.TooLong →
+        ConsumesMore (limit_for words.now) CHUNK (S.left source.old) (S.left source.new) }
+    ensures within_limit { result ≢ Status.TooLong →
+        ConsumesAtMost (limit_for words.now) (S.left source.old) (S.left source.new) }
+    ensures read_fault { result ≡ Status.ReadFault →
+        Rose (S.faults source.old) (S.faults source.new) }
+    ensures write_fault { result ≡ Status.WriteFault →
+        Rose (K.faults out.old) (K.faults out.new) }
 
     // When the source stays as it was.
-    ensures usage_reads_nothing { result ≡ Status.Usage → (S.left source.new ≡ S.left source.old) × (S.faults source.new ≡ S.faults source.old) }
-    ensures demo_reads_nothing { asks_for_demo words.now ≡ true → (S.left source.new ≡ S.left source.old) × (S.faults source.new ≡ S.faults source.old) }
+    ensures usage_reads_nothing { result ≡ Status.Usage →
+        (S.left source.new ≡ S.left source.old) × (S.faults source.new ≡ S.faults source.old) }
+    ensures demo_reads_nothing { asks_for_demo words.now ≡ true →
+        (S.left source.new ≡ S.left source.old) × (S.faults source.new ≡ S.faults source.old) }
 
     // What the sinks took otherwise.
     ensures nothing { may_write result ≡ false → Keeps (K.taken out.old) (K.taken out.new) }
     ensures quiet { is_done result ≡ true → Keeps (E.taken err.old) (E.taken err.new) }
-    ensures told { is_done result ≡ false → AppendsPrefix (E.taken err.old) (E.taken err.new) (told_by result) }
-    ensures told_whole { is_done result ≡ false → ¬ Rose (E.faults err.old) (E.faults err.new) → Appends (E.taken err.old) (E.taken err.new) (told_by result) }
+    ensures told { is_done result ≡ false →
+        AppendsPrefix (E.taken err.old) (E.taken err.new) (told_by result) }
+    ensures told_whole { is_done result ≡ false → ¬ Rose (E.faults err.old) (E.faults err.new) →
+        Appends (E.taken err.old) (E.taken err.new) (told_by result) }
 
     // No count of faults falls.
     ensures source_count { S.faults source.old ≤ S.faults source.new }

@@ -46,9 +46,12 @@ impl Intake {
     /// `Fault` where a line that ends in them has a fault, which is then the first fault of the
     /// script, however it goes on; else `NoMemory`.
     pub(crate) fn take(self, piece: &[u8]) -> Result<Intake, ReadRefusal>
-        requires { (got : List ℕ) × HasTaken self got × (length got + length piece.now ≤ LIMIT) }
-        ensures ok { (got : List ℕ) → HasTaken self got → IfOk result (λ i. HasTaken i (got ++ piece.now)) }
-        ensures fault { (got more : List ℕ) (f : ScriptFault) → HasTaken self got → result ≡ Err (Fault f) → fault_of ((got ++ piece.now) ++ more) ≡ Some f }
+        requires { (got : List ℕ) × HasTaken self got ×
+            (length got + length piece.now ≤ LIMIT) }
+        ensures ok { (got : List ℕ) → HasTaken self got →
+            IfOk result (λ i. HasTaken i (got ++ piece.now)) }
+        ensures fault { (got more : List ℕ) (f : ScriptFault) → HasTaken self got →
+            result ≡ Err (Fault f) → fault_of ((got ++ piece.now) ++ more) ≡ Some f }
     {
         let Intake { reader, mut rest } = self;
         let Some((ended, behind)) = cut_at_feed(piece) else {
@@ -65,7 +68,8 @@ impl Intake {
     /// The script that the bytes are, or its first fault.
     pub(crate) fn finish(self) -> Result<Script, ReadRefusal>
         requires { (got : List ℕ) × HasTaken self got × (length got ≤ LIMIT) }
-        ensures { (got : List ℕ) → HasTaken self got → Answers result (fault_of got) (script_of got) }
+        ensures { (got : List ℕ) → HasTaken self got →
+            Answers result (fault_of got) (script_of got) }
     {
         self.reader.feed(&self.rest)?.finish()
     }

@@ -1,7 +1,7 @@
 //! How much a script asks for.
 
 use doc_model::{Change, Command, Job, Track};
-use geom_core::Rect;
+use geom_core::{Rect, TILE_POINTS, TILE_SIDE};
 use script_text::Script;
 
 /// How many jobs are few: the holds of a lock that they take are soon over.
@@ -10,12 +10,6 @@ const FEW_JOBS: u64 = 64;
 /// With how many points to paint and to compose each job has to come, on average, so that several threads are
 /// quicker than one.
 const POINTS_A_JOB: u64 = 8_000;
-
-/// How many points a side of a tile has.
-const TILE_SIDE: u64 = 64;
-
-/// How many points a tile has.
-const TILE_POINTS: u64 = 4_096;
 
 /// Whether several threads are to paint: there are few jobs, or several threads are probably quicker than one.
 pub(crate) fn is_for_many(script: &Script) -> bool {
@@ -53,8 +47,8 @@ fn points_of(job: &Job) -> u64 {
 /// How many points the dabs of a track paint in one tile, if it goes straight through it.
 fn track_points(track: &Track) -> u64 {
     let side = 2 * u64::from(track.stamp().r) + 1;
-    let dabs = (TILE_SIDE + side) / u64::from(track.gap()).max(1) + 1;
-    (side * side).min(TILE_POINTS) * dabs
+    let dabs = (TILE_SIDE as u64 + side) / u64::from(track.gap()).max(1) + 1;
+    (side * side).min(TILE_POINTS as u64) * dabs
 }
 
 /// How many points a rectangle has.

@@ -97,7 +97,8 @@ fn read_script<S: Source>(
     chunk: &mut [u8],
 ) -> Result<Script, SourceError>
     requires { length chunk.old ≡ CHUNK }
-    ensures ok { IfOk result (λ s. WasRead (S.left source.old) (S.left source.new) (Spells (λ t. t ≡ s))) }
+    ensures ok { IfOk result (λ s. WasRead (S.left source.old) (S.left source.new)
+        (Spells (λ t. t ≡ s))) }
     ensures err { IfErr result (IsNoScript None false (S.left source.old) (S.left source.new)) }
     ensures reads { ReadsUpTo LIMIT (S.left source.old) (S.left source.new)
         (S.faults source.old) (S.faults source.new) (error_of result) }
@@ -133,7 +134,8 @@ fn read_trace<S: Source>(
     chunk: &mut [u8],
 ) -> Result<Script, SourceError>
     requires { length chunk.old ≡ CHUNK }
-    ensures ok { IfOk result (λ s. WasRead (S.left source.old) (S.left source.new) (Replays (λ t. t ≡ s))) }
+    ensures ok { IfOk result (λ s. WasRead (S.left source.old) (S.left source.new)
+        (Replays (λ t. t ≡ s))) }
     ensures err { IfErr result (IsNoScript None true (S.left source.old) (S.left source.new)) }
     ensures reads { ReadsUpTo TRACE_LIMIT (S.left source.old) (S.left source.new)
         (S.faults source.old) (S.faults source.new) (error_of result) }
@@ -159,7 +161,8 @@ fn read_given<S: Source>(
     replays: bool,
     source: &mut S,
 ) -> Result<Script, SourceError>
-    ensures ok { IfOk result (λ s. WasRead (S.left source.old) (S.left source.new) (Gives replays (λ t. t ≡ s))) }
+    ensures ok { IfOk result (λ s. WasRead (S.left source.old) (S.left source.new)
+        (Gives replays (λ t. t ≡ s))) }
     ensures err { IfErr result (IsNoScript None replays (S.left source.old) (S.left source.new)) }
     ensures reads { ReadsUpTo (limit_of replays) (S.left source.old) (S.left source.new)
         (S.faults source.old) (S.faults source.new) (error_of result) }
@@ -188,7 +191,8 @@ pub(crate) fn take_script<S: Source>(
         (S.left source.old) (S.left source.new)) }
     ensures reads { ReadsUpTo (limit_of choice.now.replay) (S.left source.old) (S.left source.new)
         (S.faults source.old) (S.faults source.new) (error_of result) }
-    ensures demo { is_some choice.now.demo ≡ true → StaysAsItWas (S.left source.old) (S.left source.new)
+    ensures demo { is_some choice.now.demo ≡ true →
+        StaysAsItWas (S.left source.old) (S.left source.new)
         (S.faults source.old) (S.faults source.new) }
 {
     match choice.demo {

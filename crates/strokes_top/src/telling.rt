@@ -44,7 +44,8 @@ fn trace_line(alloc: Global, line: u32, cause: TraceCause) -> Result<String, All
 /// Writes a line as far as the sink takes it.
 fn tell<E: Sink>(err: &mut E, line: &[u8])
     ensures prefix { AppendsPrefix (E.taken err.old) (E.taken err.new) line.now }
-    ensures whole { ¬ Rose (E.faults err.old) (E.faults err.new) → Appends (E.taken err.old) (E.taken err.new) line.now }
+    ensures whole { ¬ Rose (E.faults err.old) (E.faults err.new) →
+        Appends (E.taken err.old) (E.taken err.new) line.now }
     ensures later { E.faults err.old ≤ E.faults err.new }
 {
     let _ = write_all(err, line);
@@ -56,8 +57,10 @@ pub fn report<E: Sink>(alloc: Global, err: &mut E, status: Status) -> Status
     ensures same { (result ≡ status) ⊎ (result ≡ Status.NoMemory) }
     ensures others { is_script status ≡ false → result ≡ status }
     ensures quiet { is_done result ≡ true → Keeps (E.taken err.old) (E.taken err.new) }
-    ensures prefix { is_done result ≡ false → AppendsPrefix (E.taken err.old) (E.taken err.new) (told_by result) }
-    ensures whole { is_done result ≡ false → ¬ Rose (E.faults err.old) (E.faults err.new) → Appends (E.taken err.old) (E.taken err.new) (told_by result) }
+    ensures prefix { is_done result ≡ false →
+        AppendsPrefix (E.taken err.old) (E.taken err.new) (told_by result) }
+    ensures whole { is_done result ≡ false → ¬ Rose (E.faults err.old) (E.faults err.new) →
+        Appends (E.taken err.old) (E.taken err.new) (told_by result) }
     ensures later { E.faults err.old ≤ E.faults err.new }
 {
     match status {

@@ -38,7 +38,8 @@ pub fn next_piece<S: Source>(
 ) -> Result<usize, ReadError>
     requires room { length chunk.old ≡ CHUNK }
     requires count { count ≤ limit }
-    ensures bytes { IfOk result (λ n. Consumes (S.left source.old) (S.left source.new) (take n chunk.new)) }
+    ensures bytes { IfOk result (λ n. Consumes (S.left source.old) (S.left source.new)
+        (take n chunk.new)) }
     ensures bound { IfOk result (λ n. n ≤ length chunk.new) }
     ensures short { IfOk result (λ n. count + n ≤ limit) }
     ensures to_the_end { result ≡ Ok 0 → IsAtEnd (S.left source.new) }

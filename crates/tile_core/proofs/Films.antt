@@ -12,6 +12,7 @@ use Rattle.tile_core.specs.Pixels.{Pixels, pixel_or}
 use Rattle.tile_core.specs.Marks.{Grid, has_mark, on_canvas}
 use Rattle.tile_core.specs.Frames.{Scene, with_put}
 use Rattle.tile_core.specs.Films.{Renews, IsFilm, newest}
+use Rattle.geom_core.proofs.Tests.{some_same}
 
 before_end : {A : Type 0} (xs : List A) (y : A) (i : ℕ) → i < length xs → slice_get (xs ++ y ∷ []) i ≡ slice_get xs i
 before_end [] y i h = absurd (omega arith)
@@ -22,12 +23,9 @@ at_end : {A : Type 0} (xs : List A) (y : A) → slice_get (xs ++ y ∷ []) (leng
 at_end [] y = refl
 at_end (x ∷ xs) y = at_end xs y
 
-pub same_some : {A : Type 0} (x y : A) → Some x ≡ Some y → x ≡ y
-same_some x y e = cc
-
 -- the item at the end is the new one
 pub last_is : {A : Type 0} (xs : List A) (y z : A) (i : ℕ) → i ≡ length xs → slice_get (xs ++ y ∷ []) i ≡ Some z → y ≡ z
-last_is xs y z i e h = same_some y z (sym (at_end xs y) ∙ ap (slice_get (xs ++ y ∷ [])) (sym e) ∙ h)
+last_is xs y z i e h = some_same y z (sym (at_end xs y) ∙ ap (slice_get (xs ++ y ∷ [])) (sym e) ∙ h)
 
 pub one_more : (scenes : List Scene) (fresh : List Grid) (s : Scene) (g : Grid) → IsFilm scenes fresh → ((before : Scene) → newest scenes ≡ Some before → Renews s before g) → IsFilm (scenes ++ s ∷ []) (fresh ++ g ∷ [])
 one_more scenes fresh s g film renews = record {

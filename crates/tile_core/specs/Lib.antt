@@ -3,6 +3,7 @@ pub mod Parts
 pub mod Blocks
 pub mod Shots
 pub mod Frames
+pub mod Scenes
 pub mod Placed
 pub mod Maps
 pub mod Laws

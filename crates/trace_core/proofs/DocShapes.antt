@@ -14,11 +14,9 @@ use Rattle.doc_model.specs.Picture.{Doc}
 use Rattle.machine_model.specs.Groups.{path_of, parent_of}
 use Rattle.machine_model.specs.Guards.{is_paint}
 use Rattle.doc_model.proofs.Natural.{has_each, parent_each, changed_each, with_contents, after}
-use Rattle.trace_parts.specs.Trees.{Shape, paints, group_of, tree_path}
+use Rattle.trace_state.specs.Trees.{Shape, paints, group_of, tree_path}
 use Rattle.trace_core.specs.Outline.{shape}
-
-same_cond : {A : Type 0} {b c : Bool} {x y z w : A} → b ≡ c → x ≡ y → z ≡ w → cond b x z ≡ cond c y w
-same_cond e f g i = cond (e i) (f i) (g i)
+use Rattle.geom_core.proofs.Tests.{cond_same}
 
 some_cond : {A B : Type 0} (b : Bool) (x : A) (y : B) (o : Option A) (p : Option B) → is_some o ≡ is_some p → is_some (cond b (Some x) o) ≡ is_some (cond b (Some y) p)
 some_cond true x y o p e = refl
@@ -40,8 +38,8 @@ group_shape q f = λ i. unwrap_or (parent_each (λ id layer. tt) q 0 f i) 0
 
 path_shape : (q : ℕ) (f : Doc) → path q (shape f) ≡ path q f
 path_shape q none = refl
-path_shape q (paint id look x rest) = same_cond {b = eqb q id} refl refl (path_shape q rest)
-path_shape q (group id look nodes rest) = same_cond {b = eqb q id} refl refl (same_cond (has_each (λ id layer. tt) q nodes) (λ i. path_shape q nodes i ++ id ∷ []) (path_shape q rest))
+path_shape q (paint id look x rest) = cond_same {b = eqb q id} refl refl (path_shape q rest)
+path_shape q (group id look nodes rest) = cond_same {b = eqb q id} refl refl (cond_same (has_each (λ id layer. tt) q nodes) (λ i. path_shape q nodes i ++ id ∷ []) (path_shape q rest))
 
 order_shape : (f : Doc) → order (shape f) ≡ order f
 order_shape none = refl

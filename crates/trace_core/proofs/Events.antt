@@ -4,9 +4,9 @@ use Rattle.std.specs.Prelude.{slice_get, slice_set}
 use Rattle.geom_core.specs.declared.NoMemory.{NoMemory}
 use Rattle.doc_model.specs.declared.job.Job.{Job}
 use Rattle.doc_model.specs.declared.job.Kind.{Kind}
-use Rattle.trace_model.specs.Replays.{first_of}
+use Rattle.machine_model.specs.Replays.{first_of}
 use Rattle.entry_queue.specs.declared.head.HeadStroke.{HeadStroke}
-use Rattle.trace_parts.specs.declared.slot.Slot.TheVariants.{Free}
+use Rattle.trace_state.specs.declared.slot.Slot.TheVariants.{Free}
 use Rattle.entry_queue.specs.Heads.{head_in, jobs_in}
 use Rattle.trace_core.specs.Outline.{Outline}
 use Rattle.trace_core.specs.Moves as move

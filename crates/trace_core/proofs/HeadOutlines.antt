@@ -6,7 +6,8 @@ use Rattle.doc_model.specs.Kept.{up_to}
 use Rattle.entry_queue.specs.declared.entry.Entry.{Entry}
 use Rattle.entry_queue.specs.Pushed.{queued}
 use Rattle.machine_model.specs.Guards.{overlaps, kept_jobs}
-use Rattle.trace_parts.specs.Waits.{other_in}
+use Rattle.trace_state.specs.Waits.{other_in}
+use Rattle.geom_core.proofs.Tests.{length_more}
 
 fates_other : (f : Fate) (t : Stroke) (es : List Entry) → other_in (queued (Strokes (record t { fate = f })) ∷ es) ≡ None
 fates_other Open t es = refl
@@ -25,10 +26,6 @@ drop_one_more (suc n) (x ∷ xs) = drop_one_more n xs
 pub map_drop_one : {A B : Type 0} (f : A → B) (xs : List A) → map f (drop 1 xs) ≡ drop 1 (map f xs)
 map_drop_one f [] = refl
 map_drop_one f (x ∷ xs) = refl
-
-pub length_more : {A : Type 0} (xs : List A) (x : A) → length (xs ++ x ∷ []) ≡ suc (length xs)
-length_more [] x = refl
-length_more (y ∷ xs) x = ap suc (length_more xs x)
 
 -- the entries that are left after one more outcome
 pub left_popped : {A : Type 0} (outcomes : List A) (o : A) (es : List doc.Entry) → map queued (drop (length (outcomes ++ o ∷ [])) es) ≡ drop 1 (map queued (drop (length outcomes) es))

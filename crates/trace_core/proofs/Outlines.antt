@@ -44,26 +44,26 @@ use Rattle.machine_model.specs.Groups.{parent_of, path_of}
 use Rattle.machine_model.specs.Walks.{walk_shot, shots_of}
 use Rattle.machine_model.specs.Effects as effect
 use Rattle.machine_model.specs.Effects.{updates_with, updates_with_all, started_jobs, with_outcome, no_paint_outcome, cancel_outcome, writes_of}
-use Rattle.trace_model.specs.Next as next
-use Rattle.trace_model.specs.Next.{next as after, when, is_number, is_clear}
-use Rattle.trace_model.specs.Replays as replay
-use Rattle.trace_model.specs.Replays.{first_of}
-use Rattle.trace_parts.specs.declared.history.Reach.TheVariants as reach
-use Rattle.trace_parts.specs.declared.slot.Slot.TheVariants as slot
-use Rattle.trace_parts.specs.Histories.{former}
-use Rattle.trace_parts.specs.Trees.{paints, group_of, tree_path}
-use Rattle.trace_parts.specs.Tiles.{round}
+use Rattle.machine_model.specs.Next as next
+use Rattle.machine_model.specs.Next.{next as after, when, is_number, is_clear}
+use Rattle.machine_model.specs.Replays as replay
+use Rattle.machine_model.specs.Replays.{first_of}
+use Rattle.trace_state.specs.declared.history.Reach.TheVariants as reach
+use Rattle.trace_state.specs.declared.slot.Slot.TheVariants as slot
+use Rattle.trace_state.specs.Histories.{former}
+use Rattle.trace_state.specs.Trees.{paints, group_of, tree_path}
+use Rattle.trace_state.specs.Tiles.{round}
 use Rattle.entry_queue.specs.Heads.{jobs_in}
 use Rattle.entry_queue.proofs.Heads.{told, head_told, jobs_told}
-use Rattle.trace_parts.specs.Waits.{other_in, is_done}
-use Rattle.trace_parts.specs.Painting.{lacks_tile, with_tile}
-use Rattle.trace_parts.specs.Walking.{lacks_pair, with_pair}
-use Rattle.trace_parts.specs.Slots.{is_free, is_painter, is_walker, blocks, meets_walker}
-use Rattle.trace_core.specs.Outline.{Outline, outline, shape, former_of, reach_of, slot_of, composed_of}
+use Rattle.trace_state.specs.Waits.{other_in, is_done}
+use Rattle.trace_state.specs.Painting.{lacks_tile, with_tile}
+use Rattle.trace_state.specs.Walking.{lacks_pair, with_pair}
+use Rattle.trace_state.specs.Slots.{is_free, is_painter, is_walker, blocks, meets_walker}
+use Rattle.trace_core.specs.Outline.{Outline, outline, shape, former_of, reach_of, slot_of, walked_group}
 use Rattle.trace_core.specs.Moves as move
 use Rattle.trace_core.proofs.DocShapes.{paints_shape, group_shape, walk_shape, adjusted_shape, shape_result, changed_shape}
 use Rattle.trace_core.proofs.HeadOutlines.{other_stroke, left_popped, all_kept}
-use Rattle.trace_core.proofs.SlotOutlines.{any_slots, all_slots, set_slots, free_slot, painter_slot, walker_slot, blocks_slot, meets_slot, painting, lacks_told, painted_told, walking, lacks_pair_told, with_pair_told, composed_told, fresh_groups}
+use Rattle.trace_core.proofs.SlotOutlines.{any_slots, all_slots, set_slots, free_slot, painter_slot, walker_slot, blocks_slot, meets_slot, painting, lacks_told, painted_told, walking, lacks_pair_told, with_pair_told, composed_told, unpublished_groups}
 
 -- two tests that agree, of what is one where they pass
 when_told : {A B : Type 0} (f : A → B) (b c : Bool) (x : A) (y : B) → b ≡ c → (b ≡ true → f x ≡ y) → option_map f (when b x) ≡ when c y
@@ -191,8 +191,8 @@ walk_started_told s place patch = go (next.place_of patch s.updates) (slice_get 
     test : (rect : Area) → next.may_walk s rect ≡ move.may_walk (outline s) rect
     test rect = λ i. not ((exclusive (head_stroke s) s.way ∙ ap (λ h. move.is_exclusive h s.way) (sym (head_told (waiting s)))) i) && not (sym (any_slots (meets_walker rect) (guard.meets_walker rect) (meets_slot rect) s.slots) i)
 
-    groups : (p : Patch) → map (composed_of []) (map (λ (e : ℕ × List Child). e.0) (walk_shot s p)) ≡ map (λ g. record { group = g; published = set.empty }) (tree_path p.walk (shape s.present))
-    groups p = ap (map (composed_of [])) (shot_groups s p.rect (path_of p.walk s.present) ∙ sym (walk_shape p.walk s.present)) ∙ fresh_groups (tree_path p.walk (shape s.present))
+    groups : (p : Patch) → map (walked_group []) (map (λ (e : ℕ × List Child). e.0) (walk_shot s p)) ≡ map (λ g. record { group = g; published = set.empty }) (tree_path p.walk (shape s.present))
+    groups p = ap (map (walked_group [])) (shot_groups s p.rect (path_of p.walk s.present) ∙ sym (walk_shape p.walk s.present)) ∙ unpublished_groups (tree_path p.walk (shape s.present))
 
     go : (i : ℕ) (p : Option Patch) (x : Option state.Slot) → option_map outline (next.walk_started s place i p x) ≡ move.walk_started_by (outline s) place i p (option_map slot_of x)
     go i (Some p) (Some Free) = when_told outline (next.may_walk s p.rect) _ _ _ (test p.rect)

@@ -16,15 +16,16 @@ use Rattle.machine_model.specs.Slots as model
 use Rattle.machine_model.specs.Guards as guard
 use Rattle.machine_model.specs.Guards.{same_pair}
 use Rattle.machine_model.specs.Groups.{on}
-use Rattle.trace_model.specs.Next as next
-use Rattle.trace_model.specs.Next.{groups_of, may_publish, may_compose}
-use Rattle.trace_parts.specs.declared.composed.Composed.{Composed}
-use Rattle.trace_parts.specs.declared.slot.Slot.{Slot}
-use Rattle.trace_parts.specs.Painting.{Painting, lacks_tile, is_painted}
-use Rattle.trace_parts.specs.Walking.{Walking, lacks, noted, lacks_pair, with_pair, is_composed}
-use Rattle.trace_parts.specs.Tiles.{has_all}
-use Rattle.trace_parts.specs.Slots.{is_free, is_painter, is_walker, blocks, meets_walker}
-use Rattle.trace_core.specs.Outline.{slot_of, tiles_of, composed_of}
+use Rattle.machine_model.specs.Next as next
+use Rattle.machine_model.specs.Next.{groups_of, may_publish, may_compose}
+use Rattle.trace_state.specs.declared.group.WalkedGroup.{WalkedGroup}
+use Rattle.trace_state.specs.declared.slot.Slot.{Slot}
+use Rattle.trace_state.specs.Painting.{Painting, lacks_tile, is_painted}
+use Rattle.trace_state.specs.Walking.{Walking, lacks, noted, lacks_pair, with_pair, is_composed}
+use Rattle.trace_state.specs.Tiles.{has_all}
+use Rattle.trace_state.specs.Slots.{is_free, is_painter, is_walker, blocks, meets_walker}
+use Rattle.trace_core.specs.Outline.{slot_of, tiles_of, walked_group}
+use Rattle.std.proofs.lemmas.Bool.{eqb-true}
 
 pub any_slots : (f : Slot → Bool) (g : state.Slot → Bool) → ((x : state.Slot) → f (slot_of x) ≡ g x) → (xs : List state.Slot) → list_any f (map slot_of xs) ≡ list_any g xs
 any_slots f g e [] = refl
@@ -90,13 +91,10 @@ tiles_told g (e ∷ es) key = go (eqb e.0 g) (tiles_told g es key)
     go true more = ap (λ c. same_key key e.1 || c) more
     go false more = more
 
-has_pair : (g : ℕ) (published : List (ℕ × Key)) (key : Key) → set.contains (composed_of published g).published key ≡ list_any (same_pair g key) published
+has_pair : (g : ℕ) (published : List (ℕ × Key)) (key : Key) → set.contains (walked_group published g).published key ≡ list_any (same_pair g key) published
 has_pair g published key = has_tile (tiles_of g published) key ∙ tiles_told g published key
 
-one_number : (a b : ℕ) → eqb a b ≡ true → a ≡ b
-one_number a b e = grind (arith, nat_tests)
-
-lacks_groups : (published : List (ℕ × Key)) (g : ℕ) (key : Key) (gs : List ℕ) → list_any (lacks g key) (map (composed_of published) gs) ≡ (on g gs && not (list_any (same_pair g key) published))
+lacks_groups : (published : List (ℕ × Key)) (g : ℕ) (key : Key) (gs : List ℕ) → list_any (lacks g key) (map (walked_group published) gs) ≡ (on g gs && not (list_any (same_pair g key) published))
 lacks_groups published g key [] = refl
 lacks_groups published g key (q ∷ gs) = go (lacks_groups published g key gs) (eqb q g) refl
   where
@@ -105,17 +103,17 @@ lacks_groups published g key (q ∷ gs) = go (lacks_groups published g key gs) (
     both true c false e = e
     both false c false e = e
 
-    go : list_any (lacks g key) (map (composed_of published) gs) ≡ (on g gs && not (list_any (same_pair g key) published)) → (b : Bool) → eqb q g ≡ b → ((eqb q g && not (set.contains (composed_of published q).published key)) || list_any (lacks g key) (map (composed_of published) gs)) ≡ ((eqb q g || on g gs) && not (list_any (same_pair g key) published))
-    go more true e = (λ i. (e i && not (set.contains (composed_of published (one_number q g e i)).published key)) || more i)
+    go : list_any (lacks g key) (map (walked_group published) gs) ≡ (on g gs && not (list_any (same_pair g key) published)) → (b : Bool) → eqb q g ≡ b → ((eqb q g && not (set.contains (walked_group published q).published key)) || list_any (lacks g key) (map (walked_group published) gs)) ≡ ((eqb q g || on g gs) && not (list_any (same_pair g key) published))
+    go more true e = (λ i. (e i && not (set.contains (walked_group published (eqb-true q g e i)).published key)) || more i)
         ∙ ap (λ c. not c || (on g gs && not (list_any (same_pair g key) published))) (has_pair g published key)
         ∙ both (on g gs) _ _ refl
         ∙ ap (λ b. (b || on g gs) && not (list_any (same_pair g key) published)) (sym e)
-    go more false e = ap (λ b. (b && not (set.contains (composed_of published q).published key)) || list_any (lacks g key) (map (composed_of published) gs)) e
+    go more false e = ap (λ b. (b && not (set.contains (walked_group published q).published key)) || list_any (lacks g key) (map (walked_group published) gs)) e
         ∙ more
         ∙ ap (λ b. (b || on g gs) && not (list_any (same_pair g key) published)) (sym e)
 
 abbrev pub walking : state.Walker → Walking
-walking w = record { patch = w.patch; groups = map (composed_of w.published) (groups_of w) }
+walking w = record { patch = w.patch; groups = map (walked_group w.published) (groups_of w) }
 
 and_swap : (a b c : Bool) → (a && (b && c)) ≡ (b && (a && c))
 and_swap true b c = refl
@@ -125,25 +123,25 @@ and_swap false false c = refl
 pub lacks_pair_told : (w : state.Walker) (g : ℕ) (key : Key) → lacks_pair (walking w) g key ≡ may_compose w g key
 lacks_pair_told w g key = ap (λ b. list_any (same_key key) (keys_of w.patch.rect) && b) (lacks_groups w.published g key (groups_of w)) ∙ and_swap (list_any (same_key key) (keys_of w.patch.rect)) (on g (groups_of w)) _
 
-note_groups : (published : List (ℕ × Key)) (g : ℕ) (key : Key) (gs : List ℕ) → map (composed_of ((g, key) ∷ published)) gs ≡ map (noted g key) (map (composed_of published) gs)
+note_groups : (published : List (ℕ × Key)) (g : ℕ) (key : Key) (gs : List ℕ) → map (walked_group ((g, key) ∷ published)) gs ≡ map (noted g key) (map (walked_group published) gs)
 note_groups published g key [] = refl
 note_groups published g key (q ∷ gs) = λ i. go (eqb g q) i ∷ note_groups published g key gs i
   where
-    go : (b : Bool) → record { group = q; published = set.from_list (cond b (key ∷ tiles_of q published) (tiles_of q published)) } ≡ cond b (record (composed_of published q) { published = set.insert (composed_of published q).published key }) (composed_of published q)
+    go : (b : Bool) → record { group = q; published = set.from_list (cond b (key ∷ tiles_of q published) (tiles_of q published)) } ≡ cond b (record (walked_group published q) { published = set.insert (walked_group published q).published key }) (walked_group published q)
     go true = refl
     go false = refl
 
 pub with_pair_told : (w : state.Walker) (g : ℕ) (key : Key) → walking (record w { published = (g, key) ∷ w.published }) ≡ with_pair (walking w) g key
 with_pair_told w g key = λ i. record { patch = w.patch; groups = note_groups w.published g key (groups_of w) i }
 
-composed_groups : (published : List (ℕ × Key)) (keys : List Key) (gs : List ℕ) → list_all (λ (c : Composed). has_all c.published keys) (map (composed_of published) gs) ≡ list_all (λ g. list_all (λ key. list_any (same_pair g key) published) keys) gs
+composed_groups : (published : List (ℕ × Key)) (keys : List Key) (gs : List ℕ) → list_all (λ (c : WalkedGroup). has_all c.published keys) (map (walked_group published) gs) ≡ list_all (λ g. list_all (λ key. list_any (same_pair g key) published) keys) gs
 composed_groups published keys [] = refl
-composed_groups published keys (g ∷ gs) = λ i. all_same (set.contains (composed_of published g).published) (λ key. list_any (same_pair g key) published) (has_pair g published) keys i && composed_groups published keys gs i
+composed_groups published keys (g ∷ gs) = λ i. all_same (set.contains (walked_group published g).published) (λ key. list_any (same_pair g key) published) (has_pair g published) keys i && composed_groups published keys gs i
 
 pub composed_told : (w : state.Walker) → is_composed (walking w) ≡ next.is_composed w
 composed_told w = composed_groups w.published (keys_of w.patch.rect) (groups_of w)
 
 -- a walk that starts has published nothing
-pub fresh_groups : (gs : List ℕ) → map (composed_of []) gs ≡ map (λ g. record { group = g; published = set.empty }) gs
-fresh_groups [] = refl
-fresh_groups (g ∷ gs) = ap (λ t. composed_of [] g ∷ t) (fresh_groups gs)
+pub unpublished_groups : (gs : List ℕ) → map (walked_group []) gs ≡ map (λ g. record { group = g; published = set.empty }) gs
+unpublished_groups [] = refl
+unpublished_groups (g ∷ gs) = ap (λ t. walked_group [] g ∷ t) (unpublished_groups gs)

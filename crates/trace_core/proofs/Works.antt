@@ -7,14 +7,14 @@ use Rattle.geom_core.specs.declared.NoMemory.{NoMemory}
 use Rattle.doc_model.specs.declared.canvas.Patch.{Patch}
 use Rattle.doc_model.specs.declared.job.Job.{Job}
 use Rattle.doc_model.specs.declared.job.Kind.{Kind}
-use Rattle.trace_model.specs.Next.{when, place_of}
+use Rattle.machine_model.specs.Next.{when, place_of}
 use Rattle.entry_queue.specs.declared.head.HeadStroke.{HeadStroke}
-use Rattle.trace_parts.specs.declared.slot.Slot.{Slot}
-use Rattle.trace_parts.specs.declared.slot.Slot.TheVariants.{Free, Paints, Walks}
+use Rattle.trace_state.specs.declared.slot.Slot.{Slot}
+use Rattle.trace_state.specs.declared.slot.Slot.TheVariants.{Free, Paints, Walks}
 use Rattle.entry_queue.specs.Heads.{head_in, jobs_in}
-use Rattle.trace_parts.specs.Painting.{Painting, is_painted}
-use Rattle.trace_parts.specs.Walking.{Walking, is_composed}
-use Rattle.trace_parts.specs.Slots.{published_in, composed_in, SlotFollows}
+use Rattle.trace_state.specs.Painting.{Painting, is_painted}
+use Rattle.trace_state.specs.Walking.{Walking, is_composed}
+use Rattle.trace_state.specs.Slots.{published_in, composed_in, SlotFollows}
 use Rattle.trace_core.specs.Outline.{Outline}
 use Rattle.trace_core.specs.Moves as move
 use Rattle.trace_core.specs.Moves.{Follows}

@@ -20,21 +20,21 @@ use Rattle.doc_model.specs.Updates.{refreshed}
 use Rattle.entry_queue.specs.Pushed.{pushed}
 use Rattle.update_queue.specs.Waiting.{waiting, widened_by, widened_by_all}
 use Rattle.machine_model.specs.Guards.{is_bar}
-use Rattle.trace_model.specs.Next.{when, is_clear, is_number, place_of}
-use Rattle.trace_model.specs.Replays.{first_of}
+use Rattle.machine_model.specs.Next.{when, is_clear, is_number, place_of}
+use Rattle.machine_model.specs.Replays.{first_of}
 use Rattle.entry_queue.specs.declared.head.HeadStroke.{HeadStroke}
-use Rattle.trace_parts.specs.declared.history.Reach.{Reach}
-use Rattle.trace_parts.specs.declared.history.Reach.TheVariants.{Whole, Part}
-use Rattle.trace_parts.specs.Histories.{Former, former}
-use Rattle.trace_parts.specs.declared.slot.Slot.{Slot}
-use Rattle.trace_parts.specs.declared.slot.Slot.TheVariants.{Free, Paints, Walks}
-use Rattle.trace_parts.specs.Trees.{Shape, paints, group_of, tree_path}
-use Rattle.trace_parts.specs.Tiles.{round}
+use Rattle.trace_state.specs.declared.history.Reach.{Reach}
+use Rattle.trace_state.specs.declared.history.Reach.TheVariants.{Whole, Part}
+use Rattle.trace_state.specs.Histories.{Former, former}
+use Rattle.trace_state.specs.declared.slot.Slot.{Slot}
+use Rattle.trace_state.specs.declared.slot.Slot.TheVariants.{Free, Paints, Walks}
+use Rattle.trace_state.specs.Trees.{Shape, paints, group_of, tree_path}
+use Rattle.trace_state.specs.Tiles.{round}
 use Rattle.entry_queue.specs.Heads.{head_in, jobs_in}
-use Rattle.trace_parts.specs.Waits.{other_in, is_done}
-use Rattle.trace_parts.specs.Painting.{is_painted}
-use Rattle.trace_parts.specs.Walking.{fresh, is_composed}
-use Rattle.trace_parts.specs.Slots.{is_free, is_painter, is_walker, blocks, meets_walker, published_in, composed_in}
+use Rattle.trace_state.specs.Waits.{other_in, is_done}
+use Rattle.trace_state.specs.Painting.{is_painted}
+use Rattle.trace_state.specs.Walking.{unpublished, is_composed}
+use Rattle.trace_state.specs.Slots.{is_free, is_painter, is_walker, blocks, meets_walker, published_in, composed_in}
 use Rattle.trace_core.specs.Outline.{Outline}
 
 abbrev pub no_painter : Outline → Bool
@@ -141,7 +141,7 @@ may_walk o rect = not (is_exclusive (head_in o.left) o.way) && not (list_any (me
 abbrev pub with_walker : Outline → ℕ → ℕ → Patch → Outline
 with_walker o place i patch = record o {
   updates = waiting o.updates.canvas (remove o.updates.patches i);
-  slots = slice_set o.slots place (Walks (record { patch = patch; groups = map fresh (tree_path patch.walk o.present) }));
+  slots = slice_set o.slots place (Walks (record { patch = patch; groups = map unpublished (tree_path patch.walk o.present) }));
 }
 
 abbrev pub walk_started_by : Outline → ℕ → ℕ → Option Patch → Option Slot → Option Outline

@@ -12,14 +12,14 @@ use Rattle.entry_queue.specs.Pushed.{queued}
 use Rattle.update_queue.specs.Waiting.{Waiting, waiting}
 use Rattle.machine_model.specs.State as state
 use Rattle.machine_model.specs.State.{State}
-use Rattle.trace_model.specs.Next.{groups_of}
-use Rattle.trace_parts.specs.declared.history.Reach.{Reach}
-use Rattle.trace_parts.specs.declared.history.Reach.TheVariants as reach
-use Rattle.trace_parts.specs.Histories.{Former}
-use Rattle.trace_parts.specs.declared.composed.Composed.{Composed}
-use Rattle.trace_parts.specs.declared.slot.Slot.{Slot}
-use Rattle.trace_parts.specs.declared.slot.Slot.TheVariants as slot
-use Rattle.trace_parts.specs.Trees.{Shape}
+use Rattle.machine_model.specs.Next.{groups_of}
+use Rattle.trace_state.specs.declared.history.Reach.{Reach}
+use Rattle.trace_state.specs.declared.history.Reach.TheVariants as reach
+use Rattle.trace_state.specs.Histories.{Former}
+use Rattle.trace_state.specs.declared.group.WalkedGroup.{WalkedGroup}
+use Rattle.trace_state.specs.declared.slot.Slot.{Slot}
+use Rattle.trace_state.specs.declared.slot.Slot.TheVariants as slot
+use Rattle.trace_state.specs.Trees.{Shape}
 
 -- all of a state but pixels, serials and outcomes: of what was fed the entries that are left, of a document its tree, of the tiles of a reach the rectangle round them
 pub record Outline : Type 0 where
@@ -51,13 +51,13 @@ tiles_of g [] = []
 tiles_of g (e ∷ es) = if e.0 == g then e.1 ∷ tiles_of g es else tiles_of g es
 
 -- a group of a walk, with its tiles that are published
-abbrev pub composed_of : List (ℕ × Key) → ℕ → Composed
-composed_of published g = record { group = g; published = set.from_list (tiles_of g published) }
+abbrev pub walked_group : List (ℕ × Key) → ℕ → WalkedGroup
+walked_group published g = record { group = g; published = set.from_list (tiles_of g published) }
 
 abbrev pub slot_of : state.Slot → Slot
 slot_of state.Free = slot.Free
 slot_of (state.Paints w) = slot.Paints (record { index = w.index; job = w.job; published = set.from_list w.published })
-slot_of (state.Walks w) = slot.Walks (record { patch = w.patch; groups = map (composed_of w.published) (groups_of w) })
+slot_of (state.Walks w) = slot.Walks (record { patch = w.patch; groups = map (walked_group w.published) (groups_of w) })
 
 abbrev pub outline : State → Outline
 outline s = record {

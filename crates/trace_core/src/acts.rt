@@ -3,13 +3,13 @@
 ghost use Rattle.std.specs.Prelude.{◌≡◌, ◌||◌, ◌&&◌, not, OnOk, take};
 ghost use Rattle.doc_model.specs.Changes.{changed};
 ghost use Rattle.trace_core.specs.Parts.{parts};
-ghost use Rattle.trace_parts.specs.Waits.{other_in};
+ghost use Rattle.trace_state.specs.Waits.{other_in};
 ghost use Rattle.trace_core.specs.Moves.{Follows, may_act, reached, after_change, after_undo, after_redo, after_command, acted, stepped};
 
 use crate::machine::OutlinedMachine;
 use doc_model::{Change, Command};
 use geom_core::NoMemory;
-use trace_parts::Reach;
+use trace_state::Reach;
 use update_queue::widen;
 
 impl OutlinedMachine {

@@ -21,7 +21,7 @@ impl OutlinedMachine {
         ensures { Follows result (happens (parts self.old) line.now) (parts self.old) (parts self.new) }
     {
         match line {
-            Line::Feed(command) => self.feed(command),
+            Line::Feed(command) => self.intake.feed(command),
             Line::Outside => Ok(false),
             Line::Step => self.step(),
             Line::Start(place) => Ok(self.start(*place)),

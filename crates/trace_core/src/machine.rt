@@ -1,20 +1,16 @@
 //! The machine without pixels.
 
-ghost use Rattle.std.specs.Prelude.{◌≡◌, IfOk, OnOk, Ok, length, map, replicate, slice_get, true, false, ◌&&◌, not, nat_lt, Some, None};
-ghost use Rattle.std.specs.List.{list_any, list_all};
+ghost use Rattle.std.specs.Prelude.{◌≡◌, IfOk, replicate, slice_get, ◌&&◌, Some, IsTrue, ◌↔◌};
 ghost use Rattle.doc_model.specs.Canvases.{IsOfLimits};
-ghost use Rattle.doc_model.specs.Picture.{canvas_area};
-ghost use Rattle.script_forms.specs.Ranges.{in_range};
 ghost use Rattle.machine_model.specs.State.{new_state};
 ghost use Rattle.trace_core.specs.Outline.{outline};
 ghost use Rattle.trace_core.specs.Parts.{parts};
-ghost use Rattle.trace_parts.specs.Slots.{is_free as slot_is_free, is_painter, is_walker};
-ghost use Rattle.trace_core.specs.Moves.{Follows, fed, no_painter, no_walker, is_clean, is_settled};
+ghost use Rattle.trace_core.specs.Moves.{no_painter, no_walker, is_clean, is_settled};
 
-use doc_model::{Canvas, Command};
+use doc_model::Canvas;
 use geom_core::{NoMemory, Rect};
 use std::alloc::Global;
-use trace_parts::{History, Intake, Slot, all_free, some_painter, some_walker};
+use trace_state::{History, Intake, Slot, all_free, some_painter, some_walker};
 use update_queue::Updates;
 
 /// All of the machine's state but pixels, serials and outcomes.
@@ -61,27 +57,11 @@ impl OutlinedMachine {
         })
     }
 
-    /// A command is fed.
-    pub(crate) fn feed(&mut self, command: &Command) -> Result<bool, NoMemory>
-        requires { in_range command.now ≡ true }
-        ensures { Follows result (fed (parts self.old) command.now) (parts self.old) (parts self.new) }
-    {
-        self.intake.feed(command)
-    }
-
     /// Whether every entry has its outcome, and nothing runs or waits.
     pub(crate) fn is_settled(&self) -> bool
         ensures { result ≡ is_settled (parts self.now) }
     {
         self.intake.is_done() && (all_free(&self.slots) && self.is_clean())
-    }
-
-    /// The commands that were fed.
-    pub(crate) fn commands(&self) -> &[Command]
-        ensures commands { result.now ≡ self.now.intake.fed }
-        ensures ranges { list_all in_range self.now.intake.fed ≡ true }
-    {
-        self.intake.commands()
     }
 
     /// Whether no job is at work.
@@ -107,8 +87,7 @@ impl OutlinedMachine {
 
     /// Whether that slot is there and free.
     pub(crate) fn is_free(&self, place: u8) -> bool
-        ensures yes { result ≡ true → slice_get self.now.slots.items place ≡ Some Slot.Free }
-        ensures no { result ≡ false → slice_get self.now.slots.items place ≡ Some Slot.Free → ⊥ }
+        ensures { IsTrue result ↔ (slice_get self.now.slots.items place ≡ Some Slot.Free) }
     {
         match self.slots.get(place as usize) {
             Some(Slot::Free) => true,

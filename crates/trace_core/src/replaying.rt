@@ -113,7 +113,7 @@ fn script_of(
     ensures ok { IfOk result (λ r. r ≡ contents canvas machine.now.intake.fed) }
     ensures err { IfErr result (λ e. e ≡ refusal.NoMemory) }
 {
-    let commands = Vec::from_slice(alloc, machine.commands())?;
+    let commands = Vec::from_slice(alloc, machine.intake.commands())?;
     match Script::from_commands(alloc, canvas, commands) {
         Ok(script) => Ok(Replayed { script }),
         Err(MakeRefusal::NoMemory) => Err(ReplayRefusal::NoMemory),

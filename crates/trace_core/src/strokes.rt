@@ -6,8 +6,8 @@ ghost use Rattle.entry_queue.specs.Pushed.{may_leave};
 ghost use Rattle.trace_core.specs.Parts.{parts};
 ghost use Rattle.entry_queue.specs.Heads.{head_in, jobs_in};
 ghost use Rattle.entry_queue.specs.declared.head.HeadStroke.{HeadStroke};
-ghost use Rattle.trace_parts.specs.Trees.{group_of};
-ghost use Rattle.trace_parts.specs.Tiles.{round};
+ghost use Rattle.trace_state.specs.Trees.{group_of};
+ghost use Rattle.trace_state.specs.Tiles.{round};
 ghost use Rattle.trace_core.specs.Moves.{Follows, may_begin, begun, may_finish, has_ended, with_change, finished, may_cancel, started_of, without_change, cancelled, popped};
 
 use crate::machine::OutlinedMachine;
@@ -15,7 +15,7 @@ use crate::work::is_alive;
 use doc_model::{Job, Kind};
 use entry_queue::HeadStroke;
 use geom_core::NoMemory;
-use trace_parts::{Reach, round};
+use trace_state::{Reach, round};
 use update_queue::widen;
 
 /// Of these jobs the first so many.

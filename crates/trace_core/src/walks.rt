@@ -2,7 +2,7 @@
 
 ghost use Rattle.std.specs.Prelude.{◌≡◌, ◌<◌, length, IfSome, IfNone};
 ghost use Rattle.geom_core.specs.Keys.{IsWorldKey};
-ghost use Rattle.trace_model.specs.Next.{same_area, same_patch, place_of};
+ghost use Rattle.machine_model.specs.Next.{same_area, same_patch, place_of};
 ghost use Rattle.trace_core.specs.Parts.{parts};
 ghost use Rattle.trace_core.specs.Moves.{Follows, is_exclusive, may_walk, walk_started, composed};
 ghost use Rattle.entry_queue.specs.Heads.{head_in};
@@ -10,7 +10,7 @@ ghost use Rattle.entry_queue.specs.Heads.{head_in};
 use crate::machine::OutlinedMachine;
 use doc_model::Patch;
 use geom_core::{NoMemory, Rect, TileKey};
-use trace_parts::{OutlinedWalk, Slot, fill, some_meets};
+use trace_state::{OutlinedWalk, Slot, fill, some_meets};
 use update_queue::Updates;
 
 /// Whether the rectangles are one.

@@ -9,7 +9,7 @@ use crate::machine::OutlinedMachine;
 use doc_model::Kind;
 use entry_queue::{HeadStroke, is_bar};
 use geom_core::{NoMemory, TileKey};
-use trace_parts::{OutlinedJob, Slot, fill, some_blocks};
+use trace_state::{OutlinedJob, Slot, fill, some_blocks};
 use update_queue::widen_all;
 
 /// Whether a stroke is neither cancelled nor refused.

@@ -18,7 +18,7 @@ use Rattle.script_text.proofs.PrintedLines.{line_first}
 use Rattle.script_text.proofs.PrintedWords.{natural_field, from_one_back}
 use Rattle.script_text.proofs.PrintedCommands.{canvas_back, canvas_plain}
 use Rattle.machine_model.specs.State.{State, new_state}
-use Rattle.trace_model.specs.Replays.{is_settled}
+use Rattle.machine_model.specs.Replays.{is_settled}
 use Rattle.trace_lines.specs.declared.line.Line.{Line}
 use Rattle.trace_lines.specs.Forms.{slots, canvas_line}
 use Rattle.trace_lines.specs.Replay.{happens, follow, replayed, replay, lines_in, without_feed, slots_in, slots_by}

@@ -15,9 +15,9 @@ use Rattle.machine_model.specs.Sound.{IsOrderly}
 use Rattle.machine_model.proofs.RunsOrderly.{runs_are_orderly, runs_have_meaning}
 use Rattle.machine_model.proofs.Continuing.{runs_continue}
 use Rattle.machine_model.proofs.Lists.{take_all}
-use Rattle.trace_model.specs.Replays.{is_settled}
-use Rattle.trace_model.proofs.GivenSteps.{gives_step}
-use Rattle.trace_model.proofs.Turns.{turns_are_steps, settled_tells}
+use Rattle.machine_model.specs.Replays.{is_settled}
+use Rattle.machine_model.proofs.GivenSteps.{gives_step}
+use Rattle.machine_model.proofs.Turns.{turns_are_steps, settled_tells}
 use Rattle.trace_lines.specs.declared.line.Line.{Line}
 use Rattle.trace_lines.specs.declared.line.Line.TheVariants as line
 use Rattle.trace_lines.specs.declared.line.TraceFault.{TraceFault}

@@ -4,7 +4,7 @@ use Rattle.std.specs.List.{list_all}
 use Rattle.doc_model.specs.declared.canvas.Canvas.{Canvas}
 use Rattle.machine_model.specs.State.{State, new_state}
 use Rattle.script_forms.specs.Ranges.{in_limits}
-use Rattle.trace_model.specs.Replays.{is_settled}
+use Rattle.machine_model.specs.Replays.{is_settled}
 use Rattle.trace_lines.specs.declared.line.Line.{Line}
 use Rattle.trace_lines.specs.Replay.{replay, slots_in}
 use Rattle.trace_lines.specs.Texts.{trace_lines}

@@ -7,8 +7,8 @@ use Rattle.script_forms.specs.Jobs.{Fields}
 use Rattle.script_text.specs.Script.{Contents, contents}
 use Rattle.machine_model.specs.State.{State, new_state}
 use Rattle.machine_model.specs.Event as event
-use Rattle.trace_model.specs.Next.{next}
-use Rattle.trace_model.specs.Replays.{stepped, work_ended, is_settled}
+use Rattle.machine_model.specs.Next.{next}
+use Rattle.machine_model.specs.Replays.{stepped, work_ended, is_settled}
 use Rattle.trace_lines.specs.declared.line.Line.{Line}
 use Rattle.trace_lines.specs.declared.line.Line.TheVariants.{Feed, Outside, Step, Start, Publish, End, Walk, Put}
 use Rattle.trace_lines.specs.declared.line.TraceCause.{TraceCause}

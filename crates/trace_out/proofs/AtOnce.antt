@@ -16,9 +16,9 @@ use Rattle.machine_model.specs.MeaningLaws.{is_feed}
 use Rattle.machine_model.specs.Guards.{is_paint}
 use Rattle.machine_model.specs.Effects.{with_outcome, moved_to, after_change, after_undo, after_redo, after_entry, after_finish}
 use Rattle.slot_core.specs.declared.Busy.{Busy}
-use Rattle.desk_parts.specs.declared.work.Work.{Work}
-use Rattle.desk_parts.specs.Choices.{is_done_at_once, DoesAtOnce}
-use Rattle.desk_parts.specs.Enabled.{ends, IsEnd}
+use Rattle.desk_state.specs.declared.work.Work.{Work}
+use Rattle.desk_state.specs.Choices.{is_done_at_once, DoesAtOnce}
+use Rattle.desk_state.specs.Enabled.{ends, IsEnd}
 use Rattle.trace_lines.specs.declared.line.Line.{Line}
 use Rattle.trace_lines.specs.declared.line.Line.TheVariants as told
 use Rattle.trace_lines.specs.Texts.{line_text}

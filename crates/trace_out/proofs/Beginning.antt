@@ -6,9 +6,9 @@ use Rattle.doc_model.specs.declared.canvas.Canvas.{Canvas}
 use Rattle.doc_model.specs.Canvases.{IsOfLimits}
 use Rattle.machine_model.specs.State.{State, Slot, Free, new_state}
 use Rattle.slot_core.specs.declared.Busy.{Busy}
-use Rattle.desk_parts.specs.declared.work.Work.{Work}
-use Rattle.desk_parts.specs.Parts.{slot_of}
-use Rattle.desk_parts.specs.Tied.{IsKept}
+use Rattle.desk_state.specs.declared.work.Work.{Work}
+use Rattle.desk_state.specs.Parts.{slot_of}
+use Rattle.desk_state.specs.Tied.{IsKept}
 use Rattle.trace_out.specs.Writing.{IsTied}
 
 new_slots : (canvas : Canvas) (n : ℕ) → map slot_of (replicate n None) ≡ (new_state canvas n).slots

@@ -7,9 +7,9 @@ use Rattle.geom_core.specs.Areas.{Area}
 use Rattle.machine_model.specs.State.{State, Slot, Free, is_free}
 use Rattle.slot_core.specs.declared.Busy.{Busy}
 use Rattle.slot_core.specs.Busy.{work_at, work_in}
-use Rattle.desk_parts.specs.declared.work.Work.{Work}
-use Rattle.desk_parts.specs.declared.work.Work.TheVariants.{Paint, Walk}
-use Rattle.desk_parts.specs.Parts.{slot_of}
+use Rattle.desk_state.specs.declared.work.Work.{Work}
+use Rattle.desk_state.specs.declared.work.Work.TheVariants.{Paint, Walk}
+use Rattle.desk_state.specs.Parts.{slot_of}
 use Rattle.trace_out.specs.Writing.{IsTied}
 
 busy_slot : (b : Busy Work) → is_free (slot_of (Some b)) ≡ false

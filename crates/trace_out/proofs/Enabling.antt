@@ -24,20 +24,18 @@ use Rattle.walker_core.specs.Composing.{Composition, has_pair}
 use Rattle.walker_core.specs.Sameness.{groups_at}
 use Rattle.whole_tiles.proofs.Seen.{own_seen}
 use Rattle.slot_core.specs.declared.Busy.{Busy}
-use Rattle.desk_parts.specs.declared.work.Painter.{Painter}
-use Rattle.desk_parts.specs.declared.work.Walker.{Walker}
-use Rattle.desk_parts.specs.declared.work.Work.{Work}
-use Rattle.desk_parts.specs.Parts.{slot_of, painter_of, walker_of}
-use Rattle.desk_parts.specs.Tied.{IsKept}
-use Rattle.desk_parts.specs.After.{busy_painter, busy_walker}
-use Rattle.desk_parts.specs.Enabled.{Takes, TakesWalk, MayEnd}
-use Rattle.trace_model.proofs.Found.{keys_pass, groups_pass}
+use Rattle.desk_state.specs.declared.work.Painter.{Painter}
+use Rattle.desk_state.specs.declared.work.Walker.{Walker}
+use Rattle.desk_state.specs.declared.work.Work.{Work}
+use Rattle.desk_state.specs.Parts.{slot_of, painter_of, walker_of}
+use Rattle.desk_state.specs.Tied.{IsKept}
+use Rattle.desk_state.specs.After.{busy_painter, busy_walker}
+use Rattle.desk_state.specs.Enabled.{Takes, TakesWalk, MayEnd}
+use Rattle.machine_model.proofs.Found.{keys_pass, groups_pass}
 use Rattle.trace_out.specs.Writing.{IsTied}
 use Rattle.trace_out.specs.Lent.{IsLent, LacksTile, LacksPair}
 use Rattle.trace_out.proofs.Ties.{lent_runs}
-
-itself : (p : ℕ) → eqb p p ≡ true
-itself p = grind (arith, nat_tests)
+use Rattle.geom_core.proofs.Tests.{equal_test}
 
 same_painter : (a b : state.Painter) → Some (Paints a) ≡ Some (Paints b) → a ≡ b
 same_painter a b e = cc
@@ -58,7 +56,7 @@ job_may_end s place w orderly h all =
       here = h;
       drawn = refl;
       event = event.End place;
-      is_end = itself place;
+      is_end = equal_test place;
       enabled = (_, record { painter = w; runs = h; all = λ key k. keys_pass (λ q. list_any (same_key q) w.published) (all_keys_of (writes w.job)) key all k; stroke = u.2.stroke; at_head = u.2.at_head; new_is = refl });
     }
 
@@ -69,7 +67,7 @@ walk_may_end s place w h all = record {
   here = h;
   drawn = refl;
   event = event.WalkEnd place;
-  is_end = itself place;
+  is_end = equal_test place;
   enabled = (_, record { walker = w; runs = h; all = λ g key i k. groups_pass (λ q. list_any (same_pair q key) w.published) groups g (keys_pass (λ q. list_all (λ o. list_any (same_pair o q) w.published) groups) (keys_of w.patch.rect) key all k) i; new_is = refl });
 }
   where

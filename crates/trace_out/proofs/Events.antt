@@ -11,9 +11,9 @@ use Rattle.machine_model.specs.Event.{Event}
 use Rattle.machine_model.specs.Step.{Step, Run}
 use Rattle.machine_model.specs.SoundnessLaws.{IsReached}
 use Rattle.machine_model.proofs.Continuing.{runs_continue}
-use Rattle.desk_parts.proofs.SettlingRuns.{run_then}
-use Rattle.trace_model.proofs.GivenSteps.{steps_are_next}
-use Rattle.trace_model.proofs.Turns.{turns_are_steps}
+use Rattle.desk_state.proofs.SettlingRuns.{run_then}
+use Rattle.machine_model.proofs.GivenSteps.{steps_are_next}
+use Rattle.machine_model.proofs.Turns.{turns_are_steps}
 use Rattle.trace_lines.specs.declared.line.Line.{Line}
 use Rattle.trace_lines.specs.declared.line.Line.TheVariants as told
 use Rattle.trace_lines.specs.Replay.{happens}

@@ -17,10 +17,10 @@ use Rattle.doc_model.specs.Lawful.{may_follow}
 use Rattle.script_forms.specs.Ranges.{is_sound}
 use Rattle.script_lines.proofs.FieldLemmas.{both, first, second}
 use Rattle.slot_core.specs.declared.Busy.{Busy}
-use Rattle.desk_parts.specs.declared.work.Work.{Work}
-use Rattle.desk_parts.specs.Choices.{is_done_at_once}
-use Rattle.desk_parts.specs.Settles.{Settles, GoesOn}
-use Rattle.desk_parts.proofs.SettlingRuns.{goes_on, goes_less, run_then, settles_none, settles_then}
+use Rattle.desk_state.specs.declared.work.Work.{Work}
+use Rattle.desk_state.specs.Choices.{is_done_at_once}
+use Rattle.desk_state.specs.Settles.{Settles, GoesOn}
+use Rattle.desk_state.proofs.SettlingRuns.{goes_on, goes_less, run_then, settles_none, settles_then}
 use Rattle.trace_lines.specs.declared.line.Line.TheVariants as told
 use Rattle.trace_lines.specs.Texts.{line_text}
 use Rattle.trace_lines.specs.Ranges.{line_in_range}

@@ -6,9 +6,9 @@ use Rattle.doc_model.specs.Strokes.{entries}
 use Rattle.machine_model.specs.State.{State}
 use Rattle.machine_model.specs.Settled.{IsSettled}
 use Rattle.machine_model.specs.Sound.{IsOrderly}
-use Rattle.desk_parts.proofs.SettlingRuns.{never_idle}
-use Rattle.trace_model.specs.Replays.{is_settled}
-use Rattle.trace_model.proofs.Turns.{settled_tells}
+use Rattle.desk_state.proofs.SettlingRuns.{never_idle}
+use Rattle.machine_model.specs.Replays.{is_settled}
+use Rattle.machine_model.proofs.Turns.{settled_tells}
 use Rattle.trace_out.specs.Goes.{MayRest}
 
 pub rests_settled : (s : State) → IsOrderly s → list_all is_closed_entry (entries s.fed) ≡ true → MayRest s → IsSettled s

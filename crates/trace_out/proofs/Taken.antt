@@ -8,13 +8,13 @@ use Rattle.machine_model.specs.Step.{Step}
 use Rattle.machine_model.proofs.Lists.{get_set}
 use Rattle.job_core.specs.Paints.{layer_of}
 use Rattle.slot_core.specs.declared.Busy.{Busy}
-use Rattle.desk_parts.specs.declared.work.Work.{Work}
-use Rattle.desk_parts.specs.Parts.{slot_of, painter_of}
-use Rattle.desk_parts.specs.After.{busy_painter, busy_walker}
-use Rattle.desk_parts.proofs.Places.{free_as}
-use Rattle.desk_machine.specs.declared.tickets.PaintTicket.{PaintTicket}
-use Rattle.desk_machine.specs.declared.tickets.WalkTicket.{WalkTicket}
-use Rattle.desk_machine.specs.Tickets.{IsPaintTicket, IsWalkTicket}
+use Rattle.desk_state.specs.declared.work.Work.{Work}
+use Rattle.desk_state.specs.Parts.{slot_of, painter_of}
+use Rattle.desk_state.specs.After.{busy_painter, busy_walker}
+use Rattle.desk_state.proofs.Places.{free_as}
+use Rattle.desk_events.specs.declared.tickets.PaintTicket.{PaintTicket}
+use Rattle.desk_events.specs.declared.tickets.WalkTicket.{WalkTicket}
+use Rattle.desk_events.specs.Tickets.{IsPaintTicket, IsWalkTicket}
 use Rattle.trace_out.specs.Writing.{IsTied}
 use Rattle.trace_out.specs.Lent.{IsLent, taken_job, taken_walk}
 use Rattle.trace_out.proofs.Ties.{tied_set}

@@ -8,11 +8,11 @@ use Rattle.machine_model.specs.Event.{Event}
 use Rattle.machine_model.specs.Step.{Step}
 use Rattle.machine_model.proofs.Lists.{all_set, get_set}
 use Rattle.slot_core.specs.declared.Busy.{Busy}
-use Rattle.desk_parts.specs.declared.work.Work.{Work}
-use Rattle.desk_parts.specs.Parts.{slot_of}
-use Rattle.desk_parts.specs.Tied.{IsKept}
-use Rattle.desk_parts.proofs.Keeping.{map_set}
-use Rattle.desk_parts.proofs.Places.{set_twice, set_same}
+use Rattle.desk_state.specs.declared.work.Work.{Work}
+use Rattle.desk_state.specs.Parts.{slot_of}
+use Rattle.desk_state.specs.Tied.{IsKept}
+use Rattle.desk_state.proofs.Keeping.{map_set}
+use Rattle.desk_state.proofs.Places.{set_twice, set_same}
 use Rattle.trace_out.specs.Writing.{IsTied}
 use Rattle.trace_out.specs.Lent.{IsLent}
 use Rattle.trace_out.proofs.Events.{reached_more}

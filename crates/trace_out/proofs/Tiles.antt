@@ -10,11 +10,11 @@ use Rattle.machine_model.specs.Event as event
 use Rattle.machine_model.specs.Step.{Step}
 use Rattle.walker_core.specs.Composing.{Composition}
 use Rattle.slot_core.specs.declared.Busy.{Busy}
-use Rattle.desk_parts.specs.declared.work.Painter.{Painter}
-use Rattle.desk_parts.specs.declared.work.Walker.{Walker}
-use Rattle.desk_parts.specs.declared.work.Work.{Work}
-use Rattle.desk_parts.specs.After.{busy_painter, busy_walker}
-use Rattle.desk_machine.specs.declared.tickets.SlotId.{SlotId}
+use Rattle.desk_state.specs.declared.work.Painter.{Painter}
+use Rattle.desk_state.specs.declared.work.Walker.{Walker}
+use Rattle.desk_state.specs.declared.work.Work.{Work}
+use Rattle.desk_state.specs.After.{busy_painter, busy_walker}
+use Rattle.desk_events.specs.declared.tickets.SlotId.{SlotId}
 use Rattle.trace_lines.specs.declared.line.Line.TheVariants as told
 use Rattle.trace_lines.specs.Texts.{line_text}
 use Rattle.trace_lines.specs.Ranges.{is_group_number, is_key, is_place}

@@ -13,7 +13,7 @@ use Rattle.script_text.specs.Closed.{is_script, all_closed}
 use Rattle.doc_model.specs.Feeding.{lawful}
 use Rattle.machine_model.specs.State.{State, new_state}
 use Rattle.machine_model.specs.Settled.{IsSettled}
-use Rattle.trace_model.proofs.Turns.{settled_tells}
+use Rattle.machine_model.proofs.Turns.{settled_tells}
 use Rattle.trace_lines.specs.Replay.{replay, slots_in}
 use Rattle.trace_lines.specs.Texts.{head_text, line_text, trace_lines}
 use Rattle.trace_lines.specs.PrintLaws.{IsSettlingText}

@@ -3,8 +3,8 @@ use Rattle.std.specs.Prelude.{◌≡◌, ℕ, true, List}
 use Rattle.std.specs.List.{list_all}
 use Rattle.machine_model.specs.State.{State, is_free}
 use Rattle.machine_model.specs.Settled.{IsSettled}
-use Rattle.desk_parts.specs.Choices.{IsIdle}
-use Rattle.desk_parts.specs.Settles.{Settles, GoesOn}
+use Rattle.desk_state.specs.Choices.{IsIdle}
+use Rattle.desk_state.specs.Settles.{Settles, GoesOn}
 use Rattle.trace_out.specs.declared.scribe.Scribe.{Scribe}
 use Rattle.trace_out.specs.Writing.{IsTied, Writes}
 

@@ -9,15 +9,15 @@ use Rattle.machine_model.specs.Groups.{on}
 use Rattle.machine_model.specs.Guards.{same_pair}
 use Rattle.slot_core.specs.declared.Busy.{Busy}
 use Rattle.walker_core.specs.Readings.{path_in}
-use Rattle.desk_parts.specs.declared.work.Painter.{Painter}
-use Rattle.desk_parts.specs.declared.work.Walker.{Walker}
-use Rattle.desk_parts.specs.declared.work.Work.{Work}
-use Rattle.desk_parts.specs.Enabled.{MayEnd}
-use Rattle.desk_parts.specs.After.{busy_walker}
+use Rattle.desk_state.specs.declared.work.Painter.{Painter}
+use Rattle.desk_state.specs.declared.work.Walker.{Walker}
+use Rattle.desk_state.specs.declared.work.Work.{Work}
+use Rattle.desk_state.specs.Enabled.{MayEnd}
+use Rattle.desk_state.specs.After.{busy_walker}
 use Rattle.walker_core.specs.Composing.{Composition}
-use Rattle.desk_machine.specs.declared.tickets.SlotId.{SlotId}
-use Rattle.desk_machine.specs.declared.tickets.PaintTicket.{PaintTicket}
-use Rattle.desk_machine.specs.declared.tickets.WalkTicket.{WalkTicket}
+use Rattle.desk_events.specs.declared.tickets.SlotId.{SlotId}
+use Rattle.desk_events.specs.declared.tickets.PaintTicket.{PaintTicket}
+use Rattle.desk_events.specs.declared.tickets.WalkTicket.{WalkTicket}
 use Rattle.trace_out.specs.Writing.{IsTied}
 
 -- with the work in its place what is held is what is at work; the place is empty

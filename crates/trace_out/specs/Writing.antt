@@ -5,9 +5,9 @@ use Rattle.machine_model.specs.State.{State}
 use Rattle.machine_model.specs.Event.{Event}
 use Rattle.machine_model.specs.SoundnessLaws.{IsReached}
 use Rattle.slot_core.specs.declared.Busy.{Busy}
-use Rattle.desk_parts.specs.declared.work.Work.{Work}
-use Rattle.desk_parts.specs.Parts.{slot_of}
-use Rattle.desk_parts.specs.Tied.{IsKept}
+use Rattle.desk_state.specs.declared.work.Work.{Work}
+use Rattle.desk_state.specs.Parts.{slot_of}
+use Rattle.desk_state.specs.Tied.{IsKept}
 use Rattle.trace_lines.specs.declared.line.Line.{Line}
 use Rattle.trace_lines.specs.Texts.{line_text}
 use Rattle.trace_lines.specs.Ranges.{line_in_range}

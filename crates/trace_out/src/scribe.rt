@@ -11,7 +11,7 @@ ghost use Rattle.trace_lines.specs.Texts.{head_text};
 ghost use Rattle.trace_out.specs.Writing.{IsTied, Writes};
 
 use desk_core::Desk;
-use desk_parts::Work;
+use desk_state::Work;
 use doc_model::{Canvas, Command};
 use geom_core::NoMemory;
 use slot_core::Slots;

@@ -3,8 +3,8 @@
 ghost use Rattle.std.specs.Prelude.{◌≡◌, ◌≤◌, ◌++◌, true, OnOk, Ok};
 ghost use Rattle.geom_core.specs.Areas.{lies_in, world};
 ghost use Rattle.machine_model.specs.Settled.{IsSettled};
-ghost use Rattle.desk_parts.specs.Choices.{IsIdle};
-ghost use Rattle.desk_parts.specs.After.{busy_painter, busy_walker};
+ghost use Rattle.desk_state.specs.Choices.{IsIdle};
+ghost use Rattle.desk_state.specs.After.{busy_painter, busy_walker};
 ghost use Rattle.trace_lines.specs.declared.line.Line.TheVariants.{Start as StartLine, Walk as WalkLine};
 ghost use Rattle.trace_lines.specs.Texts.{line_text};
 ghost use Rattle.trace_lines.specs.Ranges.{line_in_range, patch_in_range, walk_in_range, is_place};
@@ -15,7 +15,7 @@ ghost use Rattle.trace_out.specs.Goes.{GoesOnWriting};
 
 use crate::scribe::Scribe;
 use desk_core::{PaintTicket, Taken, WalkTicket};
-use desk_parts::{Newest, Painter, Walker, Work};
+use desk_state::{Newest, Painter, Walker, Work};
 use doc_model::{Patch, Walk};
 use geom_core::NoMemory;
 use memento_core::Steps;

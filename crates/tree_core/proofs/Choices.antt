@@ -7,23 +7,12 @@ use Rattle.doc_model.specs.Ids.{IsTree}
 use Rattle.doc_model.specs.declared.tree.TreeFault.TheVariants.{NoNode}
 use Rattle.doc_model.proofs.Weights.{tree_root}
 use Rattle.tree_core.specs.Nodes.{Tree}
+use Rattle.geom_core.proofs.Tests.{equal_test, same_choice}
+use Rattle.std.proofs.lemmas.Bool.{not-false}
 
 -- a test for equality, turned round
 pub turned : (a b : ℕ) → eqb a b ≡ eqb b a
 turned a b = grind (arith, nat_tests)
-
--- a number is itself
-pub same : (d : ℕ) → eqb d d ≡ true
-same d = grind (arith, nat_tests)
-
--- equal branches
-pub same_choice : {B : Type 0} (b : Bool) {x x' y y' : B} → x ≡ x' → y ≡ y' → cond b x y ≡ cond b x' y'
-same_choice b e h i = cond b (e i) (h i)
-
--- what doesn't fail holds
-pub not_not : (b : Bool) → not b ≡ false → b ≡ true
-not_not true e = refl
-not_not false e = cc
 
 -- where the node is there, the change is made
 pub ok_answer : (q : ℕ) (t new : Tree) → (not (has q t) || eqb q 0) ≡ false → answer (no_node q t) new ≡ Ok new

@@ -11,6 +11,7 @@ use Rattle.doc_model.specs.Children.{look_in}
 use Rattle.tree_core.proofs.Choices.{turned, none_only}
 use Rattle.tree_core.proofs.Kept.{Rows}
 use Rattle.tree_core.proofs.Passes.{first_with}
+use Rattle.geom_core.proofs.Tests.{and-true, and-false}
 
 -- whether a row has the id q
 abbrev pub any_row : ℕ → Rows → Bool
@@ -47,16 +48,6 @@ is_none' (Some x) = false
 -- whether a group's row has the id q
 abbrev group_row : ℕ → Rows → Bool
 group_row q rows = list_any (λ r. eqb q r.id && is_none' r.content) rows
-
--- a test beside one that holds
-and-true : (b : Bool) → (b && true) ≡ b
-and-true true = refl
-and-true false = refl
-
--- a test beside one that fails
-and-false : (b : Bool) → (b && false) ≡ false
-and-false true = refl
-and-false false = refl
 
 -- as the tree has
 group_flat : (q d : ℕ) (f : Tree) → group_row q (flat d f) ≡ is_group q f

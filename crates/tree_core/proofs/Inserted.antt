@@ -12,9 +12,9 @@ use Rattle.doc_model.proofs.TreeChanges.{tree_changed, new_may}
 use Rattle.doc_model.proofs.Heights.{height_changed}
 use Rattle.tree_core.specs.declared.node.Node.{Node}
 use Rattle.tree_core.specs.Nodes.{Tree, row_of, content_of, tree_of, at_place, IsKept}
-use Rattle.tree_core.proofs.Choices.{not_not}
 use Rattle.tree_core.proofs.Kept.{tree_from, kept_from, count_is}
 use Rattle.tree_core.proofs.Spots.{set_rows}
+use Rattle.std.proofs.lemmas.Bool.{not-false}
 
 -- the rows of nodes with one set in
 insert_rows : (nodes : List Node) (i : ℕ) (x : Node) → map row_of (insert nodes i x) ≡ take i (map row_of nodes) ++ (row_of x ∷ drop i (map row_of nodes))
@@ -49,7 +49,7 @@ new_flat : (id q place : ℕ) (paints : Bool) (nodes items : List Node) → IsKe
 new_flat id q place paints nodes items k ok e =
     ap (map row_of) e ∙ insert_rows nodes (at_place q place nodes) (new_row (depth q (tree_of nodes)) id paints)
     ∙ ap (λ rs. take (at_place q place nodes) (map row_of nodes) ++ (rs ++ drop (at_place q place nodes) (map row_of nodes))) (one_row (depth q (tree_of nodes)) id paints)
-    ∙ set_rows q place (new_tree paints id) nodes k (not_not _ (new_may id q place (tree_of nodes) ok).2)
+    ∙ set_rows q place (new_tree paints id) nodes k (not-false _ (new_may id q place (tree_of nodes) ok).2)
 
 -- so the nodes stand for that tree
 pub new_kept : (id q place : ℕ) (paints : Bool) (nodes items : List Node) (t : Tree) (i : ℕ) (x : Node) → IsKept nodes → tree_of nodes ≡ t → no_new id q place t ≡ None → i ≡ at_place q place nodes → x ≡ new_row (depth q t) id paints → items ≡ insert nodes i x

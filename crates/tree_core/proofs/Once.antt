@@ -1,7 +1,7 @@
 -- No id stands twice among the nodes of a tree.
 use Rattle.std.proofs.Common.{◌≡◌, ◌≢◌, ℕ, suc, ◌+◌, ◌-◌, ◌<◌, ◌≤◌, Bool, true, false, ◌&&◌, ◌||◌, not, cond, Some, None, is_some, List, [], ◌∷◌, ◌++◌, map, length, get_or, take, drop, refl, sym, ap, ◌∙◌, arith, eqb, subst, take-append-drop}
 use Rattle.std.proofs.lemmas.Bool.Decides.{nat_tests}
-use Rattle.geom_core.proofs.Tests.{taken, kept}
+use Rattle.geom_core.proofs.Tests.{taken, kept, or-false}
 use Rattle.doc_model.specs.Forest.{none, paint, group, is_group, depth}
 use Rattle.doc_model.specs.Flat.{flat}
 use Rattle.doc_model.specs.Changes.{takes}
@@ -56,11 +56,6 @@ no_group q (n ∷ ns) h = go (eqb n.id q) h (λ e. no_group q ns e)
     go true h r = absurd (omega arith)
     go false h r = r (omega arith)
 
--- a test beside one that fails
-or_false : (b : Bool) → (b || false) ≡ b
-or_false true = refl
-or_false false = refl
-
 -- what was found
 same_node : (m n : Node) → Some m ≡ Some n → m ≡ n
 same_node m n e = cc
@@ -71,7 +66,7 @@ lone_group q [] n h e = absurd (cc)
 lone_group q (m ∷ ms) n h e = go (eqb m.id q) h e (λ i f. lone_group q ms n i f)
   where
     go : (b : Bool) → cond b 1 0 + times_in q ms ≤ 1 → cond b (Some m) (first_with q ms) ≡ Some n → (times_in q ms ≤ 1 → first_with q ms ≡ Some n → group_with q ms ≡ not n.paints) → ((b && not m.paints) || group_with q ms) ≡ not n.paints
-    go true h e r = ap (λ x. not m.paints || x) (no_group q ms (omega arith)) ∙ or_false (not m.paints) ∙ ap (λ (x : Node). not x.paints) (same_node m n e)
+    go true h e r = ap (λ x. not m.paints || x) (no_group q ms (omega arith)) ∙ or-false (not m.paints) ∙ ap (λ (x : Node). not x.paints) (same_node m n e)
     go false h e r = r (omega arith) e
 
 -- a test that fails

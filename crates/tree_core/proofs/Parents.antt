@@ -1,13 +1,13 @@
 -- The group round a node.
 use Rattle.std.proofs.Common.{◌≡◌, ℕ, suc, zero, ◌+◌, ◌≤◌, Bool, true, false, ◌||◌, cond, Option, IsNone, ◌↔◌, is_some, Some, None, List, [], ◌∷◌, ◌++◌, map, refl, sym, ap, ◌∙◌, arith, eqb, ltb, append_assoc, append-nil}
 use Rattle.std.proofs.lemmas.Bool.Decides.{nat_tests}
-use Rattle.geom_core.proofs.Tests.{kept, none_left, none_right}
+use Rattle.geom_core.proofs.Tests.{kept, none_left, none_right, equal_test}
 use Rattle.doc_model.specs.Forest.{none, paint, group, has, depth}
 use Rattle.doc_model.specs.Readers.{parent}
 use Rattle.doc_model.specs.Flat.{flat}
 use Rattle.tree_core.specs.declared.node.Node.{Node}
 use Rattle.tree_core.specs.Nodes.{Tree, row_of, tree_of, IsKept}
-use Rattle.tree_core.proofs.Choices.{turned, same, none_only}
+use Rattle.tree_core.proofs.Choices.{turned, none_only}
 use Rattle.tree_core.proofs.Kept.{Rows}
 use Rattle.tree_core.proofs.Passes.{last_above}
 use Rattle.tree_core.proofs.Depths.{depth_some}
@@ -58,13 +58,13 @@ high e d h = grind (arith, nat_tests)
 
 -- with what was remembered, or where it doesn't count
 remembered : (q a b d e : ℕ) (f : Tree) → has q f ≡ true → suc d ≡ e + depth q f → (d ≤ e → a ≡ b) → parent q a f ≡ parent q b f
-remembered q a b d e f h at same = go k.0 refl
+remembered q a b d e f h at equal_test = go k.0 refl
   where
     k : (k : ℕ) × (suc k ≡ depth q f)
     k = depth_some q f h
 
     go : (n : ℕ) → k.0 ≡ n → parent q a f ≡ parent q b f
-    go zero z = let one : depth q f ≡ 1 = sym k.1 ∙ ap suc z in let l : d ≤ e = omega arith in ap (λ n. parent q n f) (same l)
+    go zero z = let one : depth q f ≡ 1 = sym k.1 ∙ ap suc z in let l : d ≤ e = omega arith in ap (λ n. parent q n f) (equal_test l)
     go (suc n) z = let two : depth q f ≡ suc (suc n) = sym k.1 ∙ ap suc z in parent_deep q a b f (omega arith)
 
 -- it is the group round q
@@ -108,7 +108,7 @@ parent_lost q a none h = refl
 parent_lost q a (paint id look x rest) h = kept (eqb q id) _ _ (none_left (eqb q id) _ h) ∙ parent_lost q a rest (none_right (eqb q id) _ h)
 parent_lost q a (group id look nodes rest) h = kept (eqb q id) _ _ (none_left (eqb q id) _ h) ∙ kept (has q nodes) _ _ (none_left (has q nodes) _ (none_right (eqb q id) _ h)) ∙ parent_lost q a rest (none_right (has q nodes) _ (none_right (eqb q id) _ h))
 
--- the same of nodes
+-- the equal_test of nodes
 last_rows : (q d best : ℕ) (nodes : List Node) → last_above q d best nodes ≡ row_last q d best (map row_of nodes)
 last_rows q d best [] = refl
 last_rows q d best (n ∷ ns) = ap (cond (eqb n.id q) (Some best)) (last_rows q d (cond (ltb n.depth d) n.id best) ns) ∙ ap (λ b. cond b (Some best) (row_last q d (cond (ltb n.depth d) n.id best) (map row_of ns))) (turned n.id q)

@@ -4,14 +4,13 @@ use Rattle.std.specs.List.{find, position_or_len, take_while}
 use Rattle.std.proofs.lemmas.List.Sums.{take_while-cons}
 use Rattle.std.proofs.lemmas.Grind.{common_steps}
 use Rattle.std.proofs.lemmas.Bool.Decides.{nat_tests}
-use Rattle.geom_core.proofs.Tests.{kept, taken}
+use Rattle.geom_core.proofs.Tests.{kept, taken, same_choice}
 use Rattle.doc_model.specs.declared.tree.Look.{Look}
 use Rattle.doc_model.specs.Forest.{none, width}
 use Rattle.doc_model.specs.Flat.{read, node}
 use Rattle.tree_core.specs.declared.node.Node.{Node}
 use Rattle.tree_core.specs.Nodes.{Tree, rows_of, content_of, start_in}
 use Rattle.doc_model.specs.Children.{side_at}
-use Rattle.tree_core.proofs.Choices.{same_choice}
 
 -- the first node with the id q
 abbrev pub first_with : ℕ → List Node → Option Node

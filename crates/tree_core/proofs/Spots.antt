@@ -3,13 +3,12 @@ use Rattle.std.proofs.Common.{◌≡◌, ℕ, suc, zero, ◌+◌, ◌-◌, ◌<�
 use Rattle.std.proofs.lemmas.List.{length-map}
 use Rattle.std.proofs.Math.Seq.{take-append_seam, drop-append_seam}
 use Rattle.std.proofs.lemmas.Bool.Decides.{nat_tests}
-use Rattle.geom_core.proofs.Tests.{taken, kept}
+use Rattle.geom_core.proofs.Tests.{taken, kept, equal_test, same_choice}
 use Rattle.doc_model.specs.Forest.{none, paint, group, depth, join, lower, upper, inserted}
 use Rattle.doc_model.specs.Flat.{flat, EndsAt}
 use Rattle.doc_model.specs.Changes.{takes, set_in}
 use Rattle.tree_core.specs.declared.node.Node.{Node}
 use Rattle.tree_core.specs.Nodes.{Tree, row_of, tree_of, IsKept, start_in, nodes_before, at_place}
-use Rattle.tree_core.proofs.Choices.{same, same_choice}
 use Rattle.tree_core.proofs.Kept.{Rows, flat_join, join_split}
 use Rattle.tree_core.proofs.Passes.{nodes_after}
 use Rattle.tree_core.proofs.Starts.{start_low}
@@ -65,18 +64,18 @@ not_zero k = grind (arith, nat_tests)
 spot_is : (e k : ℕ) (g : Tree) (more : Rows) → EndsAt e more → row_spot e k (flat e g ++ more) ≡ length (flat e (lower k g))
 spot_is e zero none more h = spot_ends e zero more h
 spot_is e (suc k) none more h = spot_ends e (suc k) more h
-spot_is e zero (paint id look x rest) more h = kept (ltb e e) _ _ (not_above e) ∙ taken (eqb e e) _ _ (same e)
-spot_is e zero (group id look nodes rest) more h = kept (ltb e e) _ _ (not_above e) ∙ taken (eqb e e) _ _ (same e)
-spot_is e (suc k) (paint id look x rest) more h = kept (ltb e e) _ _ (not_above e) ∙ taken (eqb e e) _ _ (same e) ∙ kept (eqb (suc k) 0) _ _ (not_zero k)
+spot_is e zero (paint id look x rest) more h = kept (ltb e e) _ _ (not_above e) ∙ taken (eqb e e) _ _ (equal_test e)
+spot_is e zero (group id look nodes rest) more h = kept (ltb e e) _ _ (not_above e) ∙ taken (eqb e e) _ _ (equal_test e)
+spot_is e (suc k) (paint id look x rest) more h = kept (ltb e e) _ _ (not_above e) ∙ taken (eqb e e) _ _ (equal_test e) ∙ kept (eqb (suc k) 0) _ _ (not_zero k)
     ∙ ap (λ n. suc (row_spot e n (flat e rest ++ more))) (pred_is k) ∙ ap suc (spot_is e k rest more h)
 spot_is e (suc k) (group id look nodes rest) more h =
     let a : row_spot e k (flat (suc e) nodes ++ (flat e rest ++ more)) ≡ length (flat (suc e) nodes) + row_spot e k (flat e rest ++ more) = spot_deeper e k (suc e) nodes (flat e rest ++ more) (omega arith) in
     let b : row_spot e k (flat e rest ++ more) ≡ length (flat e (lower k rest)) = spot_is e k rest more h in
     let c : length (flat (suc e) nodes ++ flat e (lower k rest)) ≡ length (flat (suc e) nodes) + length (flat e (lower k rest)) = length-append (flat (suc e) nodes) (flat e (lower k rest)) in
-    kept (ltb e e) _ _ (not_above e) ∙ taken (eqb e e) _ _ (same e) ∙ kept (eqb (suc k) 0) _ _ (not_zero k)
+    kept (ltb e e) _ _ (not_above e) ∙ taken (eqb e e) _ _ (equal_test e) ∙ kept (eqb (suc k) 0) _ _ (not_zero k)
     ∙ ap (λ n. suc (row_spot e n ((flat (suc e) nodes ++ flat e rest) ++ more))) (pred_is k) ∙ ap (λ rs. suc (row_spot e k rs)) (append_assoc (flat (suc e) nodes) (flat e rest) more) ∙ omega arith
 
--- the same of nodes
+-- the equal_test of nodes
 spot_rows : (d k : ℕ) (nodes : List Node) → nodes_before d k nodes ≡ row_spot d k (map row_of nodes)
 spot_rows d k [] = refl
 spot_rows d k (n ∷ ns) = same_choice (ltb n.depth d) refl (same_choice (eqb n.depth d) (same_choice (eqb k 0) refl (ap suc (spot_rows d (k - 1) ns))) (ap suc (spot_rows d k ns)))

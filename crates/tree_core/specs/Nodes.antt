@@ -39,7 +39,7 @@ pub record IsKept (nodes : List Node) : Type 0 where
 abbrev pub node_with_look : ℕ → Look → Node → Node
 node_with_look q look n = if n.id == q then record n { look = look } else n
 
--- a node of a part at its new depth: the children of the part's first node stood at a, and that node now stands at b
+-- a node of a branch at its new depth: the children of the branch's first node stood at a, and that node now stands at b
 abbrev pub moved_node : ℕ → ℕ → Node → Node
 moved_node a b n = record n { depth = min ((n.depth + 1 + b) - a) 255 }
 
@@ -56,9 +56,9 @@ nodes_before d k (n ∷ ns) = if nat_lt n.depth d then 0 else (if n.depth == d t
 abbrev pub at_place : ℕ → ℕ → List Node → ℕ
 at_place q k nodes = start_in q nodes + nodes_before (depth q (tree_of nodes)) k (drop (start_in q nodes) nodes)
 
--- the nodes with a part taken out and set in again, at its new place and depths
+-- the nodes with a branch taken out and set in again, at its new place and depths
 abbrev pub moved_along : Route → List Node → List Node
-moved_along r nodes = take r.at (remove_range nodes r.part.start r.part.end) ++ (map (moved_node r.from r.to) (slice_range nodes r.part.start r.part.end) ++ drop r.at (remove_range nodes r.part.start r.part.end))
+moved_along r nodes = take r.at (remove_range nodes r.branch.start r.branch.end) ++ (map (moved_node r.from r.to) (slice_range nodes r.branch.start r.branch.end) ++ drop r.at (remove_range nodes r.branch.start r.branch.end))
 
 -- the id of the last node above the depth d, or best where there is none
 abbrev pub last_low : ℕ → ℕ → List Node → ℕ

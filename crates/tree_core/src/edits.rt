@@ -4,16 +4,16 @@ ghost use Rattle.std.specs.Prelude.{◌≡◌, ℕ, ◌≤◌, ◌+◌, ◌-◌,
 ghost use Rattle.std.specs.List.{find, remove_range};
 ghost use Rattle.tree_core.specs.Nodes.{node_with_look, moved_node, moved_along};
 
-use crate::lookup::Part;
+use crate::lookup::Branch;
 use crate::node::{Node, moved_node};
 use arrayvec::ArrayVec;
 use doc_model::Look;
 
-/// Where a part goes: how many of the other nodes then come before it, the depth at which its first node's children
+/// Where a branch goes: how many of the other nodes then come before it, the depth at which its first node's children
 /// stood, and the depth at which that node then stands.
 #[derive(Clone, Copy)]
 pub struct Route {
-    pub part: Part,
+    pub branch: Branch,
     pub at: usize,
     pub from: u8,
     pub to: u8,
@@ -42,43 +42,43 @@ pub fn push_all(all: &mut ArrayVec<Node, 256>, nodes: &[Node])
     let _ = all.try_extend_from_slice(nodes);
 }
 
-/// Takes the nodes of a part out.
-pub fn take_out(nodes: &mut ArrayVec<Node, 256>, part: Part)
-    requires order { part.start ≤ part.end }
-    requires within { part.end ≤ length nodes.old.items }
-    ensures { nodes.new.items ≡ remove_range nodes.old.items part.start part.end }
+/// Takes the nodes of a branch out.
+pub fn take_out(nodes: &mut ArrayVec<Node, 256>, branch: Branch)
+    requires order { branch.start ≤ branch.end }
+    requires within { branch.end ≤ length nodes.old.items }
+    ensures { nodes.new.items ≡ remove_range nodes.old.items branch.start branch.end }
 {
-    nodes.drain(part.start..part.end);
+    nodes.drain(branch.start..branch.end);
 }
 
-/// Moves a part along its route.
+/// Moves a branch along its route.
 pub fn move_along(nodes: &mut [Node], route: Route)
-    requires order { route.part.start ≤ route.part.end }
-    requires within { route.part.end ≤ length nodes.old }
-    requires place { route.at + (route.part.end - route.part.start) ≤ length nodes.old }
+    requires order { route.branch.start ≤ route.branch.end }
+    requires within { route.branch.end ≤ length nodes.old }
+    requires place { route.at + (route.branch.end - route.branch.start) ≤ length nodes.old }
     ensures { nodes.new ≡ moved_along route nodes.old }
 {
-    shift(nodes, route.part, route.at);
-    let end = route.at + (route.part.end - route.part.start);
+    shift(nodes, route.branch, route.at);
+    let end = route.at + (route.branch.end - route.branch.start);
     relevel(&mut nodes[route.at..end], route.from, route.to);
 }
 
-/// Moves the nodes of a part to where so many of the others come before them.
-fn shift(nodes: &mut [Node], part: Part, at: usize)
-    requires order { part.start ≤ part.end }
-    requires within { part.end ≤ length nodes.old }
-    requires place { at + (part.end - part.start) ≤ length nodes.old }
-    ensures { nodes.new ≡ take at (remove_range nodes.old part.start part.end) ++ (slice_range nodes.old part.start part.end ++ drop at (remove_range nodes.old part.start part.end)) }
+/// Moves the nodes of a branch to where so many of the others come before them.
+fn shift(nodes: &mut [Node], branch: Branch, at: usize)
+    requires order { branch.start ≤ branch.end }
+    requires within { branch.end ≤ length nodes.old }
+    requires place { at + (branch.end - branch.start) ≤ length nodes.old }
+    ensures { nodes.new ≡ take at (remove_range nodes.old branch.start branch.end) ++ (slice_range nodes.old branch.start branch.end ++ drop at (remove_range nodes.old branch.start branch.end)) }
 {
-    let count = part.end - part.start;
-    if at <= part.start {
-        nodes[at..part.end].rotate_left(part.start - at);
+    let count = branch.end - branch.start;
+    if at <= branch.start {
+        nodes[at..branch.end].rotate_left(branch.start - at);
     } else {
-        nodes[part.start..at + count].rotate_left(count);
+        nodes[branch.start..at + count].rotate_left(count);
     }
 }
 
-/// Gives the nodes of a part their new depths.
+/// Gives the nodes of a branch their new depths.
 fn relevel(nodes: &mut [Node], from: u8, to: u8)
     ensures { nodes.new ≡ map (moved_node from to) nodes.old }
 {

@@ -13,7 +13,7 @@ use crate::node::Node;
 
 /// Where a node and those below it stand: from `start` up to `end`.
 #[derive(Clone, Copy)]
-pub struct Part {
+pub struct Branch {
     pub start: usize,
     pub end: usize,
 }
@@ -111,33 +111,33 @@ pub fn child_at(nodes: &[Node], depth: u8, place: u16) -> Option<u16>
     None
 }
 
-/// One of the nodes but those of the part, counted without them.
+/// One of the nodes but those of the branch, counted without them.
 #[inline]
-fn other(nodes: &[Node], part: Part, i: usize) -> Node
-    requires order { part.start ≤ part.end }
-    requires within { i < length (remove_range nodes.now part.start part.end) }
-    ensures { result ≡ slice_index_or (remove_range nodes.now part.start part.end) i result }
+fn other(nodes: &[Node], branch: Branch, i: usize) -> Node
+    requires order { branch.start ≤ branch.end }
+    requires within { i < length (remove_range nodes.now branch.start branch.end) }
+    ensures { result ≡ slice_index_or (remove_range nodes.now branch.start branch.end) i result }
 {
-    if i < part.start {
+    if i < branch.start {
         nodes[i]
     } else {
-        nodes[i + (part.end - part.start)]
+        nodes[i + (branch.end - branch.start)]
     }
 }
 
-/// How many nodes stand before that place of a group, the part's left out. None where the group has too few children.
-pub fn place_at(nodes: &[Node], part: Part, group: Group, place: u8) -> Option<usize>
-    requires order { part.start ≤ part.end }
-    requires within { part.end ≤ length nodes.now }
-    requires start { group.start ≤ length (remove_range nodes.now part.start part.end) }
-    ensures there { is_some result ≡ not (nat_lt (width (read group.depth (rows_of (drop group.start (remove_range nodes.now part.start part.end))))) place) }
-    ensures at { IfSome result (λ at. at ≡ group.start + nodes_before group.depth place (drop group.start (remove_range nodes.now part.start part.end))) }
-    ensures within { IfSome result (λ at. at ≤ length (remove_range nodes.now part.start part.end)) }
+/// How many nodes stand before that place of a group, the branch's left out. None where the group has too few children.
+pub fn place_at(nodes: &[Node], branch: Branch, group: Group, place: u8) -> Option<usize>
+    requires order { branch.start ≤ branch.end }
+    requires within { branch.end ≤ length nodes.now }
+    requires start { group.start ≤ length (remove_range nodes.now branch.start branch.end) }
+    ensures there { is_some result ≡ not (nat_lt (width (read group.depth (rows_of (drop group.start (remove_range nodes.now branch.start branch.end))))) place) }
+    ensures at { IfSome result (λ at. at ≡ group.start + nodes_before group.depth place (drop group.start (remove_range nodes.now branch.start branch.end))) }
+    ensures within { IfSome result (λ at. at ≤ length (remove_range nodes.now branch.start branch.end)) }
 {
-    let count = nodes.len() - (part.end - part.start);
+    let count = nodes.len() - (branch.end - branch.start);
     let mut passed = 0;
     for i in group.start..count {
-        let depth = other(nodes, part, i).depth;
+        let depth = other(nodes, branch, i).depth;
         if depth < group.depth {
             return if passed == place as u32 {
                 Some(i)
@@ -157,24 +157,24 @@ pub fn place_at(nodes: &[Node], part: Part, group: Group, place: u8) -> Option<u
     }
 }
 
-/// Where the node with that id stands and where those below it end, or an empty part at the end where no node has the id.
-pub fn span(nodes: &[Node], id: u16) -> Part
+/// Where the node with that id stands and where those below it end, or an empty branch at the end where no node has the id.
+pub fn span(nodes: &[Node], id: u16) -> Branch
     requires kept { IsKept nodes.now }
     ensures order { result.start ≤ result.end }
     ensures within { result.end ≤ length nodes.now }
-    ensures part { rows_of (slice_range nodes.now result.start result.end) ≡ flat (depth id (tree_of nodes.now) - 1) (only id (tree_of nodes.now)) }
+    ensures branch { rows_of (slice_range nodes.now result.start result.end) ≡ flat (depth id (tree_of nodes.now) - 1) (only id (tree_of nodes.now)) }
     ensures left { tree_of (remove_range nodes.now result.start result.end) ≡ without id (tree_of nodes.now) }
     ensures kept { IsKept (remove_range nodes.now result.start result.end) }
 {
     for i in 0..nodes.len() {
         if nodes[i].id == id {
-            return Part {
+            return Branch {
                 start: i,
                 end: i + 1 + deeper(&nodes[i + 1..], nodes[i].depth),
             };
         }
     }
-    Part {
+    Branch {
         start: nodes.len(),
         end: nodes.len(),
     }

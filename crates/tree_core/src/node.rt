@@ -38,7 +38,8 @@ pub fn new_node(depth: u8, id: u16, paints: bool) -> Node
     }
 }
 
-/// A node of a part at its new depth: the children of the part's first node stood at `from`, and that node now stands at `to`.
+/// A node of a branch at its new depth: the children of the branch's first node stood at `from`, and that node
+/// now stands at `to`.
 pub fn moved_node(node: Node, from: u8, to: u8) -> Node
     ensures { result ≡ moved_node from to node }
 {

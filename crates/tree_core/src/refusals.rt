@@ -8,7 +8,7 @@ ghost use Rattle.doc_model.specs.declared.tree.TreeFault.TheVariants as fault;
 ghost use Rattle.tree_core.specs.Nodes.{rows_of, tree_of, at_place, moved_along, IsKept};
 
 use crate::edits::Route;
-use crate::lookup::{Group, Part, group_at, holds, levels, place_at, span};
+use crate::lookup::{Branch, Group, group_at, holds, levels, place_at, span};
 use crate::node::Node;
 use doc_model::TreeFault;
 
@@ -20,19 +20,19 @@ const MOST_DEPTH: u8 = 16;
 
 /// Where a new node stands among the others, and its depth.
 #[derive(Clone, Copy)]
-pub struct Spot {
+pub struct NodePlace {
     pub at: usize,
     pub depth: u8,
 }
 
 /// Where a new node goes, or the first reason why it can't come.
-pub fn new_spot(nodes: &[Node], id: u16, parent: u16, place: u8) -> Result<Spot, TreeFault>
+pub fn new_place(nodes: &[Node], id: u16, parent: u16, place: u8) -> Result<NodePlace, TreeFault>
     requires kept { IsKept nodes.now }
     ensures ok { OnOk result (no_new id parent place (tree_of nodes.now) ≡ None) }
     ensures err { IfErr result (λ fault. no_new id parent place (tree_of nodes.now) ≡ Some fault) }
-    ensures at { IfOk result (λ spot. spot.at ≡ at_place parent place nodes.now) }
-    ensures within { IfOk result (λ spot. spot.at ≤ length nodes.now) }
-    ensures depth { IfOk result (λ spot. spot.depth ≡ depth parent (tree_of nodes.now)) }
+    ensures at { IfOk result (λ found. found.at ≡ at_place parent place nodes.now) }
+    ensures within { IfOk result (λ found. found.at ≤ length nodes.now) }
+    ensures depth { IfOk result (λ found. found.depth ≡ depth parent (tree_of nodes.now)) }
 {
     if id == 0 || holds(nodes, id) {
         return Err(TreeFault::Taken(id));
@@ -46,9 +46,9 @@ pub fn new_spot(nodes: &[Node], id: u16, parent: u16, place: u8) -> Result<Spot,
     if group.depth + 1 > MOST_DEPTH {
         return Err(TreeFault::TooDeep(MOST_DEPTH));
     }
-    let nothing = Part { start: 0, end: 0 };
+    let nothing = Branch { start: 0, end: 0 };
     match place_at(nodes, nothing, group, place) {
-        Some(at) => Ok(Spot {
+        Some(at) => Ok(NodePlace {
             at,
             depth: group.depth,
         }),
@@ -62,32 +62,32 @@ pub fn route_of(nodes: &[Node], id: u16, parent: u16, place: u8) -> Result<Route
     ensures ok { OnOk result (no_place id parent place (tree_of nodes.now) ≡ None) }
     ensures err { IfErr result (λ fault. no_place id parent place (tree_of nodes.now) ≡ Some fault) }
     ensures moved { IfOk result (λ route. rows_of (moved_along route nodes.now) ≡ flat 0 (set_in parent place (only id (tree_of nodes.now)) (without id (tree_of nodes.now)))) }
-    ensures order { IfOk result (λ route. route.part.start ≤ route.part.end) }
-    ensures within { IfOk result (λ route. route.part.end ≤ length nodes.now) }
-    ensures place { IfOk result (λ route. route.at + (route.part.end - route.part.start) ≤ length nodes.now) }
+    ensures order { IfOk result (λ route. route.branch.start ≤ route.branch.end) }
+    ensures within { IfOk result (λ route. route.branch.end ≤ length nodes.now) }
+    ensures place { IfOk result (λ route. route.at + (route.branch.end - route.branch.start) ≤ length nodes.now) }
 {
-    let part = span(nodes, id);
-    if part.start == part.end {
+    let branch = span(nodes, id);
+    if branch.start == branch.end {
         return Err(TreeFault::NoNode(id));
     }
     let Some(group) = group_at(nodes, parent) else {
         return Err(no_group(nodes, parent));
     };
-    if stands_in(part, group) {
+    if stands_in(branch, group) {
         return Err(TreeFault::IntoItself(id));
     }
-    if group.depth as usize + levels(&nodes[part.start..part.end]) > MOST_DEPTH as usize {
+    if group.depth as usize + levels(&nodes[branch.start..branch.end]) > MOST_DEPTH as usize {
         return Err(TreeFault::TooDeep(MOST_DEPTH));
     }
     let beside = Group {
-        start: start_beside(part, group.start),
+        start: start_beside(branch, group.start),
         depth: group.depth,
     };
-    match place_at(nodes, part, beside, place) {
+    match place_at(nodes, branch, beside, place) {
         Some(at) => Ok(Route {
-            part,
+            branch,
             at,
-            from: nodes[part.start].depth + 1,
+            from: nodes[branch.start].depth + 1,
             to: group.depth,
         }),
         None => Err(TreeFault::BadPlace(place)),
@@ -106,21 +106,21 @@ fn no_group(nodes: &[Node], id: u16) -> TreeFault
     }
 }
 
-/// Whether the group is one of the part.
-fn stands_in(part: Part, group: Group) -> bool
-    ensures { result ≡ (nat_lt part.start group.start && not (nat_lt part.end group.start)) }
+/// Whether the group is one of the branch.
+fn stands_in(branch: Branch, group: Group) -> bool
+    ensures { result ≡ (nat_lt branch.start group.start && not (nat_lt branch.end group.start)) }
 {
-    part.start < group.start && group.start <= part.end
+    branch.start < group.start && group.start <= branch.end
 }
 
-/// Where the nodes of a group begin among those but the part's.
-fn start_beside(part: Part, start: usize) -> usize
-    requires order { part.start ≤ part.end }
-    requires outside { part.start < start → part.end < start }
-    ensures { result ≡ if nat_lt part.start start then start - (part.end - part.start) else start }
+/// Where the nodes of a group begin among those but the branch's.
+fn start_beside(branch: Branch, start: usize) -> usize
+    requires order { branch.start ≤ branch.end }
+    requires outside { branch.start < start → branch.end < start }
+    ensures { result ≡ if nat_lt branch.start start then start - (branch.end - branch.start) else start }
 {
-    if part.start < start {
-        start - (part.end - part.start)
+    if branch.start < start {
+        start - (branch.end - branch.start)
     } else {
         start
     }

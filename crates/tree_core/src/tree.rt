@@ -16,7 +16,7 @@ use crate::exchange::{Exchange, between, exchange_nodes};
 use crate::groups::groups_of;
 use crate::lookup::{above, child_at, children_at, find, group_at, group_in, holds, span};
 use crate::node::{Node, new_node};
-use crate::refusals::{new_spot, route_of};
+use crate::refusals::{new_place, route_of};
 use arrayvec::ArrayVec;
 use doc_model::{Change, Look, TreeFault};
 use geom_core::NoMemory;
@@ -87,7 +87,7 @@ impl Tree {
     pub fn has(&self, id: u16) -> bool
         ensures { result ≡ there id self.now }
     {
-        id == 0 || self.holds(id)
+        id == 0 || holds(self.nodes.as_slice(), id)
     }
 
     /// Whether the root or a group has that id.
@@ -178,13 +178,6 @@ impl Tree {
         exchange_nodes(&mut self.nodes, other);
     }
 
-    /// Whether a node has that id; none has 0.
-    fn holds(&self, id: u16) -> bool
-        ensures { result ≡ has id self.now }
-    {
-        holds(self.nodes.as_slice(), id)
-    }
-
     /// Whether a group has that id, the root aside.
     fn holds_group(&self, id: u16) -> bool
         ensures { result ≡ is_group id self.now }
@@ -198,8 +191,9 @@ impl Tree {
         ensures err { IfErr result (λ fault. answer (no_new id parent place self.old) (set_in parent place (node (content_of paints) id new_look none none) self.old) ≡ Err fault) }
         ensures same { OnErr result (self.new ≡ self.old) }
     {
-        let spot = new_spot(self.nodes.as_slice(), id, parent, place)?;
-        self.nodes.insert(spot.at, new_node(spot.depth, id, paints));
+        let found = new_place(self.nodes.as_slice(), id, parent, place)?;
+        self.nodes
+            .insert(found.at, new_node(found.depth, id, paints));
         Ok(())
     }
 
@@ -209,11 +203,11 @@ impl Tree {
         ensures err { IfErr result (λ fault. changed (λ _. tt) (change.Remove id) self.old ≡ Err fault) }
         ensures same { OnErr result (self.new ≡ self.old) }
     {
-        let part = span(self.nodes.as_slice(), id);
-        if part.start == part.end {
+        let branch = span(self.nodes.as_slice(), id);
+        if branch.start == branch.end {
             return Err(TreeFault::NoNode(id));
         }
-        take_out(&mut self.nodes, part);
+        take_out(&mut self.nodes, branch);
         Ok(())
     }
 

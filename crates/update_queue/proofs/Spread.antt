@@ -4,7 +4,7 @@ use Rattle.std.specs.Prelude.{ℤ, pos, ◌+ℤ◌, ◌-ℤ◌, int_le, int_lt, 
 use Rattle.std.specs.List.{list_all, list_any}
 use Rattle.std.proofs.lemmas.Bool.Decides.{nat_tests}
 use borrow.Author.Differences.{ints}
-use Rattle.geom_core.proofs.Tests.{and_left, and_right, both_true}
+use Rattle.geom_core.proofs.Tests.{and_left, and_right, both_true, length_map}
 use Rattle.geom_core.proofs.Lying.{lies_trans}
 use Rattle.geom_core.specs.Areas.{Area, holds, lies_in, Point, point}
 use Rattle.geom_core.specs.Grid.{parts}
@@ -12,7 +12,7 @@ use Rattle.doc_model.specs.declared.canvas.Walk.TheVariants.{Up, All}
 use Rattle.doc_model.specs.declared.canvas.Patch.{Patch}
 use Rattle.doc_model.specs.Updates.{patch, merge_all, new_parts, has_place, bound_all, replaced, added}
 use Rattle.doc_model.specs.Queues.{in_place}
-use Rattle.doc_model.proofs.Patches.{parts_right, bound_all_lies, length_map}
+use Rattle.doc_model.proofs.Patches.{parts_right, bound_all_lies}
 use Rattle.doc_model.proofs.QueueLaws.{in_grid, parts_hold, bound_all_patch, map_patch}
 use Rattle.update_queue.specs.Waiting.{IsSpread, largest}
 use Rattle.update_queue.proofs.Bounded.{same_area}

@@ -11,6 +11,7 @@ use Rattle.machine_model.specs.State.{Child}
 use Rattle.machine_model.specs.Walks.{value_in, walk_folded}
 use Rattle.walker_core.specs.declared.gathered.Source.{Source}
 use Rattle.walker_core.specs.Views.{child_of, children_in}
+use Rattle.std.proofs.lemmas.Bool.{eq-eqb}
 
 -- the children of a group as a walk has them, with one more source
 folded_more : (vs : List (ℕ × Rgba)) (cs : List Child) (c : Child) (p : Point) (b : Rgba) → walk_folded vs (cs ++ c ∷ []) p b ≡ with_look c.look (value_in vs c p) (walk_folded vs cs p b)
@@ -38,10 +39,6 @@ pub source_laid : (rect : Area) (g : ℕ) (ss : List Source) (k : ℕ) (s : Sour
 source_laid rect g ss k s vs p h at e =
     ap (λ cs. walk_folded vs cs p clear) (ap (children_in rect g) (take_more ss k s h ∙ ap (λ t. take k ss ++ t ∷ []) (sym at)) ∙ children_more rect g (take k ss) s ∙ taken (eqb s.group g) _ _ e)
     ∙ folded_more vs (children_in rect g (take k ss)) (child_of rect s) p clear
-
--- tests of numbers
-pub test_of : (m n : ℕ) → m ≡ n → eqb m n ≡ true
-test_of m n e = grind (arith, nat_tests)
 
 pub test_off : (m n : ℕ) → m ≢ n → eqb m n ≡ false
 test_off m n e = grind (arith, nat_tests)

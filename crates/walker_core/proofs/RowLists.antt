@@ -24,6 +24,7 @@ use Rattle.compose_core.specs.Spots.{given_on}
 use Rattle.walker_core.specs.Rows.{given_values, found, maybe_on, IsRow, ShowsWalk}
 use Rattle.walker_core.specs.Composing.{Composition, composition, has_pair, keys_in, AreRows}
 use Rattle.walker_core.proofs.Given.{looked_found}
+use Rattle.geom_core.proofs.Tests.{or-false}
 
 -- keys with equal columns and rows
 pub keys_same : (a b : Key) → true ≡ (int_eq a.row b.row && int_eq a.col b.col) → a ≡ b
@@ -33,9 +34,11 @@ keys_same a b e =
     λ i. key (c i) (r i)
 
 -- one tile more
-pub keys_next : (rows new : List Row) (row : Row) (keys : List Key) (i : ℕ) (d : Key) → new ≡ rows ++ row ∷ [] → keys_in rows ≡ take i keys → i < length keys → row.key ≡ get_or keys i d → keys_in new ≡ take (i + 1) keys
-keys_next rows new row keys i d e so_far h same =
-    ap keys_in e ∙ map-append (λ (r : Row). r.key) rows (row ∷ []) ∙ (λ j. so_far j ++ same j ∷ []) ∙ sym (take_more keys i d h)
+pub keys_more : (rows new : List Row) (row : Row) (k : Key) → new ≡ rows ++ row ∷ [] → row.key ≡ k → keys_in new ≡ keys_in rows ++ k ∷ []
+keys_more rows new row k e same = ap keys_in e ∙ map-append (λ (r : Row). r.key) rows (row ∷ []) ∙ ap (λ q. keys_in rows ++ q ∷ []) same
+
+pub keys_next : (so_far new keys : List Key) (k : Key) (i : ℕ) (d : Key) → new ≡ so_far ++ k ∷ [] → so_far ≡ take i keys → i < length keys → k ≡ get_or keys i d → new ≡ take (i + 1) keys
+keys_next so_far new keys k i d e before h same = e ∙ (λ j. before j ++ same j ∷ []) ∙ sym (take_more keys i d h)
 
 lone : (r : Readings) (row : Row) → IsRow r row.key row.given.items → (k : ℕ) (d : Row) → k < 1 → IsRow r (get_or (row ∷ []) k d).key (get_or (row ∷ []) k d).given.items
 lone r row is zero d h = is
@@ -70,10 +73,6 @@ found_on (h ∷ gs) (x ∷ xs) vs g p e = found_on gs xs ((h, given_on x p) ∷ 
 any_row : (k : Key) (rows : List Row) (i : ℕ) (d : Row) → i < length rows → same_key k (get_or rows i d).key ≡ true → list_any (same_key k) (keys_in rows) ≡ true
 any_row k rows i d h e = list_any_at (same_key k) (keys_in rows) i d.key (let n : length (keys_in rows) ≡ length rows = length-map rows (λ (r : Row). r.key) in omega arith) (ap (same_key k) (get_or-map (λ (r : Row). r.key) rows i d d.key h) ∙ e)
 
-none_or : (b : Bool) → (b || false) ≡ b
-none_or true = refl
-none_or false = refl
-
 none_and : (b c : Bool) → c ≡ true → b ≡ (b && c)
 none_and true c e = sym e
 none_and false c e = refl
@@ -85,7 +84,7 @@ given_there c r rows k g i row path xs o v h at same is e f found_at =
     ∙ ap is_some (sym (found_at origin))
     ∙ (λ j. is_some (found (given_values (e j) (f j) [] origin) g))
     ∙ found_on (path_in r) row.given.items [] g origin (length-map r.groups (λ (t : ℕ × List Child). t.0) ∙ sym is.all)
-    ∙ none_or (on g (path_in r))
+    ∙ or-false (on g (path_in r))
     ∙ none_and (on g (path_in r)) (list_any (same_key k) (keys_in rows)) (any_row k rows i row h (ap (λ (t : Row). same_key k t.key) (sym at) ∙ key_is k row.key (sym same)))
     ∙ ap (λ d. has_pair d g k) v
   where

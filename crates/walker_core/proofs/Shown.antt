@@ -2,7 +2,7 @@
 use Rattle.std.proofs.Common.{◌≡◌, ℕ, Bool, true, false, ◌||◌, ◌&&◌, cond, List, [], ◌∷◌, ◌++◌, refl, sym, ap, subst, ◌∙◌, eqb}
 use Rattle.geom_core.specs.Areas.{Area, holds, Point}
 use Rattle.geom_core.specs.Rects.{any_holds}
-use Rattle.geom_core.proofs.Tests.{taken}
+use Rattle.geom_core.proofs.Tests.{taken, and-true}
 use Rattle.tile_core.specs.Shots.{Sight, sight_at}
 use Rattle.doc_model.specs.Layers.{at, painted, plain}
 use Rattle.doc_model.proofs.LayerLaws.{layer_ext, at-painted, at-plain, default-painted, default-plain}
@@ -26,14 +26,10 @@ lone_rect rect p = go (holds rect p)
     go true = refl
     go false = refl
 
-and_true : (b : Bool) → (b && true) ≡ b
-and_true true = refl
-and_true false = refl
-
 -- the pixel of a shot's layer at a point of the rectangle
 pub at_layer_on : (rect : Area) (s : Sight) (p : Point) → holds rect p ≡ true → at (layer_on rect s) p ≡ sight_at s p
 unfolding layer_on
-at_layer_on rect s p h = at-painted (rect ∷ []) (λ _. true) (sight_at s) (plain s.default_pixel) p ∙ taken _ _ _ (and_true _ ∙ lone_rect rect p ∙ h)
+at_layer_on rect s p h = at-painted (rect ∷ []) (λ _. true) (sight_at s) (plain s.default_pixel) p ∙ taken _ _ _ (and-true _ ∙ lone_rect rect p ∙ h)
 
 -- what was grabbed of a device is the part of its layer
 pub grabbed : (rect : Area) (s : Sight) (d : Sheet) → s.default_pixel ≡ d.default_pixel → ((p : Point) → any_holds (rect ∷ []) p ≡ true → sight_at s p ≡ sheet_at d p) → layer_on rect s ≡ shot_of (rect ∷ []) (layer_of d)

@@ -62,7 +62,7 @@ fn paint<K: Naming + Send + Sync, R: Threads + Wait + Sync>(
     live_frame(alloc, live, &desk)
 }
 
-/// The same beside a screen, which has a reader of the writer and writes what it sees.
+/// Paints the script beside a screen, which has a reader of the writer and writes what it sees.
 fn paint_watched<K: Naming + Send + Sync, R: Threads + Wait + Print + Sync>(
     rt: &R,
     alloc: Global,
@@ -100,7 +100,7 @@ pub(crate) fn picture_of<R: Threads + Wait + Print + Sync>(
     named_picture::<Brand, R>(rt, alloc, script, every, open_live())
 }
 
-/// The same, with the live view under a name.
+/// The picture of `picture_of`, with the live view under a name.
 fn named_picture<K: Naming + Send + Sync, R: Threads + Wait + Print + Sync>(
     rt: &R,
     alloc: Global,

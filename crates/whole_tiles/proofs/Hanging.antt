@@ -8,7 +8,7 @@ use Rattle.brush_mask.specs.Mask.{mask}
 use Rattle.geom_core.specs.Areas.{Area, holds, moved, Point, point, meets}
 use Rattle.geom_core.specs.Rects.{any_holds, IsWithin, IsShared}
 use Rattle.geom_core.specs.Grid.{Key, tile, same_key, all_keys_of}
-use Rattle.geom_core.proofs.Tests.{and_left, and_right, both_true, or_left, taken}
+use Rattle.geom_core.proofs.Tests.{and_left, and_right, both_true, or_left, taken, or-false}
 use Rattle.doc_model.specs.declared.job.Job.{Job}
 use Rattle.doc_model.specs.declared.job.Job.TheVariants.{Fill, Dab, Move, Blur, Track}
 use Rattle.doc_model.specs.Layers.{Layer, at}
@@ -17,7 +17,7 @@ use Rattle.doc_model.specs.Trails.{centres}
 use Rattle.doc_model.specs.Shots.{in_tile}
 use Rattle.doc_model.proofs.JobLaws.{at-apply, laws_of_jobs}
 use Rattle.job_core.specs.Points.{is_point_op}
-use Rattle.job_core.proofs.Values.{tile_held, or-false}
+use Rattle.job_core.proofs.Values.{tile_held}
 use Rattle.job_core.specs.Due.{IsDue}
 use Rattle.job_core.proofs.Values.{one_met, some_of_limits}
 use Rattle.job_core.proofs.Keys.{due_key, square_met}

@@ -11,7 +11,7 @@ use Rattle.geom_core.specs.Rects.{any_holds}
 use Rattle.geom_core.specs.Grid.{Key, key_of, tile}
 use Rattle.geom_core.specs.Keys.{IsWorldKey}
 use Rattle.geom_core.specs.Place.{across, down}
-use Rattle.geom_core.proofs.Tests.{taken, kept}
+use Rattle.geom_core.proofs.Tests.{taken, kept, or-false, some_same, or_again}
 use Rattle.geom_core.proofs.Tiles.{own_tile, key_same}
 use Rattle.tile_core.specs.Pixels.{Pixels, pixel_at, pixel_or}
 use Rattle.tile_core.specs.Blocks.{Piece, piece_at, LaysBlock}
@@ -21,7 +21,7 @@ use Rattle.doc_model.specs.Layers.{Layer, at, painted, plain}
 use Rattle.doc_model.specs.Jobs.{reads, writes, apply}
 use Rattle.doc_model.specs.Shots.{in_tile}
 use Rattle.job_core.specs.Paints.{Paint, layer_of, HasValue, IsPainted, FillsTile}
-use Rattle.job_core.proofs.WholeTiles.{some_same, some_none, value_of}
+use Rattle.job_core.proofs.WholeTiles.{some_none, value_of}
 use Rattle.job_core.proofs.Values.{tile_held}
 use Rattle.job_core.specs.Due.{IsDue}
 use Rattle.job_core.specs.Points.{spot, LaysPoints, is_point_op}
@@ -30,7 +30,6 @@ use Rattle.doc_model.specs.Laws.{SameOn}
 use Rattle.doc_model.proofs.LayerLaws.{at-painted}
 use Rattle.doc_model.proofs.Shots.{at-published}
 use Rattle.doc_model.proofs.JobLaws.{laws_of_jobs}
-use Rattle.job_core.proofs.Values.{or-false}
 use Rattle.whole_tiles.specs.Enough.{IsEnough}
 use Rattle.whole_tiles.specs.Base.{tile_of}
 use Rattle.whole_tiles.specs.Wholes.{IsNew, LaysPaint, entire, Shows, IsEntire}
@@ -50,10 +49,6 @@ LaidSoFar w old new bs = (p : Point) → in_tile w.key p ≡ true → pixel_at n
 or_end : (a : Bool) → a ≡ (a || false)
 or_end true = refl
 or_end false = refl
-
-or_again : (a b c : Bool) → (a || (b || c)) ≡ ((a || b) || c)
-or_again true b c = refl
-or_again false b c = refl
 
 more_held : (bs : List Piece) (i : ℕ) (b : Piece) (p : Point) → Some b ≡ slice_get bs i → any_holds (map (λ (b : Piece). b.rect) (take (suc i) bs)) p ≡ (any_holds (map (λ (b : Piece). b.rect) (take i bs)) p || holds b.rect p)
 more_held [] i b p e = absurd (some_none b e)

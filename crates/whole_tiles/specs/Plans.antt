@@ -14,6 +14,10 @@ use Rattle.doc_model.specs.Lawful.{within_limits}
 abbrev pub is_apart : List Area → Key → Bool
 is_apart areas k = not (list_any (λ a. meets a (tile k)) areas)
 
+-- those of the keys that none of the rectangles meets stand behind the others
+abbrev pub AddsApart : List Area → List Key → List Key → List Key → Type 0
+AddsApart before keys old new = new ≡ old ++ filter (is_apart before) keys
+
 -- the tiles of one rectangle after another, but those that some rectangle before it meets
 abbrev pub tiles_from : List Area → List Area → List Key
 tiles_from before [] = []

@@ -47,6 +47,10 @@ pub record IsOf (w : Paint) (x : Entire) : Type 0 where
   pub key : x.key ≡ w.key
   pub shows : Shows x.needs x.base (layer_of w.shot)
 
+-- in the tile, its base has the pixels of that shot
+abbrev pub SharesOwn : Sight → Entire → Type 0
+SharesOwn shot x = (p : Point) → in_tile x.key p ≡ true → sight_at x.base p ≡ sight_at shot p
+
 -- a tile has what the job makes of the shot where the job writes, and the shot's pixels elsewhere
 abbrev pub IsNew : Job → Sight → Key → Pixels → Type 0
 IsNew job shot key t = (p : Point) → in_tile key p ≡ true → pixel_at t p ≡ cond (any_holds (writes job) p) (at (apply job (layer_of shot)) p) (sight_at shot p)

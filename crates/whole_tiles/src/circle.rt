@@ -7,10 +7,7 @@ ghost use Rattle.doc_model.specs.Jobs.{checks};
 ghost use Rattle.whole_tiles.specs.Circles.{LeavesTile, LieApart, LiesOutside};
 
 use doc_model::Job;
-use geom_core::TileKey;
-
-/// How far the world's corner lies to the left of 0 and above it.
-const CORNER: i32 = 16384;
+use geom_core::{CORNER, TileKey};
 
 /// How far the last column of a tile lies behind the first, and the last row below it.
 const LAST: u32 = 63;

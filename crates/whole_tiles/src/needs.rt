@@ -1,21 +1,18 @@
 //! On which pixels it hangs what a job leaves in one tile.
 
-ghost use Rattle.std.specs.Prelude.{◌≡◌, ◌<◌, ◌-ℤ◌, pos, true, false, length, slice_get, Some};
+ghost use Rattle.std.specs.Prelude.{◌≡◌, true, false, Some};
 ghost use Rattle.std.specs.List.{list_any};
-ghost use Rattle.geom_core.specs.Areas.{lies_in, meets, moved as moved_area, world};
-ghost use Rattle.geom_core.specs.Rects.{IsShared};
-ghost use Rattle.geom_core.specs.Grid.{same_key, all_keys_of, tile};
-ghost use Rattle.geom_core.specs.Keys.{IsWorldKey};
+ghost use Rattle.geom_core.specs.Areas.{moved as moved_area};
+ghost use Rattle.geom_core.specs.Grid.{same_key, all_keys_of};
 ghost use Rattle.doc_model.specs.declared.job.Job.TheVariants.{Move, Blur};
 ghost use Rattle.doc_model.specs.Lawful.{within_limits};
 ghost use Rattle.doc_model.specs.Jobs.{checks, writes, grown};
-ghost use Rattle.job_core.specs.Made.{IsStep};
 ghost use Rattle.job_core.specs.Points.{is_point_op};
 ghost use Rattle.whole_tiles.specs.Enough.{IsEnough};
 
 use doc_model::Job;
 use geom_core::{Rect, TileKey};
-use job_core::point_rect;
+use job_core::{moved_back, part_in, point_rect, written};
 
 /// The rectangle on whose pixels, and the default pixel, it hangs what the job leaves in the key's
 /// tile. The job reads all of it.
@@ -31,7 +28,7 @@ pub fn needs_of(job: &Job, key: TileKey) -> Rect
     }
 }
 
-/// The same of a move or a blur.
+/// The rectangle on which it hangs what a move or a blur leaves in the key's tile.
 fn needs_of_other(job: &Job, key: TileKey) -> Rect
     requires checked { checks job.now ≡ true }
     requires limits { within_limits job.now ≡ true }
@@ -46,7 +43,7 @@ fn needs_of_other(job: &Job, key: TileKey) -> Rect
     }
 }
 
-/// The same of a move, where `to` is the moved rectangle.
+/// The rectangle on which it hangs what a move leaves in the key's tile. `to` is the moved rectangle.
 fn needs_of_move(key: TileKey, rect: &Rect, to: &Rect, dx: i32, dy: i32) -> Rect
     requires checked { checks (Move rect.now dx dy) ≡ true }
     requires limits { within_limits (Move rect.now dx dy) ≡ true }
@@ -58,33 +55,6 @@ fn needs_of_move(key: TileKey, rect: &Rect, to: &Rect, dx: i32, dy: i32) -> Rect
         Some(part) => moved_back(&part, dx, dy),
         None => part_in(key, rect),
     }
-}
-
-/// The points of the rectangle in the key's tile.
-fn part_in(key: TileKey, rect: &Rect) -> Rect
-    requires key { IsWorldKey key }
-    requires met { meets rect.now (tile key) ≡ true }
-    ensures { IsShared rect.now (tile key) result }
-{
-    rect.clip(&key.rect()).unwrap()
-}
-
-/// The rectangle with that index, from 0, of those that the job may change.
-fn written(job: &Job, i: usize) -> Rect
-    requires checked { checks job.now ≡ true }
-    requires there { i < length (writes job.now) }
-    ensures { slice_get (writes job.now) i ≡ Some result }
-{
-    job.writes()[i]
-}
-
-/// The rectangle moved back by (dx, dy).
-fn moved_back(rect: &Rect, dx: i32, dy: i32) -> Rect
-    requires step { IsStep dx dy }
-    requires from { lies_in (moved_area rect.now (pos 0 -ℤ dx) (pos 0 -ℤ dy)) world ≡ true }
-    ensures { result ≡ moved_area rect.now (pos 0 -ℤ dx) (pos 0 -ℤ dy) }
-{
-    rect.moved(-dx, -dy).unwrap()
 }
 
 /// The rectangle with r more columns and rows on each side.

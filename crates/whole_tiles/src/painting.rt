@@ -1,17 +1,15 @@
 //! A job that is painted tile by tile, by any number of threads.
 
-ghost use Rattle.std.specs.Prelude.{◌≡◌, ◌<◌, ◌++◌, [], ◌∷◌, true, Some, length, slice_get, IfOk, OnOk};
-ghost use Rattle.std.specs.List.{list_any, filter};
-ghost use Rattle.geom_core.specs.Areas.{meets, Point};
+ghost use Rattle.std.specs.Prelude.{◌≡◌, ◌<◌, [], ◌∷◌, true, Some, length, slice_get, IfOk, OnOk};
+ghost use Rattle.std.specs.List.{list_any};
+ghost use Rattle.geom_core.specs.Areas.{meets};
 ghost use Rattle.geom_core.specs.Grid.{keys_of, tile};
 ghost use Rattle.geom_core.specs.Keys.{IsWorldKey};
 ghost use Rattle.doc_model.specs.Jobs.{checks, reads};
 ghost use Rattle.doc_model.specs.Lawful.{within_limits};
-ghost use Rattle.doc_model.specs.Shots.{in_tile};
-ghost use Rattle.tile_core.specs.Shots.{sight_at};
 ghost use Rattle.job_core.specs.Paints.{paint};
-ghost use Rattle.whole_tiles.specs.Plans.{IsPlan, plan, tiles_of as tiles_of_job, is_apart};
-ghost use Rattle.whole_tiles.specs.Wholes.{IsOf};
+ghost use Rattle.whole_tiles.specs.Plans.{AddsApart, IsPlan, plan, tiles_of as tiles_of_job};
+ghost use Rattle.whole_tiles.specs.Wholes.{IsOf, SharesOwn};
 
 use crate::whole::{Whole, whole_tile_like};
 use doc_model::Job;
@@ -76,18 +74,9 @@ impl Painting {
         self.keys[i]
     }
 
-    /// The tile with that index, painted whole.
-    pub fn paint(&self, alloc: Global, i: usize) -> Result<Whole, NoMemory>
-        requires { i < length (tiles_of_job self.now.job) }
-        ensures of { IfOk result (λ x. IsOf (paint self.now.job self.now.shot x.key []) x) }
-        ensures key { IfOk result (λ x. slice_get (tiles_of_job self.now.job) i ≡ Some x.key) }
-        ensures own { IfOk result (λ x. (p : Point) → in_tile x.key p ≡ true → sight_at x.base p ≡ sight_at self.now.shot p) }
-    {
-        self.paint_like(alloc, i, &mut None)
-    }
-
-    /// The same. Where a fill leaves one pixel all over the tile, and `like` has that pixel, its tile is
-    /// shared, and none is made. Where `like` has another, or none, the tile that is made stays in it.
+    /// The tile with that index, painted whole. Where a fill leaves one pixel all over it, and `like`
+    /// has that pixel, its tile is shared, and none is made. Where `like` has another, or none, the
+    /// tile that is made stays in it.
     pub fn paint_like(
         &self,
         alloc: Global,
@@ -97,7 +86,7 @@ impl Painting {
         requires { i < length (tiles_of_job self.now.job) }
         ensures of { IfOk result (λ x. IsOf (paint self.now.job self.now.shot x.key []) x) }
         ensures key { IfOk result (λ x. slice_get (tiles_of_job self.now.job) i ≡ Some x.key) }
-        ensures own { IfOk result (λ x. (p : Point) → in_tile x.key p ≡ true → sight_at x.base p ≡ sight_at self.now.shot p) }
+        ensures own { IfOk result (SharesOwn self.now.shot) }
     {
         whole_tile_like(alloc, &self.job, &self.shot, self.key(i), like)
     }
@@ -119,7 +108,7 @@ fn tiles_of(alloc: Global, job: &Job) -> Result<Vec<TileKey>, NoMemory>
 
 /// Adds the tiles of a rectangle that none of those before it meets.
 fn add_tiles(keys: &mut Vec<TileKey>, before: &[Rect], rect: &Rect) -> Result<(), NoMemory>
-    ensures { OnOk result (keys.new.items ≡ keys.old.items ++ filter (is_apart before.now) (keys_of rect.now)) }
+    ensures { OnOk result (AddsApart before.now (keys_of rect.now) keys.old.items keys.new.items) }
 {
     for i in 0..rect.tile_count() {
         add_tile(keys, before, rect.tile_at(i))?;
@@ -130,7 +119,7 @@ fn add_tiles(keys: &mut Vec<TileKey>, before: &[Rect], rect: &Rect) -> Result<()
 /// Adds the tile, where none of the rectangles meets it.
 fn add_tile(keys: &mut Vec<TileKey>, before: &[Rect], key: TileKey) -> Result<(), NoMemory>
     requires { IsWorldKey key }
-    ensures { OnOk result (keys.new.items ≡ keys.old.items ++ filter (is_apart before.now) (key ∷ [])) }
+    ensures { OnOk result (AddsApart before.now (key ∷ []) keys.old.items keys.new.items) }
 {
     if !some_meets(before, key) {
         keys.push(key)?;

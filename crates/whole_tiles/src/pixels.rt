@@ -9,7 +9,7 @@ ghost use Rattle.whole_tiles.specs.Wholes.{IsNew, LaysPaint};
 
 use crate::circle::reaches;
 use doc_model::{Job, Kind};
-use geom_core::{NoMemory, TileKey};
+use geom_core::{NoMemory, TILE_POINTS, TileKey};
 use job_core::{Painted, PointWork, paint_tile, point_rect};
 use pixel_core::Pixel;
 use pixel_rows::tell_canonical;
@@ -34,7 +34,7 @@ pub fn new_tile(
     }
 }
 
-/// The same of a point operation: it is painted on a copy of the tile, or leaves one pixel everywhere.
+/// The new tile of a point operation: it is painted on a copy of the tile, or leaves one pixel everywhere.
 /// A tile that the circle of a dab doesn't reach is shared.
 fn pointed(
     alloc: Global,
@@ -92,7 +92,8 @@ fn plain_tile(alloc: Global, like: &mut Option<PlainTile>, pixel: Pixel) -> Resu
 
 /// The one pixel that point operations leave at all points of their tile. None where it finds none.
 fn plain_left(shot: &Shot, work: &PointWork<'_>) -> Option<Pixel>
-    ensures { IfSome result (λ c. LaysPoints work.now (tile_of shot.now work.now.key) (replicate 4096 c)) }
+    ensures { IfSome result
+        (λ c. LaysPoints work.now (tile_of shot.now work.now.key) (replicate 4096 c)) }
 {
     match shot.tile(work.key()) {
         Some(tile) => work.plain_on(tile),
@@ -109,7 +110,7 @@ fn painted_copy(alloc: Global, shot: &Shot, work: &PointWork<'_>) -> Result<Tile
     Tile::from_pixels(alloc, pixels)
 }
 
-/// The same of any job: a block with all points of the tile becomes the tile, and other blocks are
+/// The new tile of any job: a block with all points of the tile becomes the tile, and other blocks are
 /// laid on a copy of it.
 fn assembled(alloc: Global, job: &Job, shot: &Shot, key: TileKey) -> Result<Tile, NoMemory>
     requires { IsDue job.now shot.now key }
@@ -150,6 +151,6 @@ fn pixels_under(alloc: Global, shot: &Shot, key: TileKey) -> Result<Vec<Pixel>, 
 {
     match shot.tile(key) {
         Some(tile) => Ok(Vec::from_slice(alloc, tile.pixels())?),
-        None => Ok(vec![in alloc; shot.ground(); 4096]?),
+        None => Ok(vec![in alloc; shot.ground(); TILE_POINTS]?),
     }
 }

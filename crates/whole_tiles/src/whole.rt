@@ -2,14 +2,12 @@
 
 ghost use Rattle.std.specs.Prelude.{◌≡◌, [], true, IfOk};
 ghost use Rattle.std.specs.List.{list_any, list_all};
-ghost use Rattle.geom_core.specs.Areas.{lies_in, Point};
+ghost use Rattle.geom_core.specs.Areas.{lies_in};
 ghost use Rattle.geom_core.specs.Grid.{same_key, all_keys_of};
-ghost use Rattle.tile_core.specs.Shots.{sight_at};
 ghost use Rattle.doc_model.specs.Jobs.{checks, reads, writes};
 ghost use Rattle.doc_model.specs.Lawful.{within_limits};
-ghost use Rattle.doc_model.specs.Shots.{in_tile};
 ghost use Rattle.job_core.specs.Paints.{paint};
-ghost use Rattle.whole_tiles.specs.Wholes.{IsEntire, IsOf};
+ghost use Rattle.whole_tiles.specs.Wholes.{IsEntire, IsOf, SharesOwn};
 
 use crate::needs::needs_of;
 use crate::pixels::new_tile;
@@ -83,21 +81,9 @@ impl Whole {
 }
 
 /// The key's tile with what the job leaves there. A fill or a dab is painted on a copy of the shot's
-/// tile; where a fill leaves one pixel all over the tile, nothing is copied.
-pub fn whole_tile(alloc: Global, job: &Job, shot: &Shot, key: TileKey) -> Result<Whole, NoMemory>
-    requires checked { checks job.now ≡ true }
-    requires limits { within_limits job.now ≡ true }
-    requires seen { list_all (λ a. list_any (lies_in a) shot.now.rects) (reads job.now) ≡ true }
-    requires met { list_any (same_key key) (all_keys_of (writes job.now)) ≡ true }
-    ensures of { IfOk result (IsOf (paint job.now shot.now key [])) }
-    ensures key { IfOk result (λ x. x.key ≡ key) }
-    ensures own { IfOk result (λ x. (p : Point) → in_tile x.key p ≡ true → sight_at x.base p ≡ sight_at shot.now p) }
-{
-    whole_tile_like(alloc, job, shot, key, &mut None)
-}
-
-/// The same. Where a fill leaves one pixel all over the tile, and `like` has that pixel, its tile is
-/// shared, and none is made. Where `like` has another, or none, the tile that is made stays in it.
+/// tile. Where a fill leaves one pixel all over the tile, nothing is copied: where `like` has that
+/// pixel, its tile is shared, and none is made; where it has another, or none, the tile that is made
+/// stays in it.
 pub fn whole_tile_like(
     alloc: Global,
     job: &Job,
@@ -105,13 +91,16 @@ pub fn whole_tile_like(
     key: TileKey,
     like: &mut Option<PlainTile>,
 ) -> Result<Whole, NoMemory>
+    // The shot has what the job reads, and the job writes in the tile.
     requires checked { checks job.now ≡ true }
     requires limits { within_limits job.now ≡ true }
     requires seen { list_all (λ a. list_any (lies_in a) shot.now.rects) (reads job.now) ≡ true }
     requires met { list_any (same_key key) (all_keys_of (writes job.now)) ≡ true }
+
+    // The tile is of this job and key, and of a base with the shot's pixels.
     ensures of { IfOk result (IsOf (paint job.now shot.now key [])) }
     ensures key { IfOk result (λ x. x.key ≡ key) }
-    ensures own { IfOk result (λ x. (p : Point) → in_tile x.key p ≡ true → sight_at x.base p ≡ sight_at shot.now p) }
+    ensures own { IfOk result (SharesOwn shot.now) }
 {
     let needs = needs_of(job, key);
     let base = shot.share()?;

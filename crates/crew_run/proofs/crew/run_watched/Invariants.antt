@@ -1,4 +1,11 @@
 use Rattle.crew_run.proofs.crew.run_watched.Given as goal
 
-abbrev pub ghosts-run_on : goal.ghosts-run_on
-ghosts-run_on g a = record { name = a.blank.name; parts = a.blank.parts }
+-- the script, the history that was just begun, and the ledger
+abbrev pub ghosts-named_run-J-Following : goal.ghosts-named_run-J-Following
+ghosts-named_run-J-Following g a = record { script = a.script.now }
+
+abbrev pub ghosts-named_run-J-Naming : goal.ghosts-named_run-J-Naming
+ghosts-named_run-J-Naming g a = record { book = a.unnamed }
+
+abbrev pub ghosts-named_run-L-Ledger : goal.ghosts-named_run-L-Ledger
+ghosts-named_run-L-Ledger g a = record { name = a.blank.name; parts = a.blank.parts }

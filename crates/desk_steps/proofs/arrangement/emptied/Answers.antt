@@ -4,9 +4,9 @@ use Rattle.std.proofs.lemmas.Map.Iter.{btree_map_turn, rest_all}
 use Rattle.std.proofs.lemmas.Cmp.{nat_cmp_total}
 use Rattle.desk_steps.specs.Slots.{AllHave, device_in, has_slot, once_filled}
 use Rattle.desk_steps.proofs.Arranged.{Emptied, none_emptied, one_left, one_emptied, all_emptied}
-use Rattle.desk_steps.proofs.Devices.{none_is}
 use Rattle.desk_steps.proofs.arrangement.emptied.Goals.{else-is_some-via-then-is_some+else-not-is_paint, else-is_some-via-else-is_some}
 use Rattle.desk_steps.proofs.arrangement.emptied.Goals as goal
+use Rattle.geom_core.proofs.Tests.{is_some-None}
 
 pub loop-id-init : goal.loop-id-init
 loop-id-init c =
@@ -26,7 +26,7 @@ loop-id-preserved c =
     let so = subst (Emptied c.args.tree.now c.args.devices.now c.loop-id.slots.items) c.in-Some.ensures.steps c.loop-id.invariant in
     one_left c.args.tree.now c.args.devices.now c.loop-id.slots.items c.in-Some.id.now c.in-Some.device.now c.next.new.self so turn.1 (elim c.else-is_some.branch [
       | else-is_some-via-then-is_some+else-not-is_paint w ↦ inr (sym w.is_paint.ensures ∙ w.if-not-is_paint.false)
-      | else-is_some-via-else-is_some w ↦ inl (none_is c.in-Some.device.now (sym c.is_some.ensures ∙ w.if-is_some.false))
+      | else-is_some-via-else-is_some w ↦ inl (is_some-None c.in-Some.device.now (sym c.is_some.ensures ∙ w.if-is_some.false))
     ])
 
 pub returns-clause-ok : goal.returns-clause-ok

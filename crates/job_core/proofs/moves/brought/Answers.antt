@@ -11,5 +11,5 @@ returns-clause-has c =
     let x : to_z w32 (of_z w32 c.args.dx) ≡ c.args.dx = omega (arith, ints) in
     let y : to_z w32 (of_z w32 c.args.dy) ≡ c.args.dy = omega (arith, ints) in
     IfOk-weaker c.pixels_on.result _ _
-    (λ v h. brought_pixels c.args.rect.now c.brought_from-from.result c.args.shot.now c.args.dx c.args.dy v.items (c.brought_from-from.ensures ∙ (λ i. moved c.args.rect.now (pos 0 -ℤ x i) (pos 0 -ℤ y i))) h)
+    (λ v h. brought_pixels c.args.rect.now c.moved_back-from.result c.args.shot.now c.args.dx c.args.dy v.items (c.moved_back-from.ensures ∙ (λ i. moved c.args.rect.now (pos 0 -ℤ x i) (pos 0 -ℤ y i))) h)
     c.pixels_on.ensures.has

@@ -7,7 +7,7 @@ use Rattle.tile_core.specs.Frames.{scene}
 use Rattle.doc_model.specs.declared.canvas.Canvas.{Canvas}
 use Rattle.doc_model.specs.Canvases.{IsOfLimits}
 use Rattle.doc_model.specs.Picture.{canvas_area}
-use Rattle.desk_work.proofs.CacheFrames.{drawn_none, drawn_more, drawn_inside, drawn_all}
+use Rattle.slot_work.proofs.CacheFrames.{drawn_none, drawn_more, drawn_inside, drawn_all}
 use Rattle.live_view.specs.Shown.{updates_of}
 use Rattle.live_view.specs.Views.{Feed, published, pending}
 use Rattle.live_run.specs.Showing.{ShowsRoot}

@@ -1,5 +1,5 @@
 use Rattle.std.proofs.lemmas.Result.{on_ok_weaker}
-use Rattle.desk_work.proofs.CacheFrames.{tile_put, clear_put}
+use Rattle.slot_work.proofs.CacheFrames.{tile_put, clear_put}
 use Rattle.live_run.proofs.frames.put_own.Goals as goal
 
 pub returns-in-Some : goal.returns-in-Some

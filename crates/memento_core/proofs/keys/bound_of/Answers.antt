@@ -1,4 +1,4 @@
-use Rattle.std.proofs.Common.{rules, subst, sym}
+use Rattle.std.proofs.Common.{Some, ap, rules, subst, sym}
 use Rattle.std.specs.Map.Iter.{deref}
 use Rattle.std.proofs.lemmas.Map.Iter.{rest_more, rest_all}
 use Rattle.std.proofs.lemmas.Map.Views.{All-turn}
@@ -15,7 +15,7 @@ rect-requires c = All-turn deref IsWorldKey _ _ _ _ _ _ _ c.requires (search rul
 pub loop-key-preserved : goal.loop-key-preserved
 loop-key-preserved c =
     let rest = rest_more deref c.loop-key.key-iterator c.next.new.self c.next.result c.in-Some.key c.in-Some.is c.next.ensures.steps in
-    subst (λ o. RoundSoFar c.args.tiles.now.keys o c.next.new.self) (sym c.wider-bound.ensures)
+    subst (λ o. RoundSoFar c.args.tiles.now.keys o c.next.new.self) (sym (ap Some c.round.ensures))
     (one_round c.args.tiles.now.keys c.next.new.self c.loop-key.bound c.in-Some.key.now c.rect.result c.rect.ensures (subst (RoundSoFar c.args.tiles.now.keys c.loop-key.bound) rest c.loop-key.invariant))
 
 pub returns : goal.returns

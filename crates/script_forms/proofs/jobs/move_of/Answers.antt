@@ -3,8 +3,9 @@ use borrow.Author.Differences.{ints}
 use Rattle.geom_core.specs.Areas.{lies_in, world, moved}
 use Rattle.doc_model.specs.declared.job.Job.TheVariants.{Move}
 use Rattle.script_forms.specs.Jobs.{area_of}
-use Rattle.script_forms.proofs.World.{checked_sound, box, held, not_held, both, left_not, right_not, answer, refused}
+use Rattle.script_forms.proofs.World.{checked_sound, box, held, not_held, both, right_not, answer, refused}
 use Rattle.script_forms.proofs.jobs.move_of.Goals as goal
+use Rattle.geom_core.proofs.Tests.{no_first}
 
 pub returns-clause-value : goal.returns-clause-value
 returns-clause-value c =
@@ -23,7 +24,7 @@ pub returns-in_err-rect-clause-value : goal.returns-in_err-rect-clause-value
 returns-in_err-rect-clause-value c =
     let h = not_held (area_of c.args.o) c.in_err-rect.field-0.0 c.outline_rect.result c.outline_rect.ensures c.in_err-rect.was in
     let e : c.from_residual.result ≡ Err c.in_err-rect.field-0.0 = search rules in
-    e ∙ refused _ _ _ (left_not _ _ h.outside) h.cause
+    e ∙ refused _ _ _ (no_first _ _ h.outside) h.cause
 
 pub returns-in_err-moved_rect-clause-value : goal.returns-in_err-moved_rect-clause-value
 returns-in_err-moved_rect-clause-value c =

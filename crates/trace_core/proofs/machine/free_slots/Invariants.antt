@@ -1,5 +1,5 @@
 use Rattle.std.proofs.Common.{◌≡◌, replicate}
-use Rattle.trace_parts.specs.declared.slot.Slot.TheVariants.{Free}
+use Rattle.trace_state.specs.declared.slot.Slot.TheVariants.{Free}
 use Rattle.trace_core.proofs.machine.free_slots.Given as goal
 
 abbrev pub invariant-loop : goal.invariant-loop

@@ -1,6 +1,6 @@
 use Rattle.std.proofs.Common.{sym, ◌∙◌}
-use Rattle.trace_model.specs.Next.{same_patch}
-use Rattle.trace_parts.proofs.Passes.{found_here, not_here}
+use Rattle.machine_model.specs.Next.{same_patch}
+use Rattle.trace_state.proofs.Passes.{found_here, not_here}
 use Rattle.trace_core.proofs.walks.place_of.Goals as goal
 
 pub returns-then-same_patch-clause-some : goal.returns-then-same_patch-clause-some

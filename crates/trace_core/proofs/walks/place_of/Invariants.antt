@@ -1,5 +1,5 @@
 use Rattle.std.proofs.Common.{◌≡◌, ◌+◌, drop}
-use Rattle.trace_model.specs.Next.{place_of}
+use Rattle.machine_model.specs.Next.{place_of}
 use Rattle.trace_core.proofs.walks.place_of.Given as goal
 
 -- it is not among the patches so far

@@ -2,7 +2,7 @@ use Rattle.std.proofs.Common.{◌≡◌, ◌<◌, ◌≤◌, take, length, Some,
 use Rattle.std.specs.Prelude.{slice_get}
 use Rattle.std.proofs.lemmas.Option.{slice_get_read}
 use Rattle.machine_model.proofs.Lists.{each_get}
-use Rattle.desk_parts.proofs.SettlingRuns.{fed_stays}
+use Rattle.desk_state.proofs.SettlingRuns.{fed_stays}
 use Rattle.script_forms.specs.Ranges.{in_range}
 use Rattle.trace_out.proofs.Events.{none_written, written_then}
 use Rattle.trace_out.proofs.Whole.{commands_fit}

@@ -1,6 +1,6 @@
 use Rattle.std.proofs.Common.{Ok, sym, ap, subst}
 use Rattle.machine_model.specs.Settled.{IsSettled}
-use Rattle.desk_parts.proofs.SettlingRuns.{stay_closed}
+use Rattle.desk_state.proofs.SettlingRuns.{stay_closed}
 use Rattle.trace_out.specs.declared.scribe.Scribe.{Scribe}
 use Rattle.trace_out.proofs.Resting.{rests_settled}
 use Rattle.trace_out.proofs.Going.{orderly_by, settles_first, settles_more, settles_still, writing_less}

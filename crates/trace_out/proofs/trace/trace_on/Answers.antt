@@ -7,7 +7,7 @@ use Rattle.machine_model.specs.State.{State, new_state}
 use Rattle.trace_lines.specs.Texts.{head_text}
 use Rattle.trace_out.specs.Writing.{Writes}
 use Rattle.trace_out.specs.Traces.{IsTraceOf}
-use Rattle.desk_parts.proofs.SettlingRuns.{fed_stays}
+use Rattle.desk_state.proofs.SettlingRuns.{fed_stays}
 use Rattle.trace_out.proofs.Events.{written_then}
 use Rattle.trace_out.proofs.Whole.{from_new, is_trace, limits_of}
 use Rattle.trace_out.proofs.Feeding.{closed_in}

@@ -4,11 +4,11 @@ use Rattle.std.proofs.lemmas.Bool.Decides.{nat_tests}
 use Rattle.std.specs.Prelude.{slice_get, slice_set}
 use Rattle.geom_core.specs.Overlaps.{bound}
 use Rattle.doc_model.specs.declared.canvas.Patch.{Patch}
-use Rattle.doc_model.proofs.Patches.{length_map}
 use Rattle.doc_model.specs.Updates.{has_place, patch, merged}
 use Rattle.update_queue.proofs.Elements.{position_any, position_none, position-Some, position-None, refilled}
 use Rattle.update_queue.proofs.Joining.{fits, widened_is}
 use Rattle.update_queue.proofs.places.add_part.Goals as goal
+use Rattle.geom_core.proofs.Tests.{length_map}
 
 pub returns-then-is_full-clause-merged : goal.returns-then-is_full-clause-merged
 returns-then-is_full-clause-merged c =

@@ -11,10 +11,11 @@ use Rattle.walker_core.specs.Readings.{path_in}
 use Rattle.walker_core.specs.Rows.{given_values, values_of}
 use Rattle.walker_core.specs.Views.{children_in, child_of}
 use Rattle.walker_core.proofs.Kept.{value_composed}
-use Rattle.walker_core.proofs.Laid.{source_laid, source_passed, unseen, test_of, test_off}
+use Rattle.walker_core.proofs.Laid.{source_laid, source_passed, unseen, test_off}
 use Rattle.compose_core.proofs.SpotPoints.{spot_held}
 use Rattle.walker_core.proofs.row.compose_group.Goals as goal
 use Rattle.walker_core.proofs.row.compose_group.Goals.{then-source-group+then-source+in_ok-add_child, else-source-group, else-source-group-via-then-source-group+else-source, else-source-group-via-else-source-group}
+use Rattle.std.proofs.lemmas.Bool.{eq-eqb}
 
 pub loop-source-init : goal.loop-source-init
 loop-source-init c = (c.clear.ensures.known, (λ p h k. c.clear.ensures.clear p))
@@ -25,13 +26,13 @@ loop-source-preserved c = elim c.if-source-group.branch [
     subst IsPile (sym w.pile-is) w.in_ok-add_child.ensures.known,
     (λ p h k. ap (λ q. pile_at q p) w.pile-is ∙ w.in_ok-add_child.ensures.laid p h k
         ∙ ap (λ b. with_look c.source-item.result.look (value_in (given_values c.args.below.now.path.now c.args.below.now.given.now [] p) (child_of c.patch-rect.result.rect c.source-item.result) p) b) (c.loop-source.invariant.1 p h k)
-        ∙ sym (source_laid c.patch-rect.result.rect (get_or c.path-path.result.now (length c.args.below.now.given.now) 0) c.sources-sources.result.now c.loop-source.source-index c.source-item.result _ p (omega arith) c.source-item.is (test_of _ _ w.if-source-group.true))),
+        ∙ sym (source_laid c.patch-rect.result.rect (get_or c.path-path.result.now (length c.args.below.now.given.now) 0) c.sources-sources.result.now c.loop-source.source-index c.source-item.result _ p (omega arith) c.source-item.is (eq-eqb _ _ w.if-source-group.true))),
   )
   | else-source-group w ↦ elim w.else-source-group.branch [
     | else-source-group-via-then-source-group+else-source v ↦ (
       subst IsPile (sym w.pile-is) c.loop-source.invariant.0,
       (λ p h k. ap (λ q. pile_at q p) w.pile-is ∙ c.loop-source.invariant.1 p h k
-          ∙ sym (source_laid c.patch-rect.result.rect (get_or c.path-path.result.now (length c.args.below.now.given.now) 0) c.sources-sources.result.now c.loop-source.source-index c.source-item.result _ p (omega arith) c.source-item.is (test_of _ _ v.if-source-group.true) ∙ unseen c.source-item.result.look _ _ v.if-source.false)),
+          ∙ sym (source_laid c.patch-rect.result.rect (get_or c.path-path.result.now (length c.args.below.now.given.now) 0) c.sources-sources.result.now c.loop-source.source-index c.source-item.result _ p (omega arith) c.source-item.is (eq-eqb _ _ v.if-source-group.true) ∙ unseen c.source-item.result.look _ _ v.if-source.false)),
     )
     | else-source-group-via-else-source-group v ↦ (
       subst IsPile (sym w.pile-is) c.loop-source.invariant.0,

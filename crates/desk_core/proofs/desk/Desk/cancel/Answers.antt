@@ -1,7 +1,7 @@
 use Rattle.desk_core.proofs.Tracking.{anew_tracks}
 use Rattle.machine_model.proofs.RunsSound.{step_keeps_sound}
 use Rattle.std.proofs.Common.{subst, sym}
-use Rattle.desk_parts.specs.Enabled.{Enabled}
+use Rattle.desk_state.specs.Enabled.{Enabled}
 use Rattle.machine_model.specs.Event.{Cancel}
 use Rattle.desk_core.proofs.desk.Desk.cancel.Goals as goal
 

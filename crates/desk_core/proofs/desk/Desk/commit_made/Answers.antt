@@ -1,4 +1,4 @@
-use Rattle.desk_parts.proofs.SettlingRuns.{canvas_stays, fed_stays}
+use Rattle.desk_state.proofs.SettlingRuns.{canvas_stays, fed_stays}
 use Rattle.desk_core.proofs.Committing.{commit_settles}
 use Rattle.desk_core.proofs.desk.Desk.commit_made.Goals as goal
 

@@ -1,7 +1,7 @@
 use Rattle.std.proofs.Common.{refl}
 use Rattle.machine_model.specs.Event.{Publish, End, WalkEnd}
-use Rattle.desk_parts.proofs.SettlingRuns.{goes_on}
-use Rattle.desk_machine.proofs.OwnTiles.{tile_goes}
+use Rattle.desk_state.proofs.SettlingRuns.{goes_on}
+use Rattle.desk_events.proofs.OwnTiles.{tile_goes}
 use Rattle.desk_core.proofs.Telling.{walks_track}
 use Rattle.desk_core.proofs.Tracking.{then_tracks, result_tracks}
 use Rattle.desk_core.proofs.desk.Desk.do_own.Goals as goal

@@ -1,9 +1,10 @@
 use Rattle.std.proofs.Common.{refl, sym, ◌∙◌}
 use Rattle.machine_model.specs.Event.{End, WalkEnd}
-use Rattle.desk_parts.proofs.Ends.{ends_own, walk_ends_own}
-use Rattle.desk_machine.proofs.Ending.{job_is_end, walk_is_end, neither_ends, never}
+use Rattle.desk_state.proofs.Ends.{ends_own, walk_ends_own}
+use Rattle.desk_events.proofs.Ending.{job_is_end, walk_is_end, neither_ends}
 use Rattle.desk_core.proofs.Tracking.{then_tracks}
 use Rattle.desk_core.proofs.desk.Desk.end.Goals as goal
+use Rattle.geom_core.proofs.Tests.{never}
 
 pub invariant_of-self : goal.invariant_of-self
 invariant_of-self c = then_tracks c.self.inside.machine c.end_job.new.self (End c.args.slot.place) c.self.inside.damage.value c.self.inside.calm refl c.end_job.ensures c.self.invariant

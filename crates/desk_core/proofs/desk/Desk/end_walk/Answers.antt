@@ -1,7 +1,7 @@
 use Rattle.std.proofs.Common.{subst, sym, ap, ◌∙◌, ◌≡◌, ◌⊎◌, false, true}
 use Rattle.std.specs.Prelude.{IsSomeAnd}
 use Rattle.geom_core.specs.Areas.{holds, Point}
-use Rattle.desk_parts.specs.Enabled.{Enabled}
+use Rattle.desk_state.specs.Enabled.{Enabled}
 use Rattle.doc_model.specs.Picture.{canvas_area}
 use Rattle.machine_model.specs.Event.{WalkEnd}
 use Rattle.tile_core.specs.Damage.{is_damaged}

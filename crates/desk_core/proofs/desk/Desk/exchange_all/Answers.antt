@@ -1,7 +1,7 @@
 use Rattle.std.proofs.Common.{◌≡◌, Some, length, refl, sym, subst, arith}
 use Rattle.std.specs.Prelude.{slice_get}
 use Rattle.std.proofs.lemmas.Option.{slice_get_read}
-use Rattle.desk_machine.specs.Commits.{RunsFront}
+use Rattle.desk_events.specs.Commits.{RunsFront}
 use Rattle.desk_core.specs.Commits.{commit_events}
 use Rattle.desk_core.proofs.Committing.{tiles_front, takes_first, at_index, commits_rest, next_run, whole_run, none_left, prior_at, prior_stays}
 use Rattle.desk_core.proofs.desk.Desk.exchange_all.Goals as goal

@@ -1,7 +1,7 @@
 use Rattle.std.proofs.Common.{◌≡◌, ℕ, Some, take, drop}
 use Rattle.machine_model.specs.Step.{Run}
-use Rattle.desk_machine.specs.Commits.{MayCommit}
-use Rattle.desk_machine.specs.Sparing.{ArePrior}
+use Rattle.desk_events.specs.Commits.{MayCommit}
+use Rattle.desk_events.specs.Sparing.{ArePrior}
 use Rattle.desk_core.specs.Commits.{commit_events}
 use Rattle.desk_core.proofs.desk.Desk.exchange_all.Given as goal
 

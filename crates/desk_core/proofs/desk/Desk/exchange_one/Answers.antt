@@ -1,6 +1,6 @@
 use Rattle.std.proofs.Common.{refl, sym, subst}
 use Rattle.machine_model.specs.Event.{Publish}
-use Rattle.desk_machine.specs.Sparing.{IsPriorAt}
+use Rattle.desk_events.specs.Sparing.{IsPriorAt}
 use Rattle.desk_core.proofs.Tracking.{result_tracks}
 use Rattle.desk_core.proofs.desk.Desk.exchange_one.Goals as goal
 

@@ -6,8 +6,8 @@ use Rattle.doc_model.specs.Strokes.{entries}
 use Rattle.machine_model.specs.State.{State, is_free}
 use Rattle.machine_model.specs.Settled.{IsSettled}
 use Rattle.machine_model.specs.Sound.{IsOrderly}
-use Rattle.desk_parts.specs.Settles.{GoesOn}
-use Rattle.desk_machine.specs.SmallJobs.{PaintsSmall}
+use Rattle.desk_state.specs.Settles.{GoesOn}
+use Rattle.desk_events.specs.SmallJobs.{PaintsSmall}
 use Rattle.desk_core.proofs.SmallJobs.{small_goes}
 use Rattle.desk_core.proofs.desk.Desk.paint_or_take.Goals as goal
 

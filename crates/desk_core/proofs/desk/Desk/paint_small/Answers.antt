@@ -2,8 +2,8 @@ use Rattle.std.proofs.Common.{sym, ap, ◌∙◌, subst}
 use Rattle.std.specs.Prelude.{IfSome}
 use Rattle.geom_core.specs.Rects.{any_holds}
 use Rattle.tile_core.specs.Damage.{is_damaged}
-use Rattle.desk_parts.proofs.SettlingRuns.{canvas_stays, fed_stays}
-use Rattle.desk_machine.specs.SmallJobs.{PaintsSmall}
+use Rattle.desk_state.proofs.SettlingRuns.{canvas_stays, fed_stays}
+use Rattle.desk_events.specs.SmallJobs.{PaintsSmall}
 use Rattle.desk_core.proofs.SmallDamage.{small_tracks}
 use Rattle.desk_core.proofs.SmallJobs.{small_settles}
 use Rattle.desk_core.proofs.desk.Desk.paint_small.Goals as goal

@@ -1,6 +1,6 @@
 use Rattle.std.proofs.Common.{Ok, ap, ◌∙◌}
 use Rattle.machine_model.specs.State.{State}
-use Rattle.desk_parts.proofs.SettlingRuns.{settles_then, canvas_stays, fed_stays, stay_closed, goes_less}
+use Rattle.desk_state.proofs.SettlingRuns.{settles_then, canvas_stays, fed_stays, stay_closed, goes_less}
 use Rattle.desk_core.proofs.desk.Desk.settle.Goals as goal
 
 pub returns-in_err-go_on-clause-runs : goal.returns-in_err-go_on-clause-runs

@@ -3,7 +3,7 @@ use Rattle.std.specs.List.{list_all}
 use Rattle.doc_model.specs.Feeding.{is_closed_entry}
 use Rattle.doc_model.specs.Strokes.{entries}
 use Rattle.machine_model.specs.Remaining.{left}
-use Rattle.desk_parts.specs.Settles.{Settles}
+use Rattle.desk_state.specs.Settles.{Settles}
 use Rattle.desk_core.proofs.desk.Desk.settle.Given as goal
 
 -- events other than feeding led here, and each stroke is closed

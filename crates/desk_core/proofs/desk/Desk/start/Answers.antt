@@ -3,7 +3,7 @@ use Rattle.std.proofs.Common.{ap, ◌∙◌}
 use Rattle.geom_core.specs.Rects.{any_holds}
 use Rattle.desk_core.proofs.Tracking.{start_tracks}
 use Rattle.std.proofs.Common.{subst, sym}
-use Rattle.desk_parts.specs.Enabled.{Enabled}
+use Rattle.desk_state.specs.Enabled.{Enabled}
 use Rattle.machine_model.specs.Event.{Start}
 use Rattle.desk_core.proofs.desk.Desk.start.Goals as goal
 

@@ -1,8 +1,8 @@
 use Rattle.std.proofs.Common.{refl, subst}
 use Rattle.machine_model.specs.Event.{Init, Start, Finish, Cancel, Act}
-use Rattle.desk_parts.specs.Enabled.{Enabled}
-use Rattle.desk_parts.proofs.Wanting.{init_wants, start_wants, act_wants}
-use Rattle.desk_machine.proofs.StepCounts.{on_err, plus_none}
+use Rattle.desk_state.specs.Enabled.{Enabled}
+use Rattle.desk_state.proofs.Wanting.{init_wants, start_wants, act_wants}
+use Rattle.desk_events.proofs.StepCounts.{on_err, plus_none}
 use Rattle.desk_core.proofs.Tracking.{then_tracks, result_tracks}
 use Rattle.desk_core.proofs.desk.Desk.take.Goals as goal
 

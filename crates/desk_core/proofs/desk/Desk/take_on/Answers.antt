@@ -1,6 +1,6 @@
 use Rattle.std.proofs.Common.{Ok, refl, ap, ◌∙◌}
 use Rattle.machine_model.specs.Event.{Start, WalkStart}
-use Rattle.desk_parts.proofs.SettlingRuns.{goes_on, goes_at_once, never_idle}
+use Rattle.desk_state.proofs.SettlingRuns.{goes_on, goes_at_once, never_idle}
 use Rattle.desk_core.proofs.desk.Desk.take_on.Goals as goal
 
 pub unreachable-requires : goal.unreachable-requires

@@ -1,8 +1,9 @@
-use Rattle.std.proofs.Common.{refl, sym, subst}
-use Rattle.desk_parts.specs.Choices.{CanWalk, HeadWaits}
-use Rattle.desk_parts.proofs.SettlingRuns.{idle_waits}
-use Rattle.desk_parts.proofs.Wanting.{walk_wants}
-use Rattle.desk_machine.proofs.StepCounts.{on_err}
+use Rattle.std.proofs.Common.{refl, sym, ◌∙◌, subst}
+use Rattle.geom_core.proofs.Tests.{never}
+use Rattle.desk_state.specs.Choices.{CanWalk, HeadWaits}
+use Rattle.desk_state.proofs.SettlingRuns.{idle_waits}
+use Rattle.desk_state.proofs.Wanting.{walk_wants}
+use Rattle.desk_events.proofs.StepCounts.{on_err}
 use Rattle.desk_core.proofs.desk.Desk.take_walk.Goals as goal
 
 pub returns-in_err-start_walk-in-Some-clause-err : goal.returns-in_err-start_walk-in-Some-clause-err
@@ -11,8 +12,8 @@ returns-in_err-start_walk-in-Some-clause-err c =
     on_err c.from_residual.result (walk_wants c.args.self.now c.in-Some.place can.patch c.requires can.enabled, c.in_err-start_walk-in-Some.ensures.err)
 
 pub returns-else-is_settled-clause-idle : goal.returns-else-is_settled-clause-idle
-returns-else-is_settled-clause-idle c = rw (← c.self.view_is) (λ e. (record { unsettled = c.is_settled.ensures.no c.if-is_settled.false; head = subst HeadWaits (sym c.self.view_is) c.requires; walks = c.in-None.ensures.none }, refl))
+returns-else-is_settled-clause-idle c = rw (← c.self.view_is) (λ e. (record { unsettled = λ p. never (sym c.if-is_settled.false ∙ c.is_settled.ensures.1 p); head = subst HeadWaits (sym c.self.view_is) c.requires; walks = c.in-None.ensures.none }, refl))
 
 pub returns-else-is_settled-clause-stuck : goal.returns-else-is_settled-clause-stuck
 returns-else-is_settled-clause-stuck c = rw (← c.self.view_is) (λ e free. idle_waits c.self.inside.machine c.tell_sound.ensures.orderly free
-    (record { unsettled = c.is_settled.ensures.no c.if-is_settled.false; head = subst HeadWaits (sym c.self.view_is) c.requires; walks = c.in-None.ensures.none }))
+    (record { unsettled = λ p. never (sym c.if-is_settled.false ∙ c.is_settled.ensures.1 p); head = subst HeadWaits (sym c.self.view_is) c.requires; walks = c.in-None.ensures.none }))

@@ -1,5 +1,5 @@
 use Rattle.std.proofs.Common.{◌≡◌, Ok, ◌∷◌, refl, sym, ap, ◌∙◌, arith}
-use Rattle.desk_steps.specs.declared.entry.Entry.TheVariants as entry
+use Rattle.desk_steps.specs.declared.entry.HistoryEntry.TheVariants as entry
 use Rattle.desk_steps.specs.Archives.{Archive}
 use Rattle.desk_steps.specs.Slots.{standing}
 use Rattle.desk_steps.specs.Documents.{arranged, doc_in}

@@ -1,6 +1,6 @@
 use Rattle.std.proofs.Common.{◌≡◌, ◌++◌, ◌∷◌, [], drop, sym, ap, subst, ◌∙◌}
 use Rattle.std.specs.Prelude.{OnOk}
-use Rattle.live_view.specs.declared.update.Op.TheVariants.{Lay, Mark}
+use Rattle.live_view.specs.declared.update.WallChange.TheVariants.{Lay, Mark}
 use Rattle.live_view.specs.Rule.{Stands}
 use Rattle.live_view.specs.Walls.{updates_in}
 use Rattle.live_view.proofs.Keeping.{appended, came_back, stands_as, puts_as, pending_more}

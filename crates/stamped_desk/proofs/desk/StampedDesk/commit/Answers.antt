@@ -1,8 +1,8 @@
 use Rattle.std.proofs.Common.{◌≡◌, List, sym, ap, ◌∙◌, subst}
 use Rattle.whole_tiles.specs.Wholes.{Entire}
-use Rattle.desk_machine.specs.declared.tickets.SlotId.{SlotId}
-use Rattle.desk_machine.specs.Commits.{AreOfWork}
-use Rattle.desk_machine.specs.Sparing.{ArePrior}
+use Rattle.desk_events.specs.declared.tickets.SlotId.{SlotId}
+use Rattle.desk_events.specs.Commits.{AreOfWork}
+use Rattle.desk_events.specs.Sparing.{ArePrior}
 use Rattle.stamped_desk.specs.Stamped.{Batch, batch}
 use Rattle.stamped_desk.proofs.Drawing.{settles_draws, batch_known}
 use Rattle.stamped_desk.proofs.desk.StampedDesk.commit.Goals as goal

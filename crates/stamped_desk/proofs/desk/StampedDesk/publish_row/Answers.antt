@@ -1,6 +1,6 @@
 use Rattle.std.proofs.Common.{sym, ap, ◌∙◌, subst}
-use Rattle.desk_machine.specs.declared.tickets.WalkTicket.{WalkTicket}
-use Rattle.desk_machine.specs.Commits.{ReadsAsWork}
+use Rattle.desk_events.specs.declared.tickets.WalkTicket.{WalkTicket}
+use Rattle.desk_events.specs.Commits.{ReadsAsWork}
 use Rattle.stamped_desk.proofs.Drawing.{settles_draws, walk_known}
 use Rattle.stamped_desk.proofs.desk.StampedDesk.publish_row.Goals as goal
 

@@ -6,8 +6,8 @@ use Rattle.std.proofs.lemmas.List.{with_items_is}
 use Rattle.doc_model.specs.Jobs.{writes}
 use Rattle.update_queue.specs.Waiting.{widened_by_all}
 use Rattle.update_queue.proofs.Elements.{read_at}
-use Rattle.trace_parts.specs.declared.slot.Slot.TheVariants.{Free, Paints}
-use Rattle.trace_parts.specs.Trees.{group_of}
+use Rattle.trace_state.specs.declared.slot.Slot.TheVariants.{Free, Paints}
+use Rattle.trace_state.specs.Trees.{group_of}
 use Rattle.trace_core.specs.Outline.{Outline}
 use Rattle.trace_core.specs.Parts.{parts}
 use Rattle.trace_core.proofs.Works.{ends}

@@ -4,7 +4,7 @@ use Rattle.std.specs.Option.{option_copied}
 use Rattle.std.specs.Vec.{with_items}
 use Rattle.std.proofs.lemmas.List.{with_items_is}
 use Rattle.update_queue.proofs.Elements.{read_at}
-use Rattle.trace_parts.specs.declared.slot.Slot.TheVariants.{Free, Walks}
+use Rattle.trace_state.specs.declared.slot.Slot.TheVariants.{Free, Walks}
 use Rattle.trace_core.specs.Outline.{Outline}
 use Rattle.trace_core.specs.Parts.{parts}
 use Rattle.trace_core.proofs.Works.{walk_ends}

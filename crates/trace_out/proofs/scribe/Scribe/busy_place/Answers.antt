@@ -2,8 +2,8 @@ use Rattle.std.proofs.Common.{◌≡◌, ◌≤◌, map, length, sym, ap, ◌∙
 use Rattle.std.specs.List.{list_all}
 use Rattle.std.proofs.lemmas.List.{length-map}
 use Rattle.machine_model.specs.State.{is_free}
-use Rattle.desk_parts.specs.Parts.{slot_of}
-use Rattle.desk_machine.proofs.FreeSlots.{free_next}
+use Rattle.desk_state.specs.Parts.{slot_of}
+use Rattle.desk_events.proofs.FreeSlots.{free_next}
 use Rattle.trace_out.proofs.Busy.{busy_at, all_passed}
 use Rattle.trace_out.proofs.scribe.Scribe.busy_place.Goals as goal
 

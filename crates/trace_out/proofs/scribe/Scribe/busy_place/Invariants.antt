@@ -1,7 +1,7 @@
 use Rattle.std.proofs.Common.{◌≡◌, drop, map}
 use Rattle.std.specs.List.{list_all}
 use Rattle.machine_model.specs.State.{is_free}
-use Rattle.desk_parts.specs.Parts.{slot_of}
+use Rattle.desk_state.specs.Parts.{slot_of}
 use Rattle.trace_out.proofs.scribe.Scribe.busy_place.Given as goal
 
 -- all so far are free

@@ -1,6 +1,6 @@
 use Rattle.std.proofs.Common.{sym}
-use Rattle.desk_parts.specs.Parts.{walker_of}
-use Rattle.desk_parts.specs.After.{busy_walker}
+use Rattle.desk_state.specs.Parts.{walker_of}
+use Rattle.desk_state.specs.After.{busy_walker}
 use Rattle.trace_out.proofs.Ties.{lent_runs}
 use Rattle.trace_out.proofs.Enabling.{walk_may_end}
 use Rattle.trace_out.proofs.scribe.Scribe.compose_at.Goals as goal

@@ -1,7 +1,7 @@
 use Rattle.std.proofs.Common.{sym, ap, ◌∙◌, subst, ◌-◌, Some, None}
 use Rattle.std.specs.Prelude.{slice_set}
 use Rattle.slot_core.specs.Busy.{busy}
-use Rattle.desk_parts.specs.declared.work.Work.TheVariants.{Paint}
+use Rattle.desk_state.specs.declared.work.Work.TheVariants.{Paint}
 use Rattle.trace_out.specs.Writing.{IsTied}
 use Rattle.trace_out.proofs.scribe.Scribe.hold_job.Goals as goal
 

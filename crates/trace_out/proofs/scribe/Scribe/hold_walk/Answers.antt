@@ -2,7 +2,7 @@ use Rattle.std.proofs.Common.{sym, ap, ◌∙◌, subst, Some}
 use Rattle.std.specs.Prelude.{slice_set}
 use Rattle.slot_core.specs.Busy.{busy}
 use Rattle.script_lines.proofs.FieldLemmas.{both}
-use Rattle.desk_parts.specs.declared.work.Work.TheVariants.{Walk}
+use Rattle.desk_state.specs.declared.work.Work.TheVariants.{Walk}
 use Rattle.trace_out.specs.Writing.{IsTied}
 use Rattle.trace_out.proofs.scribe.Scribe.hold_walk.Goals as goal
 

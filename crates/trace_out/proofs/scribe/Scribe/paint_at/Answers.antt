@@ -1,6 +1,6 @@
 use Rattle.std.proofs.Common.{sym}
-use Rattle.desk_parts.specs.Parts.{painter_of}
-use Rattle.desk_parts.specs.After.{busy_painter}
+use Rattle.desk_state.specs.Parts.{painter_of}
+use Rattle.desk_state.specs.After.{busy_painter}
 use Rattle.trace_out.proofs.Ties.{lent_runs}
 use Rattle.trace_out.proofs.Enabling.{lent_kept, job_may_end}
 use Rattle.trace_out.proofs.Going.{orderly_by}

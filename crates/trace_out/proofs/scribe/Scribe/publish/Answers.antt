@@ -1,6 +1,6 @@
 use Rattle.std.proofs.Common.{Some, ap, ◌∙◌}
 use Rattle.std.specs.Prelude.{slice_set}
-use Rattle.desk_parts.specs.After.{busy_painter}
+use Rattle.desk_state.specs.After.{busy_painter}
 use Rattle.trace_out.proofs.Ties.{lent_runs}
 use Rattle.trace_out.proofs.Enabling.{lent_kept}
 use Rattle.trace_out.proofs.Tiles.{tile_written}

@@ -3,7 +3,7 @@ use Rattle.std.specs.Prelude.{slice_set}
 use Rattle.slot_core.specs.Busy.{busy}
 use Rattle.doc_model.specs.declared.canvas.Patch.{Patch}
 use Rattle.walker_core.specs.Readings.{Readings}
-use Rattle.desk_parts.specs.declared.work.Work.TheVariants.{Walk}
+use Rattle.desk_state.specs.declared.work.Work.TheVariants.{Walk}
 use Rattle.trace_out.specs.Writing.{IsTied}
 use Rattle.trace_out.proofs.scribe.Scribe.publish_groups.Goals as goal
 

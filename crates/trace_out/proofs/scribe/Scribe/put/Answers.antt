@@ -1,5 +1,5 @@
 use Rattle.std.proofs.Common.{◌<◌, Ok, refl, ap, ◌∙◌, arith}
-use Rattle.desk_parts.specs.After.{busy_walker}
+use Rattle.desk_state.specs.After.{busy_walker}
 use Rattle.trace_out.specs.Lent.{walk_of}
 use Rattle.trace_out.proofs.Ties.{lent_runs}
 use Rattle.trace_out.proofs.Enabling.{walk_takes}

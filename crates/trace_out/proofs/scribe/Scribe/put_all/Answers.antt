@@ -3,8 +3,8 @@ use Rattle.std.specs.List.{list_any}
 use Rattle.geom_core.specs.Grid.{same_key, keys_of}
 use Rattle.walker_core.specs.Readings.{Readings}
 use Rattle.walker_core.specs.Composing.{Composition}
-use Rattle.desk_parts.specs.declared.work.Walker.{Walker}
-use Rattle.desk_parts.specs.After.{busy_walker}
+use Rattle.desk_state.specs.declared.work.Walker.{Walker}
+use Rattle.desk_state.specs.After.{busy_walker}
 use Rattle.trace_out.specs.Lent.{IsLent, LacksPair}
 use Rattle.trace_out.proofs.Going.{put_then}
 use Rattle.trace_out.proofs.scribe.Scribe.put_all.Goals as goal

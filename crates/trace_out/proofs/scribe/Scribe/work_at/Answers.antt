@@ -1,7 +1,7 @@
 use Rattle.std.proofs.Common.{Some, sym, ap, ◌∙◌, subst}
-use Rattle.desk_parts.specs.After.{busy_painter, busy_walker}
-use Rattle.desk_parts.proofs.Places.{painting_at}
-use Rattle.desk_parts.proofs.WalkPlaces.{walking_at}
+use Rattle.desk_state.specs.After.{busy_painter, busy_walker}
+use Rattle.desk_state.proofs.Places.{painting_at}
+use Rattle.desk_state.proofs.WalkPlaces.{walking_at}
 use Rattle.trace_out.specs.Lent.{IsLent}
 use Rattle.trace_out.proofs.Ties.{lent_at}
 use Rattle.trace_out.proofs.Busy.{not_busy}

@@ -1,9 +1,0 @@
-use Rattle.std.proofs.Common.{◌≡◌, length}
-use Rattle.across.specs.Tellings.{HasCome}
-use Rattle.across.proofs.plain.plain_frames.Given as goal
-
-abbrev pub invariant-loop-entry : goal.invariant-loop-entry
-invariant-loop-entry l = HasCome l.script.commands l.telling l.queue × (l.telling.canvas ≡ l.script.canvas)
-
-abbrev pub decreases-loop-entry : goal.decreases-loop-entry
-decreases-loop-entry l = length l.queue.left

@@ -1,0 +1,17 @@
+use Rattle.std.proofs.Common.{refl, sym, ap, ◌∙◌, subst}
+use Rattle.machine_model.specs.State.{head}
+use Rattle.machine_model.specs.Event.{Act}
+use Rattle.desk_state.specs.Enabled.{Enabled}
+use Rattle.desk_state.proofs.ActDoing.{redo_none_does}
+use Rattle.desk_events.specs.Kept.{parts_of}
+use Rattle.desk_events.proofs.ActsMove.{redo_moves}
+use Rattle.desk_events.proofs.machine.Machine.redo.Goals as goal
+
+pub invariant_of-self : goal.invariant_of-self
+invariant_of-self g c = (redo_moves (parts_of c.self.inside) c.in-Some.reach c.pop.new.self c.redo.new.self c.move_by.new.filmed.caches c.move_by.new.updates c.move_by.new.filmed.frames c.self.invariant
+    (subst (λ s. Enabled s Act) (sym c.self.view_is) c.requires.enabled) (ap head c.self.view_is ∙ c.requires.head) (record { left = c.pop.ensures.left; outcomes = c.pop.ensures.outcomes }) c.redo.ensures.new c.in-Some.ensures.reach
+    (record { caches = c.move_by.ensures.caches; updates = c.move_by.ensures.updates; frames_stay = c.move_by.ensures.frames })).desk
+
+pub invariant_of-self-in-None : goal.invariant_of-self-in-None
+invariant_of-self-in-None g c = (redo_none_does (parts_of c.self.inside) c.pop-in-None.new.self c.redo.new.self c.self.invariant
+    (subst (λ s. Enabled s Act) (sym c.self.view_is) c.requires.enabled) (ap head c.self.view_is ∙ c.requires.head) (c.in-None.ensures.none.0 refl) (record { left = c.pop-in-None.ensures.left; outcomes = c.pop-in-None.ensures.outcomes }) c.redo.ensures.new).desk

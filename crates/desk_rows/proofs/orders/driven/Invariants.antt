@@ -1,4 +1,0 @@
-use Rattle.desk_rows.proofs.orders.driven.Given as goal
-
-abbrev pub ghosts-drives_well : goal.ghosts-drives_well
-ghosts-drives_well a = record { name = a.blank.name; parts = a.blank.parts }

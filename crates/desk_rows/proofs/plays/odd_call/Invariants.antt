@@ -1,4 +1,0 @@
-use Rattle.desk_rows.proofs.plays.odd_call.Given as goal
-
-abbrev pub ghosts-first_of : goal.ghosts-first_of
-ghosts-first_of a = record { name = a.blank.name; parts = a.blank.parts }

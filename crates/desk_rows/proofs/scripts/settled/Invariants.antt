@@ -1,4 +1,0 @@
-use Rattle.desk_rows.proofs.scripts.settled.Given as goal
-
-abbrev pub ghosts-settle_on : goal.ghosts-settle_on
-ghosts-settle_on a = record { name = a.blank.name; parts = a.blank.parts }

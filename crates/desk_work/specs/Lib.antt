@@ -1,5 +1,0 @@
-pub mod LaidTiles
-pub mod Lacking
-pub mod OfWalk
-pub mod Filmed
-pub mod Gathering

@@ -1,0 +1,46 @@
+//! Work that a thread holds.
+
+ghost use Rattle.std.specs.Prelude.{◌≡◌};
+ghost use Rattle.host_desk.specs.Pieces.{Worked, worked};
+
+use crate::job_piece::JobPiece;
+use crate::walk_piece::WalkPiece;
+use geom_core::NoMemory;
+use host_lines::Answer;
+use std::alloc::Global;
+
+/// A piece of work, or none.
+#[derive(Drop)]
+pub enum Piece {
+    /// It has no work.
+    Empty,
+    /// A job to be painted.
+    Job(JobPiece),
+    /// A patch to be composed anew.
+    Walk(WalkPiece),
+}
+
+impl Piece {
+    /// Does its work: it paints the tiles of a job that aren't painted yet, or composes the tiles of a walk that
+    /// aren't composed. It answers `Done`, also where all was done before; `Shut` where it has none; `NoMemory`,
+    /// and the same call goes on with what is done so far.
+    pub fn work(&mut self, alloc: Global) -> Answer
+        ensures { Worked self.old result self.new }
+    {
+        match self {
+            Piece::Empty => Answer::Shut,
+            Piece::Job(job) => told(job.work(alloc)),
+            Piece::Walk(walk) => told(walk.work(alloc)),
+        }
+    }
+}
+
+/// The answer to work that may want memory.
+fn told(done: Result<(), NoMemory>) -> Answer
+    ensures { result ≡ worked done }
+{
+    match done {
+        Ok(()) => Answer::Done,
+        Err(_) => Answer::NoMemory,
+    }
+}

@@ -1,0 +1,50 @@
+//! Work goes out.
+
+ghost use Rattle.std.specs.Prelude.{◌≡◌, ◌<◌};
+ghost use Rattle.host_desk.specs.Taking.{Took};
+
+use crate::host::Host;
+use crate::job_piece::JobPiece;
+use crate::piece::Piece;
+use crate::walk_piece::WalkPiece;
+use desk_core::{Taken, settled_has_meaning, settled_shows_picture};
+use host_lines::Answer;
+use memento_core::Steps;
+use std::marker::Brand;
+use std::sync::ledger::{Blank, Ledger};
+
+impl Host {
+    /// Takes what can be done next. There is a piece exactly where it answers `Done`; it wants no memory for the
+    /// piece. `Again`: something was done in the call; `Idle`: nothing can be done before work is given back or
+    /// commands are fed, and with nothing at work only commands help; `Settled`; `NoMemory`, and all is as it was.
+    pub fn take(&mut self) -> (Answer, Piece)
+        ensures { Took self.old result.0 result.1 self.new }
+    {
+        self.take_on::<Brand>(Blank::new(1))
+    }
+
+    /// The same with steps of its own.
+    fn take_on<L: Ledger>(&mut self, blank: Blank) -> (Answer, Piece)
+        requires name { blank.name ≡ L.name }
+        requires parts { blank.parts ≡ L.parts }
+        requires some { 0 < blank.parts }
+        ensures { Took self.old result.0 result.1 self.new }
+    {
+        let mut steps = Steps::<L>::new(blank);
+        match self.desk.take(&mut steps) {
+            Ok(Taken::Paint(ticket)) => (Answer::Done, Piece::Job(JobPiece::new(ticket))),
+            Ok(Taken::Walk(ticket)) => (
+                Answer::Done,
+                Piece::Walk(WalkPiece::new(self.alloc, ticket)),
+            ),
+            Ok(Taken::Did) => (Answer::Again, Piece::Empty),
+            Ok(Taken::Idle) => (Answer::Idle, Piece::Empty),
+            Ok(Taken::Settled) => {
+                settled_has_meaning(&self.desk);
+                settled_shows_picture(&self.desk);
+                (Answer::Settled, Piece::Empty)
+            }
+            Err(_) => (Answer::NoMemory, Piece::Empty),
+        }
+    }
+}

@@ -1,0 +1,4 @@
+pub mod Answers
+pub mod Said
+pub mod Lines
+pub mod Values

@@ -1,0 +1,13 @@
+pub mod Passes
+pub mod KeyLists
+pub mod CacheFrames
+pub mod FilmedRoot
+pub mod SlotPoints
+pub mod PairsLaid
+pub mod ShotsRead
+pub mod Lackings
+pub mod InOrder
+pub mod NextChildren
+pub mod Filling
+pub mod SamePaths
+pub mod Rounding

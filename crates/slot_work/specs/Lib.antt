@@ -1,0 +1,6 @@
+pub mod LaidTiles
+pub mod Lacking
+pub mod OfWalk
+pub mod Filmed
+pub mod Gathering
+pub mod Round

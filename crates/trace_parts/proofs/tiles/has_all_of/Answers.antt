@@ -1,6 +1,0 @@
-use Rattle.std.proofs.Common.{◌∙◌}
-use Rattle.trace_parts.proofs.TileSets.{all_of}
-use Rattle.trace_parts.proofs.tiles.has_all_of.Goals as goal
-
-pub returns : goal.returns
-returns c = c.each_has.ensures ∙ all_of c.args.keys.now c.args.rects.now

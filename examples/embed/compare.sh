@@ -1,0 +1,83 @@
+#!/bin/sh
+# Compares what the hosts of this folder write with what the command writes, byte by byte, and the exit codes.
+#
+#     examples/embed/compare.sh [SCRIPTS [SEED]]
+#
+# The scripts are those of examples/ and SCRIPTS random ones (100), of the seeds from SEED (1) on. Each host paints each of
+# them with 1, 4 and 8 threads. Of the examples and of each tenth random script these are compared too: the picture of the
+# document, as the command's `--emit live` has it, and what was fed, which is read back by the command. PROGRAM is the
+# command, by default ./strokes. What differs is told, and its script is kept below /tmp; then the status is 1.
+here=$(cd "$(dirname "$0")/../.." && pwd) || exit 70
+program=${PROGRAM:-$here/strokes}
+out=$here/out/embed
+scripts=${1:-100} seed=${2:-1}
+[ -x "$out/paint" ] || "$here/examples/embed/build.sh" || exit 70
+tmp=$(mktemp -d) || exit 70
+trap 'rm -rf "$tmp"' EXIT
+trap 'exit 130' INT TERM HUP
+runs=0 odd=0
+
+# is_same WORD..: whether a host, called by these words for the script, writes $tmp/want and ends with the code $want.
+is_same() {
+    runs=$((runs + 1))
+    timeout 120 "$@" <"$script" >"$tmp/got" 2>"$tmp/told"
+    got=$?
+    [ "$got" -eq "$want" ] && cmp -s "$tmp/got" "$tmp/want" && return
+    odd=$((odd + 1))
+    kept=$(mktemp "${TMPDIR:-/tmp}/compare-XXXXXX") && cp "$script" "$kept"
+    echo "ODD $*: code $got for $want, $(wc -c <"$tmp/got") bytes for $(wc -c <"$tmp/want"); script: $kept"
+    head -c 200 "$tmp/told"
+}
+
+# The hosts that are there, as words that THREADS follows.
+hosts() {
+    for name in paint paint_cpp paint_rs; do
+        [ ! -x "$out/$name" ] || echo "$out/$name"
+    done
+    echo "python3 $here/examples/embed/paint.py $out/libstrokes.so"
+}
+
+# What the command writes for the script by these words.
+want() {
+    "$program" "$@" <"$script" >"$tmp/want" 2>/dev/null
+    want=$?
+}
+
+# compare SCRIPT MORE: compares the pictures, and where MORE is 1 the rest.
+compare() {
+    script=$1
+    want
+    hosts >"$tmp/hosts"
+    while read -r host; do
+        for threads in 1 4 8; do
+            # shellcheck disable=SC2086 # (the words of the host)
+            is_same $host "$threads"
+        done
+    done <"$tmp/hosts"
+    is_same "$out/paint" 4 whole
+    [ "$2" -eq 1 ] || return 0
+    "$out/paint" 4 script <"$script" >"$tmp/script"
+    "$program" <"$tmp/script" >"$tmp/again" 2>/dev/null
+    cmp -s "$tmp/again" "$tmp/want" || {
+        odd=$((odd + 1))
+        echo "ODD what paint was fed, of $script: the command paints something else of it"
+    }
+    cp "$tmp/script" "$tmp/want"
+    is_same python3 "$here/examples/embed/paint.py" "$out/libstrokes.so" 4 script
+    want --emit live
+    is_same "$out/paint" 4 live
+    [ ! -x "$out/paint_cpp" ] || is_same "$out/paint_cpp" 4 live
+    is_same python3 "$here/examples/embed/paint.py" "$out/libstrokes.so" 4 live
+}
+
+for it in "$here"/examples/*.strokes; do
+    compare "$it" 1
+done
+number=0
+while [ "$number" -lt "$scripts" ]; do
+    "$here/tools/traces" script $((seed + number)) >"$tmp/random" || exit 70
+    compare "$tmp/random" $((number % 10 == 0))
+    number=$((number + 1))
+done
+echo "compare: $runs runs of hosts, $odd odd"
+[ "$odd" -eq 0 ]

@@ -1,0 +1,121 @@
+#include "crew.h"
+#include <time.h>
+
+/* Takes what can be done next, or goes on with a piece for which memory ended. */
+static strokes_answer take(struct crew *crew, strokes_piece *piece) {
+    strokes_answer told = strokes_take(&crew->desk, piece);
+    if (told == STROKES_OK) crew->out++;
+    if (told == STROKES_IDLE || told == STROKES_SETTLED) crew->rests = crew->out == 0;
+    return told == STROKES_IN_USE ? STROKES_OK : told;
+}
+
+static strokes_answer give(struct crew *crew, strokes_piece *piece) {
+    strokes_rect drawn;
+    strokes_answer told = strokes_give(&crew->desk, piece, &drawn);
+    if (told != STROKES_OK && told != STROKES_STRANGER) return told;
+    crew->out--;
+    if (told == STROKES_OK && drawn.w > 0 && crew->drawn) crew->drawn(crew->whose, drawn);
+    /* It is a stranger where somebody has called strokes_settle meanwhile. */
+    strokes_close_piece(piece);
+    return STROKES_OK;
+}
+
+/* Works on what can be done next, with the lock at the beginning and at the end. */
+static strokes_answer turn(struct crew *crew, strokes_piece *piece) {
+    strokes_answer told = take(crew, piece);
+    if (told != STROKES_OK) return told;
+    pthread_mutex_unlock(&crew->lock);
+    told = strokes_work(piece);
+    pthread_mutex_lock(&crew->lock);
+    return told == STROKES_OK ? give(crew, piece) : told;
+}
+
+static void sleep_a_while(struct crew *crew) {
+    struct timespec until;
+    pthread_cond_broadcast(&crew->changed);
+    clock_gettime(CLOCK_REALTIME, &until);
+    until.tv_nsec += 20000000;
+    if (until.tv_nsec >= 1000000000) until.tv_nsec -= 1000000000, until.tv_sec++;
+    pthread_cond_timedwait(&crew->changed, &crew->lock, &until);
+}
+
+static void *paint(void *it) {
+    struct crew *crew = it;
+    strokes_piece piece = {0};
+    pthread_mutex_lock(&crew->lock);
+    while (!crew->is_over) {
+        switch (turn(crew, &piece)) {
+        case STROKES_OK:
+        case STROKES_AGAIN: pthread_cond_broadcast(&crew->changed); break;
+        case STROKES_NO_MEMORY:
+            crew->lacks = true;
+            sleep_a_while(crew);
+            break;
+        default: pthread_cond_wait(&crew->changed, &crew->lock); /* idle or settled */
+        }
+    }
+    pthread_mutex_unlock(&crew->lock);
+    strokes_close_piece(&piece);
+    return NULL;
+}
+
+void crew_start(struct crew *crew, int threads) {
+    pthread_mutex_init(&crew->lock, NULL);
+    pthread_cond_init(&crew->changed, NULL);
+    crew->is_over = crew->rests = crew->lacks = false;
+    crew->out = 0;
+    crew->threads = 0;
+    while (crew->threads < threads && crew->threads < CREW_MOST &&
+           !pthread_create(&crew->ids[crew->threads], NULL, paint, crew))
+        crew->threads++;
+}
+
+void crew_wake(struct crew *crew) {
+    crew->rests = false;
+    pthread_cond_broadcast(&crew->changed);
+}
+
+strokes_answer crew_feed(struct crew *crew, const char *line, size_t line_len) {
+    pthread_mutex_lock(&crew->lock);
+    strokes_answer told = strokes_feed(&crew->desk, line, line_len);
+    crew_wake(crew);
+    pthread_mutex_unlock(&crew->lock);
+    return told;
+}
+
+strokes_answer crew_rest(struct crew *crew) {
+    strokes_piece piece = {0};
+    pthread_mutex_lock(&crew->lock);
+    crew->lacks = false;
+    do {
+        strokes_answer told = turn(crew, &piece);
+        if (told == STROKES_NO_MEMORY)
+            crew->lacks = true;
+        else if (told == STROKES_OK || told == STROKES_AGAIN)
+            pthread_cond_broadcast(&crew->changed);
+        else if (!crew->rests && !crew->lacks)
+            pthread_cond_wait(&crew->changed, &crew->lock);
+    } while (!crew->rests && !crew->lacks);
+    if (piece.full) crew->out--;
+    strokes_close_piece(&piece);
+    strokes_answer told = crew->rests ? STROKES_OK : STROKES_NO_MEMORY;
+    pthread_mutex_unlock(&crew->lock);
+    return told;
+}
+
+strokes_answer crew_settle(struct crew *crew) {
+    pthread_mutex_lock(&crew->lock);
+    strokes_answer told = strokes_all_closed(&crew->desk);
+    pthread_mutex_unlock(&crew->lock);
+    return told == STROKES_OK ? crew_rest(crew) : told;
+}
+
+void crew_end(struct crew *crew) {
+    pthread_mutex_lock(&crew->lock);
+    crew->is_over = true;
+    pthread_cond_broadcast(&crew->changed);
+    pthread_mutex_unlock(&crew->lock);
+    while (crew->threads > 0) pthread_join(crew->ids[--crew->threads], NULL);
+    pthread_cond_destroy(&crew->changed);
+    pthread_mutex_destroy(&crew->lock);
+}

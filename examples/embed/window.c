@@ -1,0 +1,446 @@
+/* A window to paint in, with SDL2.
+ *
+ *     window [WIDTH HEIGHT [THREADS [LOG]]]
+ *
+ * Left button: paint; Escape meanwhile: the stroke leaves nothing. P, E: pen, eraser. C: the next colour. [ and ]: a smaller, a
+ * larger brush. Z, Y: undo, redo. N: a layer above all; Page up, Page down: paint on the next one above, below; V: hide it or
+ * show it. Wheel: zoom; right button: move the picture. S: save what was fed as picture.strokes. X: write the picture to
+ * picture-1.ppm and so on. Q: end. LOG is a file that gets a line for each dab: the microseconds from the event of the mouse to
+ * the screen. */
+#include "crew.h"
+#include <SDL.h>
+#include <stdarg.h>
+#include <stdio.h>
+#include <stdlib.h>
+#include <string.h>
+
+enum { MOST_LAYERS = 64, WAITING = 256, KEPT_CHANGES = 200 };
+
+struct layer {
+    uint16_t id;
+    bool is_hidden;
+};
+
+struct window {
+    struct crew crew;
+    strokes_canvas canvas;
+    strokes_rect damage; /* under the crew's lock: what is to be drawn anew */
+    uint64_t told;       /* how many outcomes were looked at */
+    Uint32 drawn;        /* the event that wakes the window */
+
+    SDL_Window *window;
+    SDL_Renderer *renderer;
+    SDL_Texture *texture; /* the picture on the paper */
+    strokes_shot shot;
+    uint8_t *row, *pixels;
+    float zoom, left, top; /* where the picture stands in the window */
+
+    struct layer layers[MOST_LAYERS];
+    int layer_count, layer; /* the one that is painted on */
+    strokes_brush brush;
+    uint32_t colour;
+    bool erases, is_down;
+    uint32_t stroke; /* the number of the last one */
+    int x, y;        /* where its last dab stands */
+    int pictures;
+
+    FILE *log;
+    Uint64 since[WAITING]; /* when the dabs were made that aren't on the screen */
+    int waiting;
+};
+
+static void say(struct window *w, const char *form, ...) {
+    char text[160];
+    va_list words;
+    va_start(words, form);
+    vsnprintf(text, sizeof text, form, words);
+    va_end(words);
+    SDL_SetWindowTitle(w->window, text);
+}
+
+/* ---- What threads tell */
+
+static int least(int a, int b) { return a < b ? a : b; }
+static int most(int a, int b) { return a > b ? a : b; }
+
+/* The least rectangle round both. */
+static strokes_rect joined(strokes_rect a, strokes_rect b) {
+    if (a.w == 0) return b;
+    if (b.w == 0) return a;
+    int x = least(a.x, b.x), y = least(a.y, b.y);
+    int right = most(a.x + (int)a.w, b.x + (int)b.w), bottom = most(a.y + (int)a.h, b.y + (int)b.h);
+    return (strokes_rect){x, y, (uint32_t)(right - x), (uint32_t)(bottom - y)};
+}
+
+/* Any thread may wake the window. */
+static void wake(struct window *w) {
+    SDL_Event event = {.type = w->drawn};
+    SDL_PushEvent(&event);
+}
+
+/* Called by a thread that gave something back, under the lock. */
+static void note_drawn(void *whose, strokes_rect rect) {
+    struct window *w = whose;
+    if (w->damage.w == 0) wake(w);
+    w->damage = joined(w->damage, rect);
+}
+
+/* ---- The screen */
+
+/* Copies a rectangle of the shot to the texture. */
+static void upload(struct window *w, strokes_rect rect) {
+    for (uint32_t i = 0; i < rect.h; i++) {
+        strokes_shot_row(&w->shot, (uint16_t)rect.x, (uint16_t)(rect.y + (int)i), (uint16_t)rect.w, w->row, 3ul * rect.w);
+        uint8_t *to = w->pixels + 4ul * rect.w * i;
+        for (uint32_t k = 0; k < rect.w; k++) {
+            memcpy(to + 4 * k, w->row + 3 * k, 3);
+            to[4 * k + 3] = 255;
+        }
+    }
+    SDL_Rect where = {rect.x, rect.y, (int)rect.w, (int)rect.h};
+    SDL_UpdateTexture(w->texture, &where, w->pixels, 4 * (int)rect.w);
+}
+
+static void present(struct window *w) {
+    SDL_FRect where = {w->left, w->top, w->zoom * (float)w->canvas.w, w->zoom * (float)w->canvas.h};
+    SDL_SetRenderDrawColor(w->renderer, 64, 64, 64, 255);
+    SDL_RenderClear(w->renderer);
+    SDL_RenderCopyF(w->renderer, w->texture, NULL, &where);
+    SDL_RenderPresent(w->renderer);
+}
+
+/* Tells of the newest entry that was refused. */
+static void tell_outcomes(struct window *w) {
+    strokes_outcome outcome;
+    while (strokes_outcome_at(&w->crew.desk, w->told, &outcome) == STROKES_OK) {
+        w->told++;
+        if (outcome.what == STROKES_NO_LAYER) say(w, "layer %u isn't there any more", outcome.first);
+        if (outcome.what == STROKES_NO_UNDO) say(w, "nothing to undo");
+        if (outcome.what == STROKES_NO_REDO) say(w, "nothing to redo");
+    }
+}
+
+static void log_dabs(struct window *w) {
+    Uint64 now = SDL_GetPerformanceCounter();
+    for (int i = 0; i < w->waiting && w->log; i++)
+        fprintf(w->log, "%.0f\n", 1e6 * (double)(now - w->since[i]) / (double)SDL_GetPerformanceFrequency());
+    w->waiting = 0;
+}
+
+/* Brings to the screen what was painted since. The lock is held for the shot alone. */
+static void draw(struct window *w) {
+    strokes_rect dirty;
+    pthread_mutex_lock(&w->crew.lock);
+    strokes_rect rect = w->damage;
+    strokes_answer told = strokes_shoot(&w->crew.desk, &w->shot, &dirty);
+    bool is_all = w->crew.rests, lacks = w->crew.lacks;
+    w->crew.lacks = false;
+    if (told == STROKES_OK) w->damage = (strokes_rect){0};
+    tell_outcomes(w);
+    pthread_mutex_unlock(&w->crew.lock);
+    if (lacks || told != STROKES_OK) say(w, "out of memory: it goes on once there is some");
+    if (told != STROKES_OK) {
+        SDL_Delay(20);
+        wake(w);
+        return;
+    }
+    if (rect.w > 0) upload(w, rect);
+    present(w);
+    if (is_all) log_dabs(w);
+}
+
+/* ---- Commands */
+
+/* Ends a call that fed something: the threads are woken, and a refusal is told. The lock is held before. */
+static bool is_fed(struct window *w, strokes_answer told) {
+    crew_wake(&w->crew);
+    pthread_mutex_unlock(&w->crew.lock);
+    if (told != STROKES_OK) say(w, "%s", strokes_answer_text(told));
+    return told == STROKES_OK;
+}
+
+static strokes_desk *locked(struct window *w) {
+    pthread_mutex_lock(&w->crew.lock);
+    return &w->crew.desk;
+}
+
+static bool feed(struct window *w, const char *form, ...) {
+    char line[200];
+    va_list words;
+    va_start(words, form);
+    int len = vsnprintf(line, sizeof line, form, words);
+    va_end(words);
+    return is_fed(w, strokes_feed(locked(w), line, (size_t)len));
+}
+
+static void begin_stroke(struct window *w) {
+    w->brush.op = w->erases ? STROKES_ERASE : STROKES_OVER;
+    w->brush.colour = w->erases ? 0x000000ff : w->colour;
+    w->is_down = is_fed(w, strokes_begin(locked(w), w->stroke + 1, w->layers[w->layer].id, false));
+    if (w->is_down) w->stroke++;
+}
+
+static void end_stroke(struct window *w, bool is_cancelled) {
+    if (!w->is_down) return;
+    w->is_down = false;
+    strokes_desk *desk = locked(w);
+    is_fed(w, is_cancelled ? strokes_cancel(desk, w->stroke) : strokes_end(desk, w->stroke));
+    /* What can be undone is kept in memory, so only so many of the newest changes are. */
+    if (w->stroke % KEPT_CHANGES == 0) feed(w, "purge %d", KEPT_CHANGES);
+}
+
+/* Where a stroke has all the jobs that it may have, another one goes on. */
+static void dab(struct window *w, int x, int y, Uint64 since) {
+    strokes_answer told = strokes_dab(locked(w), w->stroke, STROKES_SEQ, x, y, &w->brush);
+    if (told == STROKES_TOO_MANY_JOBS) {
+        pthread_mutex_unlock(&w->crew.lock);
+        end_stroke(w, false);
+        begin_stroke(w);
+        told = strokes_dab(locked(w), w->stroke, STROKES_SEQ, x, y, &w->brush);
+    }
+    if (is_fed(w, told) && w->waiting < WAITING) w->since[w->waiting++] = since;
+    w->x = x, w->y = y;
+}
+
+/* Dabs from the last one to the point, a third of the radius apart. */
+static void dab_to(struct window *w, int x, int y, Uint64 since) {
+    int dx = x - w->x, dy = y - w->y, steps = most(abs(dx), abs(dy)), gap = most(1, w->brush.radius / 3);
+    int from_x = w->x, from_y = w->y;
+    for (int at = gap; at <= steps && w->is_down; at += gap) dab(w, from_x + dx * at / steps, from_y + dy * at / steps, since);
+}
+
+/* Layers stand in the order of the list, from the bottom. */
+static void add_layer(struct window *w, uint32_t ground) {
+    if (w->layer_count == MOST_LAYERS) return;
+    uint16_t id = (uint16_t)(w->layer_count + 1);
+    if (!feed(w, "layer %u 0 %d %08x", id, w->layer_count, ground)) return;
+    w->layers[w->layer_count] = (struct layer){id, false};
+    w->layer = w->layer_count++;
+    say(w, "layer %u", id);
+}
+
+static void choose_layer(struct window *w, int step) {
+    w->layer = most(0, least(w->layer_count - 1, w->layer + step));
+    say(w, "layer %u%s", w->layers[w->layer].id, w->layers[w->layer].is_hidden ? ", hidden" : "");
+}
+
+static void hide_layer(struct window *w) {
+    struct layer *layer = &w->layers[w->layer];
+    if (feed(w, "look %u 255 over %s", layer->id, layer->is_hidden ? "on" : "off")) layer->is_hidden = !layer->is_hidden;
+}
+
+/* ---- Files */
+
+/* What was fed, as a script. The command paints it, as far as it has 1,048,576 bytes; strokes_open_script takes it all. */
+static void save(struct window *w) {
+    FILE *file = w->is_down ? NULL : fopen("picture.strokes", "w");
+    if (!file) {
+        say(w, w->is_down ? "saved between strokes alone" : "picture.strokes can't be written");
+        return;
+    }
+    char piece[4096];
+    uint64_t next = 0;
+    size_t written;
+    strokes_answer told;
+    do {
+        told = strokes_text(locked(w), &next, piece, sizeof piece, &written);
+        pthread_mutex_unlock(&w->crew.lock);
+        if (told == STROKES_OK) fwrite(piece, 1, written, file);
+    } while (told == STROKES_OK && written > 0);
+    bool is_whole = told == STROKES_OK && !ferror(file);
+    is_whole &= !fclose(file);
+    say(w, is_whole ? "picture.strokes is saved" : "picture.strokes isn't whole");
+}
+
+/* A row of the picture: of the newest frame, or of the shot. */
+static strokes_answer row_of(struct window *w, bool is_shot, uint64_t frame, uint16_t y) {
+    if (is_shot) return strokes_shot_row(&w->shot, 0, y, (uint16_t)w->canvas.w, w->row, 3ul * w->canvas.w);
+    strokes_answer told = strokes_frame_row(locked(w), frame, y, w->row, 3ul * w->canvas.w);
+    pthread_mutex_unlock(&w->crew.lock);
+    return told;
+}
+
+static bool write_rows(struct window *w, FILE *file, bool is_shot, uint64_t frame) {
+    fprintf(file, "P6\n%u %u\n255\n", w->canvas.w, w->canvas.h);
+    bool is_whole = true;
+    for (uint32_t y = 0; is_whole && y < w->canvas.h; y++)
+        is_whole = row_of(w, is_shot, frame, (uint16_t)y) == STROKES_OK && fwrite(w->row, 3, w->canvas.w, file) == w->canvas.w;
+    return is_whole;
+}
+
+/* The picture, by `export`. A desk exports 64 times; after that the same pixels come from a shot of the settled desk. */
+static void write_picture(struct window *w) {
+    if (w->is_down) {
+        say(w, "written between strokes alone");
+        return;
+    }
+    strokes_rect dirty;
+    strokes_count count;
+    bool is_shot = !feed(w, "export");
+    strokes_answer told = crew_settle(&w->crew);
+    strokes_desk *desk = locked(w);
+    if (told == STROKES_OK) told = is_shot ? strokes_shoot(desk, &w->shot, &dirty) : strokes_count_of(desk, &count);
+    pthread_mutex_unlock(&w->crew.lock);
+    char name[40];
+    snprintf(name, sizeof name, "picture-%d.ppm", ++w->pictures);
+    FILE *file = told == STROKES_OK ? fopen(name, "wb") : NULL;
+    bool is_whole = file && write_rows(w, file, is_shot, is_shot ? 0 : count.frames - 1);
+    is_whole &= !(file && fclose(file));
+    say(w, is_whole ? "%s is written" : "%s can't be written", name);
+}
+
+/* ---- Events */
+
+/* The point of the canvas that lies under one of the window. */
+static int on_canvas(float at, float from, float zoom) {
+    float point = (at - from) / zoom;
+    return point < -8192 ? -8192 : point > 8191 ? 8191 : (int)(point < 0 ? point - 1 : point);
+}
+
+/* The point under the mouse stays where it is. */
+static void zoom_by(struct window *w, float by, int x, int y) {
+    float zoom = w->zoom * by;
+    if (zoom < 0.125f || zoom > 32) return;
+    w->left = (float)x - ((float)x - w->left) * by;
+    w->top = (float)y - ((float)y - w->top) * by;
+    w->zoom = zoom;
+    present(w);
+}
+
+static void next_colour(struct window *w) {
+    static const uint32_t colours[] = {0x202020c0, 0xc83020c0, 0xe0a020c0, 0x309040c0, 0x2060c0c0, 0x8040a0c0};
+    static unsigned next;
+    w->colour = colours[++next % (sizeof colours / sizeof *colours)];
+    say(w, "#%06x", w->colour >> 8);
+}
+
+static void choose_tool(struct window *w, bool erases) {
+    w->erases = erases;
+    say(w, erases ? "eraser" : "pen");
+}
+
+static void resize_brush(struct window *w, int by) {
+    w->brush.radius = (uint8_t)most(0, least(128, w->brush.radius + by));
+    say(w, "radius %u", w->brush.radius);
+}
+
+/* False where the window is to close. */
+static bool press(struct window *w, SDL_Keycode key) {
+    switch (key) {
+    case SDLK_ESCAPE: end_stroke(w, true); break;
+    case SDLK_p: choose_tool(w, false); break;
+    case SDLK_e: choose_tool(w, true); break;
+    case SDLK_c: next_colour(w); break;
+    case SDLK_LEFTBRACKET: resize_brush(w, -2); break;
+    case SDLK_RIGHTBRACKET: resize_brush(w, 2); break;
+    case SDLK_z: is_fed(w, strokes_undo(locked(w))); break;
+    case SDLK_y: is_fed(w, strokes_redo(locked(w))); break;
+    case SDLK_n: add_layer(w, 0); break;
+    case SDLK_PAGEUP: choose_layer(w, 1); break;
+    case SDLK_PAGEDOWN: choose_layer(w, -1); break;
+    case SDLK_v: hide_layer(w); break;
+    case SDLK_s: save(w); break;
+    case SDLK_x: write_picture(w); break;
+    case SDLK_q: return false;
+    default: break;
+    }
+    return true;
+}
+
+static void go_down(struct window *w, int x, int y, Uint64 since) {
+    begin_stroke(w);
+    if (w->is_down) dab(w, on_canvas((float)x, w->left, w->zoom), on_canvas((float)y, w->top, w->zoom), since);
+}
+
+static void go_to(struct window *w, const SDL_MouseMotionEvent *event, Uint64 since) {
+    if (event->state & SDL_BUTTON_RMASK) {
+        w->left += (float)event->xrel;
+        w->top += (float)event->yrel;
+        present(w);
+    } else if (w->is_down)
+        dab_to(w, on_canvas((float)event->x, w->left, w->zoom), on_canvas((float)event->y, w->top, w->zoom), since);
+}
+
+/* False where the window is to close. */
+static bool answer_event(struct window *w, const SDL_Event *event) {
+    Uint64 since = SDL_GetPerformanceCounter();
+    int x, y;
+    switch (event->type) {
+    case SDL_QUIT: return false;
+    case SDL_KEYDOWN: return press(w, event->key.keysym.sym);
+    case SDL_MOUSEBUTTONDOWN:
+        if (event->button.button == SDL_BUTTON_LEFT && !w->is_down) go_down(w, event->button.x, event->button.y, since);
+        break;
+    case SDL_MOUSEMOTION: go_to(w, &event->motion, since); break;
+    case SDL_MOUSEBUTTONUP:
+        if (event->button.button == SDL_BUTTON_LEFT) end_stroke(w, false);
+        break;
+    case SDL_MOUSEWHEEL:
+        SDL_GetMouseState(&x, &y);
+        if (event->wheel.y) zoom_by(w, event->wheel.y > 0 ? 2.0f : 0.5f, x, y);
+        break;
+    case SDL_WINDOWEVENT:
+        if (event->window.event == SDL_WINDOWEVENT_EXPOSED) present(w);
+        break;
+    default:
+        if (event->type == w->drawn) draw(w);
+    }
+    return true;
+}
+
+static bool open_window(struct window *w) {
+    if (SDL_Init(SDL_INIT_VIDEO)) return false;
+    w->drawn = SDL_RegisterEvents(1);
+    int columns = (int)w->canvas.w, rows = (int)w->canvas.h, anywhere = SDL_WINDOWPOS_CENTERED;
+    w->window = SDL_CreateWindow("strokes", anywhere, anywhere, least(1280, columns), least(800, rows), SDL_WINDOW_RESIZABLE);
+    if (!w->window) return false;
+    w->renderer = SDL_CreateRenderer(w->window, -1, 0);
+    if (!w->renderer) return false;
+    w->texture = SDL_CreateTexture(w->renderer, SDL_PIXELFORMAT_RGBA32, SDL_TEXTUREACCESS_STREAMING, columns, rows);
+    w->row = malloc(3ul * w->canvas.w);
+    w->pixels = malloc(4ul * w->canvas.w * w->canvas.h);
+    return w->texture && w->row && w->pixels;
+}
+
+static void paint(struct window *w) {
+    SDL_Event event;
+    w->damage = (strokes_rect){0, 0, w->canvas.w, w->canvas.h};
+    add_layer(w, 0xffffffff);
+    add_layer(w, 0);
+    feed(w, "purge 0"); /* so that these two layers can't be undone */
+    draw(w);
+    while (SDL_WaitEvent(&event) && answer_event(w, &event)) {
+    }
+    end_stroke(w, false);
+}
+
+int main(int argc, char **argv) {
+    struct window w = {.zoom = 1, .colour = 0x202020c0, .brush = {.radius = 12, .soft = 1, .strength = 255}};
+    int threads = argc > 3 ? atoi(argv[3]) : 4;
+    w.canvas.w = argc > 2 ? (uint32_t)atoi(argv[1]) : 1024;
+    w.canvas.h = argc > 2 ? (uint32_t)atoi(argv[2]) : 768;
+    w.canvas.paper = 0xffffff;
+    threads = most(1, least(CREW_MOST, threads));
+    strokes_answer told = strokes_open(&w.crew.desk, &w.canvas, (uint8_t)(threads + 1));
+    if (told != STROKES_OK) {
+        fprintf(stderr, "window: %s\nusage: window [WIDTH HEIGHT [THREADS [LOG]]]\n", strokes_answer_text(told));
+        return 2;
+    }
+    w.log = argc > 4 ? fopen(argv[4], "w") : NULL;
+    w.crew.drawn = note_drawn;
+    w.crew.whose = &w;
+    bool is_open = open_window(&w);
+    if (is_open) {
+        crew_start(&w.crew, threads);
+        paint(&w);
+        crew_end(&w.crew);
+    } else
+        fprintf(stderr, "window: %s\n", SDL_GetError());
+    strokes_close_shot(&w.shot);
+    strokes_close(&w.crew.desk);
+    if (w.log) fclose(w.log);
+    free(w.row);
+    free(w.pixels);
+    SDL_Quit();
+    return is_open ? 0 : 1;
+}
