@@ -1,26 +1,41 @@
 /* How long a dab takes from feeding to clean pixels, without a window.
  *
- *     latency [DABS]
+ *     latency [-l LAYERS] [-t THREADS] [-n DABS] [-e] [-s]
  *
- * On a canvas of 2,048 by 2,048 with 1, 20 and 200 layers a soft dab of radius 50 is laid on the bottom, the middle and the
- * top layer, DABS times each (400), by one thread and by four, at drawn places of a middle part in which all layers have
- * pixels of their own. A time runs from feeding one dab until all is done and the pixels that are to be drawn anew are
- * copied. Told are the median, the 95th percentile and the most, in milliseconds, as rows of a table. One thread works by
- * the calls alone, and paints small jobs in place; four are the caller and a crew of three. */
+ * On a canvas of 2,048 by 2,048 with 1, 20 and 200 layers (-l: with so many alone) a soft dab of radius 50 is laid on the bottom,
+ * the middle and the top layer, DABS times each (400), by one thread and by four (-t: by so many alone). Half of the layers
+ * are laid `over`, the others `multiply` and `screen`; all have pixels of mixed alphas in a middle part of 512 by 512, and the
+ * dabs stand at drawn places in it. A time runs from feeding a dab until nothing is left to do and the rectangle that was told
+ * for drawing is copied to a screen's bytes. One thread works by the calls alone, and paints small jobs in place; N are the
+ * caller and a crew of N - 1.
+ *
+ * Told are the median, the 95th of a hundred and the most, in milliseconds, as rows of a table. A stroke has 25 dabs. It is
+ * begun, and cancelled after the last one, out of time, so that each of them finds the same picture; the first on a tile
+ * copies it for the history. With -e each dab is a stroke of its own that is begun, painted and ended in its time.
+ *
+ * With -s no time is told: the script is written of what -e lays on the middle layer, for other engines. Its dabs are the
+ * strokes from 1000 on. */
 #include "crew.h"
 #include <stdio.h>
 #include <stdlib.h>
+#include <string.h>
 #include <time.h>
+#include <unistd.h>
 
-enum { SIDE = 2048, PART = 512, EDGE = (SIDE - PART) / 2, RADIUS = 50, WARM = 20 };
+enum { SIDE = 2048, PART = 512, EDGE = (SIDE - PART) / 2, RADIUS = 50, OF_A_STROKE = 25, MOST_DABS = 4000 };
 
 struct bench {
     struct crew crew;
     strokes_rect damage; /* under the crew's lock */
     strokes_shot shot;
-    uint8_t *row;
+    uint8_t *screen; /* three bytes a pixel of the canvas */
     uint32_t stroke;
     unsigned dice;
+    bool is_each; /* each dab is a stroke */
+};
+
+struct times {
+    double median, most_of_them, most;
 };
 
 static double now(void) {
@@ -29,11 +44,13 @@ static double now(void) {
     return 1e3 * (double)at.tv_sec + 1e-6 * (double)at.tv_nsec;
 }
 
-static void want_ok(strokes_answer told, const char *what) {
-    if (told == STROKES_OK) return;
-    fprintf(stderr, "latency: %s: %s\n", what, strokes_answer_text(told));
+static void want(bool it, const char *what, const char *told) {
+    if (it) return;
+    fprintf(stderr, "latency: %s: %s\n", what, told);
     exit(1);
 }
+
+static void want_ok(strokes_answer told, const char *what) { want(told == STROKES_OK, what, strokes_answer_text(told)); }
 
 static void note_drawn(void *whose, strokes_rect rect) {
     struct bench *b = whose;
@@ -55,6 +72,14 @@ static int drawn(struct bench *b, int most) {
     b->dice = b->dice * 1664525u + 1013904223u;
     return (int)((b->dice >> 8) % (unsigned)most);
 }
+
+/* A colour with an alpha from `least` to `most`. */
+static uint32_t drawn_colour(struct bench *b, int least, int most) {
+    uint32_t colour = (uint32_t)drawn(b, 1 << 24) << 8;
+    return colour | (uint32_t)(least + drawn(b, most - least + 1));
+}
+
+/* ---- Work */
 
 /* Does all that can be done, by the caller alone. */
 static void work_alone(struct bench *b) {
@@ -80,11 +105,11 @@ static void rest(struct bench *b) {
         work_alone(b);
 }
 
-/* Feeds what `fed` was answered for, and wakes the crew. The lock is held before. */
-static void feed(struct bench *b, strokes_answer fed, const char *what) {
+/* Ends a call that fed something, and wakes the crew. The lock is held before. */
+static void fed(struct bench *b, strokes_answer told, const char *what) {
     crew_wake(&b->crew);
     pthread_mutex_unlock(&b->crew.lock);
-    want_ok(fed, what);
+    want_ok(told, what);
 }
 
 static strokes_desk *locked(struct bench *b) {
@@ -92,7 +117,9 @@ static strokes_desk *locked(struct bench *b) {
     return &b->crew.desk;
 }
 
-/* Copies what is to be drawn anew, as a screen does. How many pixels there are. */
+static void feed(struct bench *b, const char *line) { fed(b, strokes_feed(locked(b), line, strlen(line)), line); }
+
+/* Copies what is to be drawn anew, as a screen does. How many pixels these are. */
 static size_t copy_damage(struct bench *b) {
     strokes_rect dirty;
     strokes_desk *desk = locked(b);
@@ -100,24 +127,89 @@ static size_t copy_damage(struct bench *b) {
     b->damage = (strokes_rect){0};
     want_ok(strokes_shoot(desk, &b->shot, &dirty), "shoot");
     pthread_mutex_unlock(&b->crew.lock);
-    if (dirty.w > 0) want_ok(STROKES_IDLE, "a pixel is still to be composed");
-    for (uint32_t y = 0; y < rect.h; y++)
-        want_ok(
-            strokes_shot_row(&b->shot, (uint16_t)rect.x, (uint16_t)(rect.y + (int32_t)y), (uint16_t)rect.w, b->row, 3 * SIDE),
-            "row");
+    want(dirty.w == 0, "shoot", "some pixels are still to be composed");
+    size_t bytes = 3ul * rect.w;
+    for (int y = rect.y; y < rect.y + (int)rect.h; y++) {
+        uint8_t *to = b->screen + 3ul * ((size_t)y * SIDE + (size_t)rect.x);
+        want_ok(strokes_shot_row(&b->shot, (uint16_t)rect.x, (uint16_t)y, (uint16_t)rect.w, to, bytes), "row");
+    }
     return (size_t)rect.w * rect.h;
 }
 
-/* Lays a dab wholly on the canvas, and gives the time until its pixels are copied. */
-static double one_dab(struct bench *b, const strokes_brush *brush) {
+/* ---- The picture */
+
+/* A layer above all, with pixels of many alphas in the middle part. */
+static void add_layer(struct bench *b, uint16_t id) {
+    static const char *const ops[] = {"over", "over", "multiply", "screen"};
+    char line[80];
+    snprintf(line, sizeof line, "layer %u 0 %u", id, id - 1u);
+    feed(b, line);
+    snprintf(line, sizeof line, "look %u %d %s on", id, 100 + drawn(b, 156), ops[(id - 1) % 4]);
+    feed(b, line);
+    fed(b, strokes_begin(locked(b), ++b->stroke, id, false), "begin");
+    snprintf(line, sizeof line, "fill %u seq %d %d %d %d %08x over 255", b->stroke, EDGE, EDGE, PART, PART,
+             drawn_colour(b, 16, 255));
+    feed(b, line);
+    for (int i = 0; i < 4; i++) {
+        strokes_brush brush = {drawn_colour(b, 64, 255), PART / 4, 1, STROKES_OVER, 255};
+        int x = EDGE + PART / 4 + i % 2 * PART / 2, y = EDGE + PART / 4 + i / 2 * PART / 2;
+        fed(b, strokes_dab(locked(b), b->stroke, STROKES_SEQ, x, y, &brush), "dab");
+    }
+    fed(b, strokes_end(locked(b), b->stroke), "end");
+}
+
+/* Opens a desk with so many layers, for so many threads. */
+static void begin(struct bench *b, int layers, int threads, bool is_each) {
+    strokes_canvas canvas = {SIDE, SIDE, 0xffffff};
+    *b = (struct bench){.dice = 1, .is_each = is_each, .screen = malloc(3ul * SIDE * SIDE)};
+    want(b->screen, "screen", "out of memory");
+    memset(b->screen, 255, 3ul * SIDE * SIDE);
+    want_ok(strokes_open(&b->crew.desk, &canvas, (uint8_t)threads), "open");
+    b->crew.drawn = note_drawn;
+    b->crew.whose = b;
+    crew_start(&b->crew, threads - 1);
+    want(b->crew.threads == threads - 1, "crew", "a thread can't be started");
+    for (int id = 1; id <= layers; id++) add_layer(b, (uint16_t)id);
+    rest(b);
+    copy_damage(b);
+    b->stroke = 999;
+}
+
+static void end(struct bench *b) {
+    crew_end(&b->crew);
+    strokes_close_shot(&b->shot);
+    strokes_close(&b->crew.desk);
+    free(b->screen);
+}
+
+/* ---- Dabs */
+
+/* Lays a dab wholly in the middle part, and gives the time until its pixels are copied. It is thin, so that many of them leave
+ * no layer opaque. */
+static double one_dab(struct bench *b, uint16_t layer) {
+    strokes_brush brush = {drawn_colour(b, 16, 31), RADIUS, 1, STROKES_OVER, 255};
     int x = EDGE + RADIUS + drawn(b, PART - 2 * RADIUS), y = EDGE + RADIUS + drawn(b, PART - 2 * RADIUS);
     double begun = now();
-    feed(b, strokes_dab(locked(b), b->stroke, STROKES_SEQ, x, y, brush), "dab");
+    if (b->is_each) fed(b, strokes_begin(locked(b), ++b->stroke, layer, false), "begin");
+    fed(b, strokes_dab(locked(b), b->stroke, STROKES_SEQ, x, y, &brush), "dab");
+    if (b->is_each) fed(b, strokes_end(locked(b), b->stroke), "end");
     rest(b);
     size_t pixels = copy_damage(b);
     double took = now() - begun;
-    if (pixels < (2 * RADIUS + 1) * (2 * RADIUS + 1)) want_ok(STROKES_NOTHING, "too little is to be drawn");
+    want(pixels >= (2 * RADIUS + 1) * (2 * RADIUS + 1), "dab", "too little is to be drawn");
     return took;
+}
+
+/* Lays dabs, the strokes of which are begun and cancelled out of time unless each is one. */
+static void lay_dabs(struct bench *b, uint16_t layer, int dabs, double *took) {
+    for (int i = 0; i < dabs; i++) {
+        if (!b->is_each && i % OF_A_STROKE == 0) fed(b, strokes_begin(locked(b), ++b->stroke, layer, false), "begin");
+        took[i] = one_dab(b, layer);
+        if (b->is_each || ((i + 1) % OF_A_STROKE != 0 && i + 1 < dabs)) continue;
+        fed(b, strokes_cancel(locked(b), b->stroke), "cancel");
+        rest(b);
+        copy_damage(b);
+    }
 }
 
 static int by_size(const void *a, const void *b) {
@@ -125,72 +217,98 @@ static int by_size(const void *a, const void *b) {
     return (x > y) - (x < y);
 }
 
-static void measure(struct bench *b, uint16_t layers, uint16_t layer, const char *place, int dabs, double *times) {
-    strokes_brush brush = {0x3060a060, RADIUS, 1, STROKES_OVER, 255};
-    feed(b, strokes_begin(locked(b), ++b->stroke, layer, false), "begin");
-    for (int i = 0; i < WARM; i++) one_dab(b, &brush); /* not counted */
-    for (int i = 0; i < dabs; i++) times[i] = one_dab(b, &brush);
-    feed(b, strokes_cancel(locked(b), b->stroke), "cancel");
-    rest(b);
-    copy_damage(b);
-    qsort(times, (size_t)dabs, sizeof *times, by_size);
-    double median = times[dabs / 2], most_of_them = times[dabs * 95 / 100], most = times[dabs - 1];
-    printf("| %u | %s | %d | %.2f | %.2f | %.2f |\n", layers, place, b->crew.threads + 1, median, most_of_them, most);
+static struct times measured(struct bench *b, uint16_t layer, int dabs) {
+    static double took[MOST_DABS];
+    lay_dabs(b, layer, OF_A_STROKE, took); /* not counted */
+    lay_dabs(b, layer, dabs, took);
+    qsort(took, (size_t)dabs, sizeof *took, by_size);
+    return (struct times){took[dabs / 2], took[dabs * 95 / 100], took[dabs - 1]};
+}
+
+/* ---- The table */
+
+static const char *const places[] = {"bottom", "middle", "top"};
+
+static uint16_t layer_at(int place, int layers) { return (uint16_t)(place == 0 ? 1 : place == 1 ? (layers + 1) / 2 : layers); }
+
+/* Measures with so many layers, and writes a row for each place; of one layer there is one place. */
+static void write_rows(int layers, const int *threads, int many, int dabs, bool is_each) {
+    struct times times[3][2];
+    int rows = layers == 1 ? 1 : 3;
+    for (int k = 0; k < many; k++) {
+        struct bench b;
+        begin(&b, layers, threads[k], is_each);
+        for (int place = 0; place < rows; place++) times[place][k] = measured(&b, layer_at(place, layers), dabs);
+        end(&b);
+    }
+    for (int place = 0; place < rows; place++) {
+        printf("| %d | %s |", layers, rows == 1 ? "only" : places[place]);
+        for (int k = 0; k < many; k++) {
+            struct times *it = &times[place][k];
+            printf(" %.2f, %.2f, %.2f |", it->median, it->most_of_them, it->most);
+        }
+        printf("\n");
+    }
     fflush(stdout);
 }
 
-/* Each layer has a thin wash all over, the lowest on white, and large soft dabs on the middle part. */
-static void add_layer(struct bench *b, uint16_t id) {
-    char line[80];
-    int len = snprintf(line, sizeof line, "layer %u 0 %u %s", id, id - 1u, id == 1 ? "ffffffff" : "00000000");
-    feed(b, strokes_feed(locked(b), line, (size_t)len), "layer");
-    feed(b, strokes_begin(locked(b), ++b->stroke, id, false), "begin");
-    len = snprintf(line, sizeof line, "fill %u seq 0 0 %d %d %02x60a020 over 64", b->stroke, SIDE, SIDE, id & 255u);
-    feed(b, strokes_feed(locked(b), line, (size_t)len), "fill");
-    strokes_brush brush = {0x80300010u + ((uint32_t)id << 8), 128, 1, STROKES_OVER, 255};
-    for (int y = EDGE; y <= EDGE + PART; y += 128)
-        for (int x = EDGE; x <= EDGE + PART; x += 128)
-            feed(b, strokes_dab(locked(b), b->stroke, STROKES_SEQ, x, y, &brush), "dab");
-    feed(b, strokes_end(locked(b), b->stroke), "end");
+static void write_head(const int *threads, int many) {
+    printf("| Layers | Dabs on |");
+    for (int k = 0; k < many; k++) printf(" %d thread%s: median, 95 of 100, most |", threads[k], threads[k] == 1 ? "" : "s");
+    printf("\n|---|---|");
+    for (int k = 0; k < many; k++) printf("---|");
+    printf("\n");
 }
 
-static void run(uint16_t layers, int threads, int dabs, double *times) {
-    struct bench b = {.dice = 1};
-    strokes_canvas canvas = {SIDE, SIDE, 0xffffff};
-    b.row = malloc(3 * SIDE);
-    if (!b.row) want_ok(STROKES_NO_MEMORY, "row");
-    want_ok(strokes_open(&b.crew.desk, &canvas, (uint8_t)threads), "open");
-    b.crew.drawn = note_drawn;
-    b.crew.whose = &b;
-    crew_start(&b.crew, threads - 1);
-    if (b.crew.threads < threads - 1) want_ok(STROKES_NOTHING, "a thread can't be started");
-    for (uint16_t id = 1; id <= layers; id++) add_layer(&b, id);
-    rest(&b);
-    copy_damage(&b);
-    measure(&b, layers, 1, "bottom", dabs, times);
-    if (layers > 1) {
-        measure(&b, layers, (uint16_t)(layers / 2), "middle", dabs, times);
-        measure(&b, layers, layers, "top", dabs, times);
+/* The script of what is laid on the middle layer, by strokes of one dab. */
+static void write_script(int layers, int dabs) {
+    static double took[MOST_DABS];
+    struct bench b;
+    begin(&b, layers, 1, true);
+    lay_dabs(&b, layer_at(1, layers), dabs, took);
+    char piece[4096];
+    uint64_t next = 0;
+    size_t written;
+    do {
+        want_ok(strokes_text(&b.crew.desk, &next, piece, sizeof piece, &written), "text");
+        fwrite(piece, 1, written, stdout);
+    } while (written > 0);
+    end(&b);
+}
+
+struct words {
+    int layers[3], threads[2], layer_counts, thread_counts, dabs;
+    bool is_each, is_script;
+};
+
+/* What the command's words ask for. False where they aren't known. */
+static bool read_words(struct words *w, int argc, char **argv) {
+    *w = (struct words){{1, 20, 200}, {1, 4}, 3, 2, 400, false, false};
+    for (int word; (word = getopt(argc, argv, "l:t:n:es")) != -1;) {
+        switch (word) {
+        case 'l': w->layers[0] = atoi(optarg), w->layer_counts = 1; break;
+        case 't': w->threads[0] = atoi(optarg), w->thread_counts = 1; break;
+        case 'n': w->dabs = atoi(optarg); break;
+        case 'e': w->is_each = true; break;
+        case 's': w->is_script = true; break;
+        default: return false;
+        }
     }
-    crew_end(&b.crew);
-    strokes_close_shot(&b.shot);
-    strokes_close(&b.crew.desk);
-    free(b.row);
+    return optind == argc && w->layers[0] >= 1 && w->layers[0] <= 250 && w->threads[0] >= 1 && w->threads[0] <= CREW_MOST + 1 &&
+           w->dabs >= !w->is_script && w->dabs <= MOST_DABS;
 }
 
 int main(int argc, char **argv) {
-    static const uint16_t layers[] = {1, 20, 200};
-    static const int threads[] = {1, 4};
-    int dabs = argc > 1 ? atoi(argv[1]) : 400;
-    if (dabs < 1 || dabs > 4000 || argc > 2) {
-        fprintf(stderr, "usage: latency [DABS], up to 4000\n");
+    struct words w;
+    if (!read_words(&w, argc, argv)) {
+        fprintf(stderr, "usage: latency [-l LAYERS] [-t THREADS] [-n DABS] [-e] [-s]\n");
         return 2;
     }
-    double *times = malloc((size_t)dabs * sizeof *times);
-    if (!times) want_ok(STROKES_NO_MEMORY, "times");
-    printf("| Layers | The dab's | Threads | Median, ms | 95 of 100, ms | Most, ms |\n|---|---|---|---|---|---|\n");
-    for (size_t i = 0; i < sizeof layers / sizeof *layers; i++)
-        for (size_t k = 0; k < sizeof threads / sizeof *threads; k++) run(layers[i], threads[k], dabs, times);
-    free(times);
-    return 0;
+    if (w.is_script)
+        write_script(w.layer_counts == 1 ? w.layers[0] : 20, w.dabs);
+    else
+        write_head(w.threads, w.thread_counts);
+    for (int i = 0; i < w.layer_counts && !w.is_script; i++)
+        write_rows(w.layers[i], w.threads, w.thread_counts, w.dabs, w.is_each);
+    return fflush(stdout) ? 1 : 0;
 }

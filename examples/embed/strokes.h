@@ -2,7 +2,7 @@
  *
  * A desk holds a document: its canvas, its layers and groups, the strokes on them, and what can be undone. A program feeds it
  * commands, which are the lines of docs/language.md. Threads of the program take work from the desk, do it beside one another,
- * and give it back; a screen looks on. docs/embedding.md goes through a host; paint.c and window.c are two.
+ * and give it back; a screen looks on. docs/embedding-c.md goes through a host; paint.c and window.c are two.
  *
  * What a host owes. No call can see to these, and all that is promised below rests on them:
  *

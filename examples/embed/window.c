@@ -14,18 +14,18 @@
 #include <stdlib.h>
 #include <string.h>
 
-enum { MOST_LAYERS = 64, WAITING = 256, KEPT_CHANGES = 200 };
+enum { MOST_LAYERS = 64, WAITING = 256, KEPT_CHANGES = 200, MOST_CHANGES = 400 };
 
-struct layer {
-    uint16_t id;
-    bool is_hidden;
+/* A change that can be undone: by it a layer was painted on, added above all, or hidden or shown. */
+struct change {
+    enum { PAINTED, ADDED, TURNED } what;
+    int layer;
 };
 
 struct window {
     struct crew crew;
     strokes_canvas canvas;
     strokes_rect damage; /* under the crew's lock: what is to be drawn anew */
-    uint64_t told;       /* how many outcomes were looked at */
     Uint32 drawn;        /* the event that wakes the window */
 
     SDL_Window *window;
@@ -35,8 +35,12 @@ struct window {
     uint8_t *row, *pixels;
     float zoom, left, top; /* where the picture stands in the window */
 
-    struct layer layers[MOST_LAYERS];
+    /* The layers and the changes as they will be once all that was fed has had its turn. A layer's id is one more than its
+     * place from the bottom. */
+    bool is_hidden[MOST_LAYERS];
     int layer_count, layer; /* the one that is painted on */
+    struct change changes[MOST_CHANGES];
+    int done, known; /* how many can be undone, and with those that can be made again */
     strokes_brush brush;
     uint32_t colour;
     bool erases, is_down;
@@ -109,17 +113,6 @@ static void present(struct window *w) {
     SDL_RenderPresent(w->renderer);
 }
 
-/* Tells of the newest entry that was refused. */
-static void tell_outcomes(struct window *w) {
-    strokes_outcome outcome;
-    while (strokes_outcome_at(&w->crew.desk, w->told, &outcome) == STROKES_OK) {
-        w->told++;
-        if (outcome.what == STROKES_NO_LAYER) say(w, "layer %u isn't there any more", outcome.first);
-        if (outcome.what == STROKES_NO_UNDO) say(w, "nothing to undo");
-        if (outcome.what == STROKES_NO_REDO) say(w, "nothing to redo");
-    }
-}
-
 static void log_dabs(struct window *w) {
     Uint64 now = SDL_GetPerformanceCounter();
     for (int i = 0; i < w->waiting && w->log; i++)
@@ -136,7 +129,6 @@ static void draw(struct window *w) {
     bool is_all = w->crew.rests, lacks = w->crew.lacks;
     w->crew.lacks = false;
     if (told == STROKES_OK) w->damage = (strokes_rect){0};
-    tell_outcomes(w);
     pthread_mutex_unlock(&w->crew.lock);
     if (lacks || told != STROKES_OK) say(w, "out of memory: it goes on once there is some");
     if (told != STROKES_OK) {
@@ -173,20 +165,61 @@ static bool feed(struct window *w, const char *form, ...) {
     return is_fed(w, strokes_feed(locked(w), line, (size_t)len));
 }
 
+/* ---- What can be undone
+ *
+ * Commands take effect in the order of feeding, so the window knows which layers there will be at the turn of the next one. */
+
+static void forget_changes(struct window *w, int count) {
+    w->done = w->known = w->done - count;
+    memmove(w->changes, w->changes + count, (size_t)w->done * sizeof *w->changes);
+}
+
+/* Notes a change that was fed. What can be undone is kept in memory, so only so many of the newest changes are. */
+static void note_change(struct window *w, struct change change) {
+    if (w->done == MOST_CHANGES) forget_changes(w, 1);
+    w->changes[w->done++] = change;
+    w->known = w->done;
+    if (w->done == MOST_CHANGES && feed(w, "purge %d", KEPT_CHANGES)) forget_changes(w, MOST_CHANGES - KEPT_CHANGES);
+}
+
+/* What undoing or making again, by -1 or 1, does to the layers. */
+static void turn_change(struct window *w, struct change change, int by) {
+    if (change.what == ADDED) w->layer_count += by;
+    if (change.what == TURNED) w->is_hidden[change.layer] = !w->is_hidden[change.layer];
+    w->layer = least(w->layer, w->layer_count - 1);
+}
+
+static void undo(struct window *w) {
+    if (w->done == 0)
+        say(w, "nothing to undo");
+    else if (is_fed(w, strokes_undo(locked(w))))
+        turn_change(w, w->changes[--w->done], -1);
+}
+
+static void redo(struct window *w) {
+    if (w->done == w->known)
+        say(w, "nothing to redo");
+    else if (is_fed(w, strokes_redo(locked(w))))
+        turn_change(w, w->changes[w->done++], 1);
+}
+
+/* ---- Strokes and layers */
+
+static uint16_t id_of(int layer) { return (uint16_t)(layer + 1); }
+
 static void begin_stroke(struct window *w) {
     w->brush.op = w->erases ? STROKES_ERASE : STROKES_OVER;
     w->brush.colour = w->erases ? 0x000000ff : w->colour;
-    w->is_down = is_fed(w, strokes_begin(locked(w), w->stroke + 1, w->layers[w->layer].id, false));
+    w->is_down = is_fed(w, strokes_begin(locked(w), w->stroke + 1, id_of(w->layer), false));
     if (w->is_down) w->stroke++;
 }
 
+/* Where memory ended the stroke is still open. */
 static void end_stroke(struct window *w, bool is_cancelled) {
     if (!w->is_down) return;
-    w->is_down = false;
     strokes_desk *desk = locked(w);
-    is_fed(w, is_cancelled ? strokes_cancel(desk, w->stroke) : strokes_end(desk, w->stroke));
-    /* What can be undone is kept in memory, so only so many of the newest changes are. */
-    if (w->stroke % KEPT_CHANGES == 0) feed(w, "purge %d", KEPT_CHANGES);
+    w->is_down = !is_fed(w, is_cancelled ? strokes_cancel(desk, w->stroke) : strokes_end(desk, w->stroke));
+    if (!w->is_down && !is_cancelled) note_change(w, (struct change){PAINTED, w->layer});
 }
 
 /* Where a stroke has all the jobs that it may have, another one goes on. */
@@ -195,7 +228,7 @@ static void dab(struct window *w, int x, int y, Uint64 since) {
     if (told == STROKES_TOO_MANY_JOBS) {
         pthread_mutex_unlock(&w->crew.lock);
         end_stroke(w, false);
-        begin_stroke(w);
+        if (!w->is_down) begin_stroke(w);
         told = strokes_dab(locked(w), w->stroke, STROKES_SEQ, x, y, &w->brush);
     }
     if (is_fed(w, told) && w->waiting < WAITING) w->since[w->waiting++] = since;
@@ -209,33 +242,37 @@ static void dab_to(struct window *w, int x, int y, Uint64 since) {
     for (int at = gap; at <= steps && w->is_down; at += gap) dab(w, from_x + dx * at / steps, from_y + dy * at / steps, since);
 }
 
-/* Layers stand in the order of the list, from the bottom. */
-static void add_layer(struct window *w, uint32_t ground) {
-    if (w->layer_count == MOST_LAYERS) return;
-    uint16_t id = (uint16_t)(w->layer_count + 1);
-    if (!feed(w, "layer %u 0 %d %08x", id, w->layer_count, ground)) return;
-    w->layers[w->layer_count] = (struct layer){id, false};
-    w->layer = w->layer_count++;
-    say(w, "layer %u", id);
+/* A layer above all, with this pixel at every point. */
+static bool add_layer(struct window *w, uint32_t ground) {
+    int layer = w->layer_count;
+    if (layer == MOST_LAYERS || !feed(w, "layer %u 0 %d %08x", id_of(layer), layer, ground)) return false;
+    w->is_hidden[layer] = false;
+    w->layer_count++;
+    w->layer = layer;
+    say(w, "layer %u", id_of(layer));
+    return true;
 }
 
 static void choose_layer(struct window *w, int step) {
     w->layer = most(0, least(w->layer_count - 1, w->layer + step));
-    say(w, "layer %u%s", w->layers[w->layer].id, w->layers[w->layer].is_hidden ? ", hidden" : "");
+    say(w, "layer %u%s", id_of(w->layer), w->is_hidden[w->layer] ? ", hidden" : "");
 }
 
 static void hide_layer(struct window *w) {
-    struct layer *layer = &w->layers[w->layer];
-    if (feed(w, "look %u 255 over %s", layer->id, layer->is_hidden ? "on" : "off")) layer->is_hidden = !layer->is_hidden;
+    struct change change = {TURNED, w->layer};
+    if (!feed(w, "look %u 255 over %s", id_of(w->layer), w->is_hidden[w->layer] ? "on" : "off")) return;
+    note_change(w, change);
+    turn_change(w, change, 1);
+    choose_layer(w, 0);
 }
 
 /* ---- Files */
 
 /* What was fed, as a script. The command paints it, as far as it has 1,048,576 bytes; strokes_open_script takes it all. */
 static void save(struct window *w) {
-    FILE *file = w->is_down ? NULL : fopen("picture.strokes", "w");
+    FILE *file = fopen("picture.strokes", "w");
     if (!file) {
-        say(w, w->is_down ? "saved between strokes alone" : "picture.strokes can't be written");
+        say(w, "picture.strokes can't be written");
         return;
     }
     char piece[4096];
@@ -270,10 +307,6 @@ static bool write_rows(struct window *w, FILE *file, bool is_shot, uint64_t fram
 
 /* The picture, by `export`. A desk exports 64 times; after that the same pixels come from a shot of the settled desk. */
 static void write_picture(struct window *w) {
-    if (w->is_down) {
-        say(w, "written between strokes alone");
-        return;
-    }
     strokes_rect dirty;
     strokes_count count;
     bool is_shot = !feed(w, "export");
@@ -301,9 +334,11 @@ static int on_canvas(float at, float from, float zoom) {
 static void zoom_by(struct window *w, float by, int x, int y) {
     float zoom = w->zoom * by;
     if (zoom < 0.125f || zoom > 32) return;
+    SDL_SetTextureScaleMode(w->texture, zoom < 1 ? SDL_ScaleModeLinear : SDL_ScaleModeNearest);
     w->left = (float)x - ((float)x - w->left) * by;
     w->top = (float)y - ((float)y - w->top) * by;
     w->zoom = zoom;
+    say(w, "%d of 100", (int)(100 * zoom));
     present(w);
 }
 
@@ -324,8 +359,8 @@ static void resize_brush(struct window *w, int by) {
     say(w, "radius %u", w->brush.radius);
 }
 
-/* False where the window is to close. */
-static bool press(struct window *w, SDL_Keycode key) {
+/* What may be pressed also while the hand paints. */
+static void press_brush(struct window *w, SDL_Keycode key) {
     switch (key) {
     case SDLK_ESCAPE: end_stroke(w, true); break;
     case SDLK_p: choose_tool(w, false); break;
@@ -333,18 +368,24 @@ static bool press(struct window *w, SDL_Keycode key) {
     case SDLK_c: next_colour(w); break;
     case SDLK_LEFTBRACKET: resize_brush(w, -2); break;
     case SDLK_RIGHTBRACKET: resize_brush(w, 2); break;
-    case SDLK_z: is_fed(w, strokes_undo(locked(w))); break;
-    case SDLK_y: is_fed(w, strokes_redo(locked(w))); break;
-    case SDLK_n: add_layer(w, 0); break;
+    default: break;
+    }
+}
+
+static void press_between(struct window *w, SDL_Keycode key) {
+    switch (key) {
+    case SDLK_z: undo(w); break;
+    case SDLK_y: redo(w); break;
+    case SDLK_n:
+        if (add_layer(w, 0)) note_change(w, (struct change){ADDED, w->layer});
+        break;
     case SDLK_PAGEUP: choose_layer(w, 1); break;
     case SDLK_PAGEDOWN: choose_layer(w, -1); break;
     case SDLK_v: hide_layer(w); break;
     case SDLK_s: save(w); break;
     case SDLK_x: write_picture(w); break;
-    case SDLK_q: return false;
     default: break;
     }
-    return true;
 }
 
 static void go_down(struct window *w, int x, int y, Uint64 since) {
@@ -367,7 +408,10 @@ static bool answer_event(struct window *w, const SDL_Event *event) {
     int x, y;
     switch (event->type) {
     case SDL_QUIT: return false;
-    case SDL_KEYDOWN: return press(w, event->key.keysym.sym);
+    case SDL_KEYDOWN:
+        press_brush(w, event->key.keysym.sym);
+        if (!w->is_down) press_between(w, event->key.keysym.sym);
+        return event->key.keysym.sym != SDLK_q;
     case SDL_MOUSEBUTTONDOWN:
         if (event->button.button == SDL_BUTTON_LEFT && !w->is_down) go_down(w, event->button.x, event->button.y, since);
         break;

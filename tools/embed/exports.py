@@ -121,16 +121,16 @@ def value(kind, types):
 
 def main_of(src):
     """The main that calls each export for each line that it reads."""
-    types, calls = structs(pathlib.Path(src).parent.parent / "host_desk/src", src), []
+    types, calls = structs(pathlib.Path(src).parent.parent / "host_lines/src"), []
     for it in exports(src):
         call = f"{'::'.join([*it.module, it.name])}({', '.join(value(kind, types) for _, kind in it.parameters)})"
         calls.append(f"        sum += u64::from({call});" if it.result else f"        {call};")
     return """
 fn main(rt: HostRuntime) -> std::io::Result<()> {
     let alloc: Global = rt.alloc();
-    let mut desk = host_desk::DeskHandle::shut(alloc);
-    let mut piece = host_desk::PieceHandle::shut(alloc);
-    let mut shot = host_desk::ShotHandle::shut(alloc);
+    let mut desk = host_handles::DeskHandle::shut(alloc);
+    let mut piece = host_handles::PieceHandle::shut(alloc);
+    let mut shot = host_handles::ShotHandle::shut(alloc);
     let mut line = String::new(alloc);
     let mut sum = 0u64;
     let mut out = [0u8; 64];
@@ -170,7 +170,7 @@ def linked(crate, text):
     text = re.sub(symbol, r"@\1", text)
     text = text.replace(" sanitize_address", "").replace('"frame-pointer"="all" ', "")
     text = re.sub(r"= \{ \}$", "= { nounwind }", text, flags=re.M)
-    return re.sub(r"^define (noundef )?i32 @main\(", r"define hidden \1i32 @strokes_unused_main(", text, flags=re.M)
+    return re.sub(r"^define (noundef )?i32 @main\(", r"define internal \1i32 @strokes_unused_main(", text, flags=re.M)
 
 
 def main(words):

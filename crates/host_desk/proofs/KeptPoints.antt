@@ -6,7 +6,7 @@ use Rattle.std.proofs.lemmas.List.Folds.{list_all-map}
 use Rattle.geom_core.proofs.Tests.{and_left, and_right}
 use Rattle.doc_model.specs.Tracks.{point_of}
 use Rattle.script_forms.specs.Ranges.{is_short}
-use Rattle.host_desk.specs.declared.path.StrokesPoint.{StrokesPoint}
+use Rattle.host_lines.specs.declared.structs.StrokesPoint.{StrokesPoint}
 use Rattle.host_desk.specs.Paths.{is_near, spot}
 
 -- each of them may stand in a line

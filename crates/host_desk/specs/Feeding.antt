@@ -6,6 +6,7 @@ use Rattle.doc_model.specs.declared.command.Command.TheVariants as command
 use Rattle.doc_model.specs.declared.job.Job.{Job}
 use Rattle.doc_model.specs.Jobs.{checks}
 use Rattle.doc_model.specs.Strokes.{entries}
+use Rattle.doc_model.specs.Trails.{Trail}
 use Rattle.command_log.specs.Misfits.{jobs_misfit, misfit_of}
 use Rattle.script_lines.specs.declared.cause.Cause.{Cause}
 use Rattle.script_lines.specs.declared.cause.Cause.TheVariants.{OutOfWorld}
@@ -18,6 +19,7 @@ use Rattle.host_lines.specs.declared.answer.Answer.{Answer}
 use Rattle.host_lines.specs.declared.answer.Answer.TheVariants as answer
 use Rattle.host_lines.specs.declared.line.Line.{Line}
 use Rattle.host_lines.specs.Lines.{commands_of, fault_of, line_fault, said}
+use Rattle.host_lines.specs.Said.{track_told}
 
 -- these commands were fed, one after another
 abbrev pub Feeds : State → List Command → State → Type 0
@@ -54,6 +56,10 @@ FedLine s text a t = Fed s (line_fault s.canvas s.fed text) (said text) a t
 -- of what a line says
 abbrev pub FedTold : State → Line → Answer → State → Type 0
 FedTold s l a t = Fed s (fault_of s.fed l) (commands_of l) a t
+
+-- of the path of these numbers, or what is wrong with them was told
+abbrev pub FedPath : Result (ℕ × Trail) Cause → State → Answer → State → Type 0
+FedPath told s a t = FedTold s (track_told told) a t
 
 -- of a command
 abbrev pub FedValue : State → Command → Answer → State → Type 0

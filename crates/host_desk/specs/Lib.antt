@@ -1,15 +1,8 @@
-pub mod DeskHandles
 pub mod Feeding
-pub mod Fronts
-pub mod Giving
-pub mod Jobs
 pub mod Opening
 pub mod Paths
-pub mod PieceHandles
-pub mod Pieces
-pub mod ShotHandles
+pub mod Settling
 pub mod Taking
 pub mod Texts
 pub mod Tiles
 pub mod Views
-pub mod Walks

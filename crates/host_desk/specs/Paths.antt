@@ -10,16 +10,16 @@ use Rattle.script_lines.specs.declared.cause.Cause.TheVariants.{FieldCount, Rang
 use Rattle.script_lines.specs.Values.{◌>>=◌}
 use Rattle.script_forms.specs.Jobs.{drawn, measured}
 use Rattle.script_forms.specs.Ranges.{is_short}
-use Rattle.host_lines.specs.declared.values.Brush.{Brush}
+use Rattle.host_lines.specs.declared.structs.StrokesBrush.{StrokesBrush}
 use Rattle.host_lines.specs.Values.{stamp_by}
-use Rattle.host_desk.specs.declared.path.StrokesPoint.{StrokesPoint}
+use Rattle.host_lines.specs.declared.structs.StrokesPoint.{StrokesPoint}
 
 -- the point of these numbers
 abbrev pub spot : StrokesPoint → Point
 spot p = point p.x p.y
 
 -- what a brush lays, or that a number is outside its range
-abbrev pub stamped : Brush → Result Stamp Cause
+abbrev pub stamped : StrokesBrush → Result Stamp Cause
 stamped b = ok_or (stamp_by b) Range
 
 -- whether a column and a row are some that a line may tell
@@ -27,12 +27,12 @@ abbrev pub is_near : StrokesPoint → Bool
 is_near p = is_short (spot p)
 
 -- the track of these numbers, or the first cause of those that a path of a script may have
-unfoldable pub track_by : ℕ → List StrokesPoint → Brush → Result Trail Cause
+unfoldable pub track_by : ℕ → List StrokesPoint → StrokesBrush → Result Trail Cause
 track_by gap ps b =
     if nat_le 2 (length ps) && nat_le (length ps) 8
     then (if nat_le 1 gap && list_all is_near ps then (stamped b >>= (λ s. measured (trail (map spot ps) gap s))) else Err Range)
     else Err FieldCount
 
 -- the same with the stroke's number, where all dabs lie in the world
-unfoldable pub path_by : ℕ → ℕ → List StrokesPoint → Brush → Result (ℕ × Trail) Cause
+unfoldable pub path_by : ℕ → ℕ → List StrokesPoint → StrokesBrush → Result (ℕ × Trail) Cause
 path_by n gap ps b = track_by gap ps b >>= drawn n

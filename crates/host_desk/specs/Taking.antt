@@ -6,15 +6,15 @@ use Rattle.machine_model.specs.Settled.{IsSettled}
 use Rattle.machine_model.specs.MeaningLaws.{HasMeaning, waits_for_commands}
 use Rattle.machine_model.specs.Event.{Start, WalkStart}
 use Rattle.machine_model.specs.Step.{Step}
-use Rattle.desk_state.specs.Choices.{DoesAtOnce, HeadWaits, IsIdle}
+use Rattle.desk_state.specs.Choices.{DoesAtOnce, HeadWaits, IsIdle, MayWant}
 use Rattle.desk_events.specs.declared.tickets.PaintTicket.{PaintTicket}
 use Rattle.desk_events.specs.Shown.{ShowsPicture}
 use Rattle.desk_events.specs.Tickets.{IsPaintTicket, IsWalkTicket}
 use Rattle.host_lines.specs.declared.answer.Answer.{Answer}
 use Rattle.host_lines.specs.declared.answer.Answer.TheVariants as answer
-use Rattle.host_desk.specs.declared.piece.Piece.{Piece}
-use Rattle.host_desk.specs.declared.piece.Piece.TheVariants as piece
-use Rattle.host_desk.specs.Jobs.{IsOfTicket}
+use Rattle.host_pieces.specs.declared.piece.Piece.{Piece}
+use Rattle.host_pieces.specs.declared.piece.Piece.TheVariants as piece
+use Rattle.host_pieces.specs.Jobs.{IsOfTicket}
 
 -- a job or a walk was started, and the piece has it; a walk is started last
 abbrev pub Started : State → Piece → State → Type 0
@@ -39,5 +39,5 @@ Took s answer.Done p t = Started s p t
 Took s answer.Again p t = (p ≡ piece.Empty) × ((before now : ℕ) × DoesAtOnce s t before now)
 Took s answer.Idle p t = (p ≡ piece.Empty) × Idles s × (t ≡ s)
 Took s answer.Settled p t = (p ≡ piece.Empty) × IsAllDone s × (t ≡ s)
-Took s answer.NoMemory p t = (p ≡ piece.Empty) × (t ≡ s)
+Took s answer.NoMemory p t = (p ≡ piece.Empty) × MayWant s × (t ≡ s)
 Took s a p t = ⊥

@@ -36,7 +36,8 @@ impl Host {
     /// `Full`; `NoMemory`. But for `Done`, and for a path of which the first jobs were fed as memory ended, nothing
     /// is fed.
     pub fn line(&mut self, text: &[u8]) -> Answer
-        ensures more { more_in text.now ≡ true → (result ≡ answers.SecondLine) × (self.new ≡ self.old) }
+        ensures more { more_in text.now ≡ true
+            → (result ≡ answers.SecondLine) × (self.new ≡ self.old) }
         ensures fed { more_in text.now ≡ false → FedLine self.old text.now result self.new }
     {
         if has_more(text) {

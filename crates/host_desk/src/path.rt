@@ -8,25 +8,17 @@ ghost use Rattle.doc_model.specs.Trails.{centres};
 ghost use Rattle.doc_model.specs.Tracks.{point_of};
 ghost use Rattle.script_lines.specs.Colours.{is_byte, is_pixel};
 ghost use Rattle.script_forms.specs.Ranges.{is_coordinate as in_field, is_number, trail_in_range};
-ghost use Rattle.host_lines.specs.Lines.{IsGood, commands_of, fault_of};
+ghost use Rattle.host_lines.specs.Lines.{IsGood};
 ghost use Rattle.host_lines.specs.Said.{track_told};
-ghost use Rattle.host_desk.specs.Feeding.{Fed};
+ghost use Rattle.host_desk.specs.Feeding.{FedPath};
 ghost use Rattle.host_desk.specs.Paths.{is_near, path_by, spot, stamped, track_by};
 
 use crate::feeding::feed_told;
 use crate::host::Host;
 use doc_model::{Job, Stamp, Track, track_len};
 use geom_core::TileKey;
-use host_lines::{Answer, Brush, Line, stamp_of};
+use host_lines::{Answer, Line, StrokesBrush, StrokesPoint, stamp_of};
 use script_lines::Cause;
-
-/// A point of a path: its column and its row.
-#[repr(C)]
-#[derive(Clone, Copy)]
-pub struct StrokesPoint {
-    pub x: i32,
-    pub y: i32,
-}
 
 impl Host {
     /// Adds the dabs along a line of 2 to 8 points to a stroke, one each `gap` steps from 1 to 255, as a `path` of a
@@ -34,15 +26,21 @@ impl Host {
     ///
     /// It answers `Done`; `Fault` with what a line of it would have; `Full`; `NoMemory`, and the first of the jobs may
     /// be fed. But for the last two nothing is fed where it isn't `Done`.
-    pub fn path(&mut self, no: u32, gap: u8, points: &[StrokesPoint], brush: &Brush) -> Answer
-        ensures { Fed self.old (fault_of self.old.fed (track_told (path_by no gap points.now brush.now))) (commands_of (track_told (path_by no gap points.now brush.now))) result self.new }
+    pub fn path(
+        &mut self,
+        no: u32,
+        gap: u8,
+        points: &[StrokesPoint],
+        brush: &StrokesBrush,
+    ) -> Answer
+        ensures { FedPath (path_by no gap points.now brush.now) self.old result self.new }
     {
         feed_told(self.alloc, &mut self.desk, &line_by(no, gap, points, brush))
     }
 }
 
 /// The line that these numbers stand for.
-fn line_by(no: u32, gap: u8, points: &[StrokesPoint], brush: &Brush) -> Line
+fn line_by(no: u32, gap: u8, points: &[StrokesPoint], brush: &StrokesBrush) -> Line
     ensures value { result ≡ track_told (path_by no gap points.now brush.now) }
     ensures good { IsGood result }
 {
@@ -54,7 +52,12 @@ fn line_by(no: u32, gap: u8, points: &[StrokesPoint], brush: &Brush) -> Line
 
 /// The stroke's number and the track of a path, where all of its dabs lie in the world.
 #[tactic(auto, unfolding(crate::specs::Paths::path_by))]
-fn path_of(no: u32, gap: u8, points: &[StrokesPoint], brush: &Brush) -> Result<(u32, Track), Cause>
+fn path_of(
+    no: u32,
+    gap: u8,
+    points: &[StrokesPoint],
+    brush: &StrokesBrush,
+) -> Result<(u32, Track), Cause>
     ensures value { result ≡ path_by no gap points.now brush.now }
     ensures number { IfOk result (λ p. is_number p.0 ≡ true) }
     ensures ranges { IfOk result (λ p. trail_in_range p.1 ≡ true) }
@@ -71,7 +74,7 @@ fn path_of(no: u32, gap: u8, points: &[StrokesPoint], brush: &Brush) -> Result<(
 
 /// The track along these points, unless it has too many dabs.
 #[tactic(auto, using(crate::proofs::KeptPoints::short_all, crate::proofs::KeptPoints::spot_count), unfolding(crate::specs::Paths::track_by))]
-fn track_of(gap: u8, points: &[StrokesPoint], brush: &Brush) -> Result<Track, Cause>
+fn track_of(gap: u8, points: &[StrokesPoint], brush: &StrokesBrush) -> Result<Track, Cause>
     ensures value { result ≡ track_by gap points.now brush.now }
     ensures ranges { IfOk result (λ t. trail_in_range t ≡ true) }
     ensures few { IfOk result (λ t. length (centres t) ≤ 4096) }
@@ -91,7 +94,7 @@ fn track_of(gap: u8, points: &[StrokesPoint], brush: &Brush) -> Result<Track, Ca
 }
 
 /// What a brush lays, or that one of its numbers is outside its range.
-fn stamp_by(brush: &Brush) -> Result<Stamp, Cause>
+fn stamp_by(brush: &StrokesBrush) -> Result<Stamp, Cause>
     ensures value { result ≡ stamped brush.now }
     ensures radius { IfOk result (λ s. s.r ≤ 128) }
     ensures colour { IfOk result (λ s. is_pixel s.colour ≡ true) }

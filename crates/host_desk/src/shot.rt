@@ -1,7 +1,6 @@
 //! A picture that was taken of a desk.
 
-ghost use Rattle.std.specs.Prelude.{◌≡◌, ◌≤◌, ◌<◌, ◌+◌, ◌*◌, ◌++◌, length, take, drop};
-ghost use Rattle.tile_core.specs.Frames.{row_colours};
+ghost use Rattle.std.specs.Prelude.{◌≡◌, ◌≤◌, ◌<◌, ◌+◌, ◌*◌, ◌++◌, length, drop};
 ghost use Rattle.host_desk.specs.Views.{PartOf, part_colours};
 
 use host_lines::Answer;

@@ -4,11 +4,9 @@ ghost use Rattle.std.specs.Prelude.{◌≡◌, ◌<◌};
 ghost use Rattle.host_desk.specs.Taking.{Took};
 
 use crate::host::Host;
-use crate::job_piece::JobPiece;
-use crate::piece::Piece;
-use crate::walk_piece::WalkPiece;
 use desk_core::{Taken, settled_has_meaning, settled_shows_picture};
 use host_lines::Answer;
+use host_pieces::{JobPiece, Piece, WalkPiece};
 use memento_core::Steps;
 use std::marker::Brand;
 use std::sync::ledger::{Blank, Ledger};
@@ -16,7 +14,8 @@ use std::sync::ledger::{Blank, Ledger};
 impl Host {
     /// Takes what can be done next. There is a piece exactly where it answers `Done`; it wants no memory for the
     /// piece. `Again`: something was done in the call; `Idle`: nothing can be done before work is given back or
-    /// commands are fed, and with nothing at work only commands help; `Settled`; `NoMemory`, and all is as it was.
+    /// commands are fed, and with nothing at work only commands help; `Settled`; `NoMemory`, only where what may be
+    /// done next takes memory, and all is as it was.
     pub fn take(&mut self) -> (Answer, Piece)
         ensures { Took self.old result.0 result.1 self.new }
     {

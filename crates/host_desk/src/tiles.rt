@@ -73,7 +73,8 @@ fn canvas_rect(desk: &Desk) -> Rect
 /// Copies the pixels of a tile to the first places: clear ones where there is no tile.
 fn copy_tile(tile: Option<&Tile>, out: &mut [u8])
     requires room { 16384 ≤ length out.old }
-    ensures { out.new ≡ flat_map bytes_of (pixels_of (option_copied tile.entry)) ++ drop 16384 out.old }
+    ensures { out.new ≡ flat_map bytes_of (pixels_of (option_copied tile.entry))
+        ++ drop 16384 out.old }
 {
     match tile {
         Some(tile) => copy_pixels(tile.pixels(), &mut out[..TILE_BYTES]),

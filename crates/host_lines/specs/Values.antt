@@ -12,7 +12,7 @@ use Rattle.doc_model.specs.declared.job.Kind.TheVariants.{Con, Seq, Bar, Uni}
 use Rattle.doc_model.specs.declared.track.Stamp.{Stamp}
 use Rattle.doc_model.specs.Lawful.{within_limits}
 use Rattle.script_forms.specs.Ranges.{is_coordinate}
-use Rattle.host_lines.specs.declared.values.Brush.{Brush}
+use Rattle.host_lines.specs.declared.structs.StrokesBrush.{StrokesBrush}
 
 abbrev pub kind_by : ℕ → Option Kind
 kind_by n = if n == 0 then Some Con else if n == 1 then Some Seq else if n == 2 then Some Bar else if n == 3 then Some Uni else None
@@ -30,7 +30,7 @@ abbrev pub colour_by : ℕ → Rgba
 colour_by n = if_canonical (n / 2 ^ 24) ((n / 2 ^ 16) % 256) ((n / 2 ^ 8) % 256) (n % 256)
 
 -- what a brush lays, where its numbers are in their ranges
-unfoldable pub stamp_by : Brush → Option Stamp
+unfoldable pub stamp_by : StrokesBrush → Option Stamp
 stamp_by b = if nat_le b.radius 128
     then option_and_then (λ soft. option_map (λ op. record { r = b.radius; soft = soft; colour = colour_by b.colour; op = op; strength = b.strength }) (op_by b.op)) (soft_by b.soft)
     else None
@@ -41,7 +41,7 @@ begin_by n layer exclusive = if layer == 0 then None else Some (command.Stroke n
 abbrev pub dab_on : ℕ → Kind → ℤ → ℤ → Stamp → Command
 dab_on n kind x y s = command.Add n kind (Dab x y s.r s.soft s.colour s.op s.strength)
 
-unfoldable pub dab_by : ℕ → ℕ → ℤ → ℤ → Brush → Option Command
+unfoldable pub dab_by : ℕ → ℕ → ℤ → ℤ → StrokesBrush → Option Command
 dab_by n kind x y b = if is_coordinate x && is_coordinate y
     then option_and_then (λ k. option_map (dab_on n k x y) (stamp_by b)) (kind_by kind)
     else None

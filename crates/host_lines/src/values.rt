@@ -6,6 +6,7 @@ ghost use Rattle.script_forms.specs.Ranges.{in_range, is_coordinate as in_field}
 ghost use Rattle.doc_model.specs.declared.job.Job.TheVariants.{Dab};
 ghost use Rattle.host_lines.specs.Values.{IsOfLimits, begin_by, colour_by, dab_by, kind_by, op_by, soft_by, stamp_by};
 
+use crate::structs::StrokesBrush;
 use doc_model::{Command, Job, Kind, Stamp};
 use pixel_core::{Op, Pixel};
 
@@ -26,21 +27,6 @@ const MULTIPLY: u8 = 2;
 const SCREEN: u8 = 3;
 
 const ADDITION: u8 = 4;
-
-/// What a dab lays, in numbers.
-#[derive(Clone, Copy, Debug, PartialEq, Eq)]
-pub struct Brush {
-    /// Red, green, blue and alpha, the red highest. With an alpha of 0 it is the clear pixel.
-    pub colour: u32,
-    /// 0 to 128 pixels.
-    pub radius: u8,
-    /// 1 where it is weaker towards its rim, or else 0.
-    pub soft: u8,
-    /// The operation, from 0: over, erase, multiply, screen, addition.
-    pub op: u8,
-    /// In 255ths.
-    pub strength: u8,
-}
 
 /// The kind of that number.
 fn kind_of(kind: u32) -> Option<Kind>
@@ -94,7 +80,7 @@ fn colour_of(colour: u32) -> Pixel
 
 /// What a brush lays. None where one of its numbers is outside its range.
 #[tactic(auto, unfolding(crate::specs::Values::stamp_by))]
-pub fn stamp_of(brush: &Brush) -> Option<Stamp>
+pub fn stamp_of(brush: &StrokesBrush) -> Option<Stamp>
     ensures value { result ≡ stamp_by brush.now }
     ensures radius { IfSome result (λ s. s.r ≤ 128) }
     ensures pixel { IfSome result (λ s. is_pixel s.colour ≡ true) }
@@ -138,7 +124,7 @@ pub fn begin(no: u32, layer: u16, exclusive: bool) -> Option<Command>
 
 /// The command that adds a dab to a stroke. None where a number is outside its range.
 #[tactic(auto, unfolding(crate::specs::Values::dab_by))]
-pub fn dab(no: u32, kind: u32, x: i32, y: i32, brush: &Brush) -> Option<Command>
+pub fn dab(no: u32, kind: u32, x: i32, y: i32, brush: &StrokesBrush) -> Option<Command>
     ensures value { result ≡ dab_by no kind x y brush.now }
     ensures ranges { IfSome result (λ c. in_range c ≡ true) }
     ensures limits { IfSome result IsOfLimits }
@@ -157,7 +143,8 @@ pub fn dab(no: u32, kind: u32, x: i32, y: i32, brush: &Brush) -> Option<Command>
 
 /// The job of a dab.
 fn dab_job(x: i32, y: i32, stamp: &Stamp) -> Job
-    ensures { result ≡ Dab x y stamp.now.r stamp.now.soft stamp.now.colour stamp.now.op stamp.now.strength }
+    ensures { result
+        ≡ Dab x y stamp.now.r stamp.now.soft stamp.now.colour stamp.now.op stamp.now.strength }
 {
     Job::Dab {
         x,

@@ -6,13 +6,13 @@ use Rattle.host_lines.specs.declared.answer.Answer.{Answer}
 use Rattle.host_lines.specs.declared.answer.Answer.TheVariants as answer
 use Rattle.host_lines.specs.contracts.answer.AnswerPartialEq.TheImpl as derived
 use Rattle.host_lines.specs.Lines.{has_more, line_fault, said}
-use Rattle.host_desk.specs.declared.piece.Piece.{Piece}
-use Rattle.host_desk.specs.declared.piece.Piece.TheVariants as piece
+use Rattle.host_pieces.specs.declared.piece.Piece.{Piece}
+use Rattle.host_pieces.specs.declared.piece.Piece.TheVariants as piece
 use Rattle.host_desk.specs.Feeding.{Fed}
 use Rattle.host_desk.specs.Taking.{Took}
 use Rattle.host_desk.specs.Texts.{TextTold}
 use Rattle.strokes_c.specs.Calls.{DirtyTold, FedLine, TextGiven}
-use Rattle.strokes_c.specs.declared.values.StrokesRect.{StrokesRect}
+use Rattle.host_lines.specs.declared.structs.StrokesRect.{StrokesRect}
 
 -- a line was fed, or it was more than one
 pub line_fed : (bytes : List ℕ) (s t : State) (a : Answer) → (has_more bytes ≡ true → (a ≡ answer.SecondLine) × (t ≡ s)) → (has_more bytes ≡ false → Fed s (line_fault s.canvas s.fed bytes) (said bytes) a t) → FedLine bytes s a t
@@ -68,7 +68,7 @@ took_none s answer.Again p t other h = (refl, h.1)
 took_none s answer.Idle p t other h = (refl, h.1, h.2)
 took_none s answer.Settled p t other h = (refl, h.1, h.2)
 took_none s answer.Nothing p t other h = h
-took_none s answer.NoMemory p t other h = (refl, h.1)
+took_none s answer.NoMemory p t other h = (refl, h.1, h.2)
 took_none s answer.Shut p t other h = h
 took_none s answer.InUse p t other h = h
 took_none s answer.Undone p t other h = h

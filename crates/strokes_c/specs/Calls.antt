@@ -10,8 +10,6 @@ use Rattle.doc_model.specs.declared.command.Outcome.{Outcome}
 use Rattle.doc_model.specs.Feeding.{is_closed_entry}
 use Rattle.doc_model.specs.Picture.{canvas_area}
 use Rattle.doc_model.specs.Strokes.{entries}
-use Rattle.doc_model.specs.Trails.{Trail}
-use Rattle.script_lines.specs.declared.cause.Cause.{Cause}
 use Rattle.script_lines.specs.declared.cause.Cause.TheVariants.{Range, StrokeLeft}
 use Rattle.script_text.specs.declared.script.ReadRefusal.{ReadRefusal}
 use Rattle.script_text.specs.declared.script.ReadRefusal.TheVariants as refusal
@@ -23,24 +21,23 @@ use Rattle.desk_events.specs.Shown.{ShowsWhereClean}
 use Rattle.host_lines.specs.declared.answer.Answer.{Answer}
 use Rattle.host_lines.specs.declared.answer.Answer.TheVariants as answer
 use Rattle.host_lines.specs.Answers.{code_of}
-use Rattle.host_lines.specs.Lines.{commands_of, fault_of, has_more, line_fault, said}
-use Rattle.host_lines.specs.Said.{track_told}
-use Rattle.host_desk.specs.declared.piece.Piece.{Piece}
-use Rattle.host_desk.specs.declared.piece.Piece.TheVariants as piece
+use Rattle.host_lines.specs.Lines.{has_more, line_fault, said}
+use Rattle.host_pieces.specs.declared.piece.Piece.{Piece}
+use Rattle.host_pieces.specs.declared.piece.Piece.TheVariants as piece
 use Rattle.host_desk.specs.Feeding.{Fed, command_fault}
-use Rattle.host_desk.specs.Giving.{ChangesWithin, WorkGiven, WorkKept}
+use Rattle.host_pieces.specs.Giving.{ChangesWithin, WorkGiven, WorkKept}
 use Rattle.host_desk.specs.Opening.{OpensScript}
-use Rattle.host_desk.specs.Pieces.{SameWork, patch_in}
-use Rattle.host_desk.specs.Pieces as pieces
+use Rattle.host_pieces.specs.Pieces.{SameWork, patch_in}
+use Rattle.host_pieces.specs.Pieces as pieces
 use Rattle.host_desk.specs.Taking.{Took}
 use Rattle.host_desk.specs.Texts.{TextTold}
 use Rattle.host_desk.specs.Tiles.{TileTold}
 use Rattle.host_desk.specs.Views.{FrameRow, PartOf}
-use Rattle.strokes_c.specs.declared.values.StrokesCanvas.{StrokesCanvas}
-use Rattle.strokes_c.specs.declared.values.StrokesCount.{StrokesCount}
-use Rattle.strokes_c.specs.declared.values.StrokesOutcome.{StrokesOutcome}
-use Rattle.strokes_c.specs.declared.values.StrokesRect.{StrokesRect}
-use Rattle.strokes_c.specs.Values.{canvas_told, outcome_told, rect_by}
+use Rattle.host_lines.specs.declared.structs.StrokesCanvas.{StrokesCanvas}
+use Rattle.host_lines.specs.declared.structs.StrokesCount.{StrokesCount}
+use Rattle.host_lines.specs.declared.structs.StrokesOutcome.{StrokesOutcome}
+use Rattle.host_lines.specs.declared.structs.StrokesRect.{StrokesRect}
+use Rattle.host_lines.specs.Structs.{canvas_told, outcome_told, rect_by}
 
 -- a call on a desk: on a shut one, or on one that it left like this with the answer of that number
 abbrev pub Called : (State → Answer → State → Type 0) → List State → ℕ → List State → Type 0
@@ -65,10 +62,6 @@ abbrev pub FedValue : Option Command → State → Answer → State → Type 0
 FedValue None s a t = (a ≡ answer.Fault Range) × (t ≡ s)
 FedValue (Some c) s a t = Fed s (command_fault s.fed c) (c ∷ []) a t
 
--- the path of these numbers was fed, or what is wrong with them was told
-abbrev pub FedPath : Result (ℕ × Trail) Cause → State → Answer → State → Type 0
-FedPath told s a t = Fed s (fault_of s.fed (track_told told)) (commands_of (track_told told)) a t
-
 -- whether all strokes are closed was told
 abbrev pub closed_answer : Bool → Answer
 closed_answer true = answer.Done
@@ -77,12 +70,13 @@ closed_answer false = answer.Fault StrokeLeft
 abbrev pub ClosedTold : State → Answer → State → Type 0
 ClosedTold s a t = (a ≡ closed_answer (list_all is_closed_entry (entries s.fed))) × (t ≡ s)
 
--- what was taken came into a shut piece; one with work stays
+-- what was taken came into a shut piece; one with work stays; or there was no memory for a piece, and nothing was taken
 abbrev pub TakenInto : State → List Piece → Answer → State → List Piece → Type 0
 TakenInto s old a t new =
     ((p : Piece) × (old ≡ p ∷ []) × (new ≡ p ∷ []) × (a ≡ answer.InUse) × (t ≡ s))
     ⊎ ((p : Piece) × (old ≡ []) × (new ≡ p ∷ []) × (a ≡ answer.Done) × Took s a p t)
     ⊎ ((old ≡ []) × (new ≡ []) × ((a ≡ answer.Done) → ⊥) × Took s a piece.Empty t)
+    ⊎ ((old ≡ []) × (new ≡ []) × (a ≡ answer.NoMemory) × (t ≡ s))
 
 abbrev pub TookPiece : List State → List Piece → ℕ → List State → List Piece → Type 0
 TookPiece old held code new holds =

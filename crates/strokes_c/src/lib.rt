@@ -2,98 +2,48 @@
 //! `examples/embed/strokes.h` declares the same.
 #![tactic(auto)]
 
-ghost use Rattle.std.specs.Prelude.{◌≡◌, ◌≤◌, ◌<◌, Some, Ok, Err, map, [], ◌∷◌, IfOk, IfErr, IfSome, IfNone, length};
+ghost use Rattle.std.specs.Prelude.{◌≡◌, ◌≤◌, ◌<◌, Some, Ok, Err, [], IfOk, IfErr, IfSome, length};
 ghost use Rattle.doc_model.specs.declared.command.Command.TheVariants as command;
 ghost use Rattle.doc_model.specs.Canvases.{IsOfLimits as IsOfCanvasLimits};
 ghost use Rattle.machine_model.specs.State.{new_state};
 ghost use Rattle.desk_state.specs.Cached.{ShowsCache};
 ghost use Rattle.host_lines.specs.Values.{IsOfLimits, begin_by, dab_by};
-ghost use Rattle.host_desk.specs.Giving.{AllDone, Painted};
+ghost use Rattle.host_lines.specs.Structs.{canvas_by};
+ghost use Rattle.host_desk.specs.Feeding.{FedPath};
 ghost use Rattle.host_desk.specs.Opening.{OpensScript};
 ghost use Rattle.host_desk.specs.Paths.{path_by};
+ghost use Rattle.host_desk.specs.Settling.{AllDone, Painted};
 ghost use Rattle.host_desk.specs.Tiles.{tile_key};
-ghost use Rattle.strokes_c.specs.Calls.{Called, CanvasTold, ClosedTold, CountTold, FedLine, FedPath, FedValue, GavePiece, GivenFrom, Opened, OpenedScript, OutcomeAsked, OutcomeTold, PartCalled, RowCalled, ShotTaken, TakenInto, TextCalled, TextGiven, TileCalled, TileGiven, TookPiece, TookShot, WorkedOn, closed_answer};
-ghost use Rattle.strokes_c.specs.Values.{brush_by, canvas_by};
-
-mod values;
+ghost use Rattle.strokes_c.specs.Calls.{Called, CanvasTold, ClosedTold, CountTold, FedLine, FedValue, GavePiece, GivenFrom, Opened, OpenedScript, OutcomeAsked, OutcomeTold, PartCalled, RowCalled, ShotTaken, TakenInto, TextCalled, TextGiven, TileCalled, TileGiven, TookPiece, TookShot, WorkedOn, closed_answer};
 
 use doc_model::{Canvas, Command};
-use host_desk::{
-    Answer, DeskHandle, Host, Piece, PieceHandle, Shot, ShotHandle, StrokesPoint, begin, dab,
+use host_desk::{Host, Shot};
+use host_handles::{DeskHandle, PieceHandle, ShotHandle};
+use host_lines::{
+    Answer, StrokesBrush, StrokesCanvas, StrokesCount, StrokesOutcome, StrokesPoint, StrokesRect,
+    begin, canvas_of, canvas_within, dab, outcome_of, rect_of,
 };
+use host_pieces::Piece;
 use script_lines::Cause;
 use script_text::ReadRefusal;
 use std::alloc::Global;
-use std::mem;
-use values::{
-    StrokesBrush, StrokesCanvas, StrokesCount, StrokesOutcome, StrokesRect, brush_of, canvas_of,
-    canvas_within, outcome_of, rect_of,
-};
-
-/// The desk of a handle, which is shut then. None where it was shut.
-fn desk_out(alloc: Global, desk: &mut DeskHandle) -> Option<Box<Host>>
-    ensures some { IfSome result (λ b. desk.old.value ≡ b.value ∷ []) }
-    ensures none { IfNone result (desk.old.value ≡ []) }
-    ensures shut { desk.new.value ≡ [] }
-{
-    mem::replace(desk, DeskHandle::shut(alloc)).into_box()
-}
-
-/// A desk goes into a handle that is shut.
-fn desk_in(desk: &mut DeskHandle, host: Box<Host>)
-    ensures { desk.new.value ≡ host.value ∷ [] }
-{
-    drop(mem::replace(desk, DeskHandle::of(host)).into_box());
-}
-
-/// The piece of a handle, which is shut then. None where it was shut.
-fn piece_out(alloc: Global, piece: &mut PieceHandle) -> Option<Box<Piece>>
-    ensures some { IfSome result (λ b. piece.old.value ≡ b.value ∷ []) }
-    ensures none { IfNone result (piece.old.value ≡ []) }
-    ensures shut { piece.new.value ≡ [] }
-{
-    mem::replace(piece, PieceHandle::shut(alloc)).into_box()
-}
-
-/// A piece goes into a handle that is shut.
-fn piece_in(piece: &mut PieceHandle, work: Box<Piece>)
-    ensures { piece.new.value ≡ work.value ∷ [] }
-{
-    drop(mem::replace(piece, PieceHandle::of(work)).into_box());
-}
-
-/// The shot of a handle, which is shut then. None where it was shut.
-fn shot_out(alloc: Global, shot: &mut ShotHandle) -> Option<Box<Shot>>
-    ensures some { IfSome result (λ b. shot.old.value ≡ b.value ∷ []) }
-    ensures none { IfNone result (shot.old.value ≡ []) }
-    ensures shut { shot.new.value ≡ [] }
-{
-    mem::replace(shot, ShotHandle::shut(alloc)).into_box()
-}
-
-/// A shot goes into a handle, and what it had is let go.
-fn shot_in(shot: &mut ShotHandle, taken: Box<Shot>)
-    ensures { shot.new.value ≡ taken.value ∷ [] }
-{
-    drop(mem::replace(shot, ShotHandle::of(taken)).into_box());
-}
 
 #[unsafe(no_mangle)]
 pub extern "C" fn strokes_close(alloc: Global, desk: &mut DeskHandle)
     ensures { desk.new.value ≡ [] }
 {
-    drop(desk_out(alloc, desk));
+    drop(desk.take_out(alloc));
 }
 
 #[unsafe(no_mangle)]
 pub extern "C" fn strokes_feed(alloc: Global, desk: &mut DeskHandle, line: &[u8]) -> u32
     ensures { Called (FedLine line.now) desk.old.value result desk.new.value }
 {
-    let Some(mut host) = desk_out(alloc, desk) else {
+    let Some(mut host) = desk.take_out(alloc) else {
         return Answer::Shut.code();
     };
     let answer = host.line(line);
-    desk_in(desk, host);
+    desk.put(host);
     answer.code()
 }
 
@@ -102,11 +52,11 @@ fn feed(alloc: Global, desk: &mut DeskHandle, command: &Option<Command>) -> u32
     requires { IfSome command.now IsOfLimits }
     ensures { Called (FedValue command.now) desk.old.value result desk.new.value }
 {
-    let Some(mut host) = desk_out(alloc, desk) else {
+    let Some(mut host) = desk.take_out(alloc) else {
         return Answer::Shut.code();
     };
     let answer = feed_value(&mut host, command);
-    desk_in(desk, host);
+    desk.put(host);
     answer.code()
 }
 
@@ -145,10 +95,10 @@ pub extern "C" fn strokes_dab(
     y: i32,
     brush: &StrokesBrush,
 ) -> u32
-    ensures { Called (FedValue (dab_by stroke kind x y (brush_by brush.now)))
+    ensures { Called (FedValue (dab_by stroke kind x y brush.now))
         desk.old.value result desk.new.value }
 {
-    feed(alloc, desk, &dab(stroke, kind, x, y, &brush_of(brush)))
+    feed(alloc, desk, &dab(stroke, kind, x, y, brush))
 }
 
 #[unsafe(no_mangle)]
@@ -160,14 +110,14 @@ pub extern "C" fn strokes_path(
     points: &[StrokesPoint],
     brush: &StrokesBrush,
 ) -> u32
-    ensures { Called (FedPath (path_by stroke gap points.now (brush_by brush.now)))
+    ensures { Called (FedPath (path_by stroke gap points.now brush.now))
         desk.old.value result desk.new.value }
 {
-    let Some(mut host) = desk_out(alloc, desk) else {
+    let Some(mut host) = desk.take_out(alloc) else {
         return Answer::Shut.code();
     };
-    let answer = host.path(stroke, gap, points, &brush_of(brush));
-    desk_in(desk, host);
+    let answer = host.path(stroke, gap, points, brush);
+    desk.put(host);
     answer.code()
 }
 
@@ -204,11 +154,11 @@ pub extern "C" fn strokes_redo(alloc: Global, desk: &mut DeskHandle) -> u32
 pub extern "C" fn strokes_take(alloc: Global, desk: &mut DeskHandle, piece: &mut PieceHandle) -> u32
     ensures { TookPiece desk.old.value piece.old.value result desk.new.value piece.new.value }
 {
-    let Some(mut host) = desk_out(alloc, desk) else {
+    let Some(mut host) = desk.take_out(alloc) else {
         return Answer::Shut.code();
     };
     let answer = take(alloc, &mut host, piece);
-    desk_in(desk, host);
+    desk.put(host);
     answer.code()
 }
 
@@ -216,8 +166,8 @@ pub extern "C" fn strokes_take(alloc: Global, desk: &mut DeskHandle, piece: &mut
 fn take(alloc: Global, host: &mut Host, piece: &mut PieceHandle) -> Answer
     ensures { TakenInto host.old piece.old.value result host.new piece.new.value }
 {
-    if let Some(work) = piece_out(alloc, piece) {
-        piece_in(piece, work);
+    if let Some(work) = piece.take_out(alloc) {
+        piece.put(work);
         return Answer::InUse;
     }
     let Ok(mut work) = Box::new(alloc, Piece::Empty) else {
@@ -226,7 +176,7 @@ fn take(alloc: Global, host: &mut Host, piece: &mut PieceHandle) -> Answer
     let (answer, taken) = host.take();
     if answer == Answer::Done {
         *work = taken;
-        piece_in(piece, work);
+        piece.put(work);
         return answer;
     }
     answer
@@ -236,11 +186,11 @@ fn take(alloc: Global, host: &mut Host, piece: &mut PieceHandle) -> Answer
 pub extern "C" fn strokes_work(alloc: Global, piece: &mut PieceHandle) -> u32
     ensures { WorkedOn piece.old.value result piece.new.value }
 {
-    let Some(mut work) = piece_out(alloc, piece) else {
+    let Some(mut work) = piece.take_out(alloc) else {
         return Answer::Shut.code();
     };
     let answer = work.work(alloc);
-    piece_in(piece, work);
+    piece.put(work);
     answer.code()
 }
 
@@ -254,11 +204,11 @@ pub extern "C" fn strokes_give(
     ensures { GavePiece desk.old.value piece.old.value drawn.old
         result desk.new.value piece.new.value drawn.new }
 {
-    let Some(mut host) = desk_out(alloc, desk) else {
+    let Some(mut host) = desk.take_out(alloc) else {
         return Answer::Shut.code();
     };
     let answer = give(alloc, &mut host, piece, drawn);
-    desk_in(desk, host);
+    desk.put(host);
     answer.code()
 }
 
@@ -267,7 +217,7 @@ fn give(alloc: Global, host: &mut Host, piece: &mut PieceHandle, drawn: &mut Str
     ensures { GivenFrom host.old piece.old.value drawn.old
         result host.new piece.new.value drawn.new }
 {
-    let Some(mut work) = piece_out(alloc, piece) else {
+    let Some(mut work) = piece.take_out(alloc) else {
         return Answer::Shut;
     };
     let (answer, patch) = host.give(&mut work);
@@ -275,7 +225,7 @@ fn give(alloc: Global, host: &mut Host, piece: &mut PieceHandle, drawn: &mut Str
         *drawn = rect_of(&patch);
         return answer;
     }
-    piece_in(piece, work);
+    piece.put(work);
     answer
 }
 
@@ -283,18 +233,18 @@ fn give(alloc: Global, host: &mut Host, piece: &mut PieceHandle, drawn: &mut Str
 pub extern "C" fn strokes_close_piece(alloc: Global, piece: &mut PieceHandle)
     ensures { piece.new.value ≡ [] }
 {
-    drop(piece_out(alloc, piece));
+    drop(piece.take_out(alloc));
 }
 
 #[unsafe(no_mangle)]
 pub extern "C" fn strokes_small(alloc: Global, desk: &mut DeskHandle) -> u32
     ensures { Called Painted desk.old.value result desk.new.value }
 {
-    let Some(mut host) = desk_out(alloc, desk) else {
+    let Some(mut host) = desk.take_out(alloc) else {
         return Answer::Shut.code();
     };
     let answer = host.small();
-    desk_in(desk, host);
+    desk.put(host);
     answer.code()
 }
 
@@ -302,11 +252,11 @@ pub extern "C" fn strokes_small(alloc: Global, desk: &mut DeskHandle) -> u32
 pub extern "C" fn strokes_settle(alloc: Global, desk: &mut DeskHandle) -> u32
     ensures { Called AllDone desk.old.value result desk.new.value }
 {
-    let Some(mut host) = desk_out(alloc, desk) else {
+    let Some(mut host) = desk.take_out(alloc) else {
         return Answer::Shut.code();
     };
     let answer = host.settle();
-    desk_in(desk, host);
+    desk.put(host);
     answer.code()
 }
 
@@ -314,11 +264,11 @@ pub extern "C" fn strokes_settle(alloc: Global, desk: &mut DeskHandle) -> u32
 pub extern "C" fn strokes_all_closed(alloc: Global, desk: &mut DeskHandle) -> u32
     ensures { Called ClosedTold desk.old.value result desk.new.value }
 {
-    let Some(host) = desk_out(alloc, desk) else {
+    let Some(host) = desk.take_out(alloc) else {
         return Answer::Shut.code();
     };
     let answer = closed(host.all_closed());
-    desk_in(desk, host);
+    desk.put(host);
     answer.code()
 }
 
@@ -342,8 +292,8 @@ pub extern "C" fn strokes_open(
 ) -> u32
     ensures { Opened (canvas_by canvas.now) slots desk.old.value result desk.new.value }
 {
-    if let Some(host) = desk_out(alloc, desk) {
-        desk_in(desk, host);
+    if let Some(host) = desk.take_out(alloc) {
+        desk.put(host);
         return Answer::InUse.code();
     }
     let Some(canvas) = canvas_within(canvas) else {
@@ -354,7 +304,7 @@ pub extern "C" fn strokes_open(
     }
     match open(alloc, canvas, slots) {
         Some(host) => {
-            desk_in(desk, host);
+            desk.put(host);
             Answer::Done.code()
         }
         None => Answer::NoMemory.code(),
@@ -387,8 +337,8 @@ pub extern "C" fn strokes_open_script(
 ) -> u32
     ensures { OpenedScript text.now slots desk.old.value line.old result desk.new.value line.new }
 {
-    if let Some(host) = desk_out(alloc, desk) {
-        desk_in(desk, host);
+    if let Some(host) = desk.take_out(alloc) {
+        desk.put(host);
         return Answer::InUse.code();
     }
     if slots < 1 || slots > 17 {
@@ -400,7 +350,7 @@ pub extern "C" fn strokes_open_script(
     }
     match open_script(alloc, text, slots) {
         Ok(host) => {
-            desk_in(desk, host);
+            desk.put(host);
             Answer::Done.code()
         }
         Err(ReadRefusal::Fault(fault)) => {
@@ -437,11 +387,11 @@ pub extern "C" fn strokes_frame_row(
     ensures same { desk.new.value ≡ desk.old.value }
     ensures told { RowCalled frame y out.old desk.old.value result out.new }
 {
-    let Some(host) = desk_out(alloc, desk) else {
+    let Some(host) = desk.take_out(alloc) else {
         return Answer::Shut.code();
     };
     let answer = host.frame_row(frame, y, out);
-    desk_in(desk, host);
+    desk.put(host);
     answer.code()
 }
 
@@ -454,7 +404,7 @@ pub extern "C" fn strokes_count_of(
     ensures same { desk.new.value ≡ desk.old.value }
     ensures told { CountTold desk.old.value result out.old out.new }
 {
-    let Some(host) = desk_out(alloc, desk) else {
+    let Some(host) = desk.take_out(alloc) else {
         return Answer::Shut.code();
     };
     *out = StrokesCount {
@@ -462,7 +412,7 @@ pub extern "C" fn strokes_count_of(
         outcomes: host.outcome_count() as u64,
         frames: host.frame_count() as u64,
     };
-    desk_in(desk, host);
+    desk.put(host);
     Answer::Done.code()
 }
 
@@ -475,11 +425,11 @@ pub extern "C" fn strokes_canvas_of(
     ensures same { desk.new.value ≡ desk.old.value }
     ensures told { CanvasTold desk.old.value result out.old out.new }
 {
-    let Some(host) = desk_out(alloc, desk) else {
+    let Some(host) = desk.take_out(alloc) else {
         return Answer::Shut.code();
     };
     *out = canvas_of(&host.canvas());
-    desk_in(desk, host);
+    desk.put(host);
     Answer::Done.code()
 }
 
@@ -493,11 +443,11 @@ pub extern "C" fn strokes_outcome_at(
     ensures same { desk.new.value ≡ desk.old.value }
     ensures told { OutcomeAsked entry desk.old.value result out.old out.new }
 {
-    let Some(host) = desk_out(alloc, desk) else {
+    let Some(host) = desk.take_out(alloc) else {
         return Answer::Shut.code();
     };
     let answer = outcome_at(&host, entry, out);
-    desk_in(desk, host);
+    desk.put(host);
     answer.code()
 }
 
@@ -526,11 +476,11 @@ pub extern "C" fn strokes_text(
     ensures told { TextCalled desk.old.value next.old out.old written.old
         result next.new out.new written.new }
 {
-    let Some(host) = desk_out(alloc, desk) else {
+    let Some(host) = desk.take_out(alloc) else {
         return Answer::Shut.code();
     };
     let answer = text(&host, next, out, written);
-    desk_in(desk, host);
+    desk.put(host);
     answer.code()
 }
 
@@ -561,11 +511,11 @@ pub extern "C" fn strokes_tile(
     ensures told { TileCalled (tile_key col row) desk.old.value out.old dirty.old
         result out.new dirty.new }
 {
-    let Some(host) = desk_out(alloc, desk) else {
+    let Some(host) = desk.take_out(alloc) else {
         return Answer::Shut.code();
     };
     let answer = tile(&host, col, row, out, dirty);
-    desk_in(desk, host);
+    desk.put(host);
     answer.code()
 }
 
@@ -592,11 +542,11 @@ pub extern "C" fn strokes_shoot(
     ensures told { TookShot desk.old.value shot.old.value dirty.old
         result shot.new.value dirty.new }
 {
-    let Some(host) = desk_out(alloc, desk) else {
+    let Some(host) = desk.take_out(alloc) else {
         return Answer::Shut.code();
     };
     let answer = shoot(alloc, &host, shot, dirty);
-    desk_in(desk, host);
+    desk.put(host);
     answer.code()
 }
 
@@ -607,7 +557,7 @@ fn shoot(alloc: Global, host: &Host, shot: &mut ShotHandle, dirty: &mut StrokesR
     let Some(taken) = new_shot(alloc, host) else {
         return Answer::NoMemory;
     };
-    shot_in(shot, taken);
+    shot.put(taken);
     *dirty = rect_of(&host.dirty());
     Answer::Done
 }
@@ -637,11 +587,11 @@ pub extern "C" fn strokes_shot_row(
     ensures same { shot.new.value ≡ shot.old.value }
     ensures told { PartCalled x y w shot.old.value out.old result out.new }
 {
-    let Some(taken) = shot_out(alloc, shot) else {
+    let Some(taken) = shot.take_out(alloc) else {
         return Answer::Shut.code();
     };
     let answer = taken.row(x, y, w, out);
-    shot_in(shot, taken);
+    shot.put(taken);
     answer.code()
 }
 
@@ -649,5 +599,5 @@ pub extern "C" fn strokes_shot_row(
 pub extern "C" fn strokes_close_shot(alloc: Global, shot: &mut ShotHandle)
     ensures { shot.new.value ≡ [] }
 {
-    drop(shot_out(alloc, shot));
+    drop(shot.take_out(alloc));
 }

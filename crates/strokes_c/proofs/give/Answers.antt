@@ -1,10 +1,10 @@
 use Rattle.std.proofs.Common.{rules, ◌≡◌, [], ◌∷◌, ◌∙◌, Option, refl, sym, subst, ap, inl, inr}
 use Rattle.geom_core.specs.Areas.{Area}
 use Rattle.host_lines.specs.declared.answer.Answer.TheVariants as answer
-use Rattle.host_desk.specs.Giving.{ChangesWithin}
-use Rattle.host_desk.specs.Pieces.{patch_in}
+use Rattle.host_pieces.specs.Giving.{ChangesWithin}
+use Rattle.host_pieces.specs.Pieces.{patch_in}
 use Rattle.strokes_c.proofs.CalledDesks.{is_done, not_done}
-use Rattle.strokes_c.specs.Values.{rect_by}
+use Rattle.host_lines.specs.Structs.{rect_by}
 use Rattle.strokes_c.proofs.give.Goals as goal
 
 pub returns-in_default : goal.returns-in_default
@@ -28,6 +28,6 @@ returns-then-eq c =
 pub returns : goal.returns
 returns c =
     let old : c.args.piece.now.value ≡ c.deref_mut.result.now ∷ [] = search rules in
-    let new : c.piece_in.new.piece.value ≡ c.give-answer.new.piece ∷ [] = search rules in
+    let new : c.put.new.self.value ≡ c.give-answer.new.piece ∷ [] = search rules in
     let other = not_done c.give-answer.result.0 (sym c.eq.ensures ∙ c.if-eq.false) in
     inr (inr (c.deref_mut.result.now, c.give-answer.new.piece, old, new, refl, other, c.give-answer.ensures.given, c.give-answer.ensures.same other, c.give-answer.ensures.kept other))

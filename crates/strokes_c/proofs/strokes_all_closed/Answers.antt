@@ -8,5 +8,5 @@ returns-in_default c = inl (c.in_default.ensures.none, c.in_default.ensures.shut
 pub returns : goal.returns
 returns c =
     let old : c.args.desk.now.value ≡ c.deref.result.now ∷ [] = search rules in
-    let new : c.desk_in.new.desk.value ≡ c.deref.result.now ∷ [] = search rules in
+    let new : c.put.new.self.value ≡ c.deref.result.now ∷ [] = search rules in
     inr (c.deref.result.now, c.deref.result.now, c.closed-answer.result, old, new, c.code-2.ensures, (c.closed-answer.ensures ∙ ap closed_answer c.all_closed.ensures, refl))

@@ -9,7 +9,7 @@ pub returns-in_default-clause-told : goal.returns-in_default-clause-told
 returns-in_default-clause-told c = inl (c.in_default.ensures.none, c.code.ensures, refl)
 
 pub returns-clause-same : goal.returns-clause-same
-returns-clause-same c = c.desk_in.ensures ∙ sym c.in-Some.ensures.some
+returns-clause-same c = c.put.ensures ∙ sym c.in-Some.ensures.some
 
 pub returns-clause-told : goal.returns-clause-told
 returns-clause-told c =

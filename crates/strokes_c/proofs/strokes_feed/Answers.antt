@@ -8,5 +8,5 @@ returns-in_default c = inl (c.in_default.ensures.none, c.in_default.ensures.shut
 pub returns : goal.returns
 returns c =
     let old : c.args.desk.now.value ≡ c.deref_mut.result.now ∷ [] = search rules in
-    let new : c.desk_in.new.desk.value ≡ c.line-answer.new.self ∷ [] = search rules in
+    let new : c.put.new.self.value ≡ c.line-answer.new.self ∷ [] = search rules in
     inr (c.deref_mut.result.now, c.line-answer.new.self, c.line-answer.result, old, new, c.code-2.ensures, line_fed c.args.line.now c.deref_mut.result.now c.line-answer.new.self c.line-answer.result c.line-answer.ensures.more c.line-answer.ensures.fed)

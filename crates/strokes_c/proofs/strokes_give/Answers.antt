@@ -7,5 +7,5 @@ returns-in_default c = inl (c.in_default.ensures.none, c.in_default.ensures.shut
 pub returns : goal.returns
 returns c =
     let old : c.args.desk.now.value ≡ c.deref_mut.result.now ∷ [] = search rules in
-    let new : c.desk_in.new.desk.value ≡ c.give-answer.new.host ∷ [] = search rules in
+    let new : c.put.new.self.value ≡ c.give-answer.new.host ∷ [] = search rules in
     inr (c.deref_mut.result.now, c.give-answer.new.host, c.give-answer.result, old, new, c.code-2.ensures, c.give-answer.ensures)

@@ -1,11 +1,11 @@
 use Rattle.std.proofs.Common.{rules, ◌≡◌, Some, None, [], ◌∷◌, inl, inr}
 use Rattle.machine_model.specs.State.{new_state}
 use Rattle.strokes_c.specs.Calls.{AreSlots}
-use Rattle.strokes_c.specs.Values.{canvas_by}
+use Rattle.host_lines.specs.Structs.{canvas_by}
 use Rattle.strokes_c.proofs.strokes_open.Goals as goal
 
 pub returns-in-Some : goal.returns-in-Some
-returns-in-Some c = inl (c.in-Some.host.value, c.in-Some.ensures.some, c.desk_in.ensures, c.code.ensures)
+returns-in-Some c = inl (c.in-Some.host.value, c.in-Some.ensures.some, c.put.ensures, c.code.ensures)
 
 pub returns-in_default-canvas_within : goal.returns-in_default-canvas_within
 returns-in_default-canvas_within c =
@@ -21,7 +21,7 @@ pub returns-in-Some-open : goal.returns-in-Some-open
 returns-in-Some-open c =
     let canvas : canvas_by c.args.canvas.now ≡ Some c.in-Some-canvas_within.canvas = search rules in
     let slots : AreSlots c.args.slots = search rules in
-    let new : c.desk_in-in-Some-open.new.desk.value ≡ new_state c.in-Some-canvas_within.canvas c.args.slots ∷ [] = search rules in
+    let new : c.put-in-Some-open.new.self.value ≡ new_state c.in-Some-canvas_within.canvas c.args.slots ∷ [] = search rules in
     inr (c.in_default.ensures.none, inl (c.in-Some-canvas_within.canvas, canvas, slots, c.code-in-Some-open.ensures, new))
 
 pub returns-in-None : goal.returns-in-None

@@ -6,7 +6,7 @@ use Rattle.strokes_c.specs.Calls.{AreSlots}
 use Rattle.strokes_c.proofs.strokes_open_script.Goals as goal
 
 pub returns-in-Some : goal.returns-in-Some
-returns-in-Some c = inl (c.in-Some.host.value, c.in-Some.ensures.some, c.desk_in.ensures, c.code.ensures, refl)
+returns-in-Some c = inl (c.in-Some.host.value, c.in-Some.ensures.some, c.put.ensures, c.code.ensures, refl)
 
 pub returns-then-slots-lt1 : goal.returns-then-slots-lt1
 returns-then-slots-lt1 c =
@@ -22,7 +22,7 @@ returns-then-text-ge4294967295 c =
 pub returns-in-Ok : goal.returns-in-Ok
 returns-in-Ok c =
     let slots : AreSlots c.args.slots = search rules in
-    inr (c.in_default.ensures.none, inr (inr (Ok (c.in-Ok.host.value ∷ []), slots, (c.in-Ok.host.value, refl, c.in-Ok.ensures.ok), (c.code-in-Ok.ensures, c.desk_in-in-Ok.ensures, refl))))
+    inr (c.in_default.ensures.none, inr (inr (Ok (c.in-Ok.host.value ∷ []), slots, (c.in-Ok.host.value, refl, c.in-Ok.ensures.ok), (c.code-in-Ok.ensures, c.put-in-Ok.ensures, refl))))
 
 pub returns-in-Err-Fault : goal.returns-in-Err-Fault
 returns-in-Err-Fault c =

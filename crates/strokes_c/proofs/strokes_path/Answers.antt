@@ -1,7 +1,4 @@
-use Rattle.std.proofs.Common.{rules, ◌≡◌, [], ◌∷◌, inl, inr, subst}
-use Rattle.host_lines.specs.declared.values.Brush.{Brush}
-use Rattle.host_desk.specs.Paths.{path_by}
-use Rattle.strokes_c.specs.Calls.{FedPath}
+use Rattle.std.proofs.Common.{rules, ◌≡◌, [], ◌∷◌, inl, inr}
 use Rattle.strokes_c.proofs.strokes_path.Goals as goal
 
 pub returns-in_default : goal.returns-in_default
@@ -10,7 +7,7 @@ returns-in_default c = inl (c.in_default.ensures.none, c.in_default.ensures.shut
 pub returns : goal.returns
 returns c =
     let old : c.args.desk.now.value ≡ c.deref_mut.result.now ∷ [] = search rules in
-    let new : c.desk_in.new.desk.value ≡ c.path-answer.new.self ∷ [] = search rules in
+    let new : c.put.new.self.value ≡ c.path-answer.new.self ∷ [] = search rules in
     inr (
       c.deref_mut.result.now,
       c.path-answer.new.self,
@@ -18,5 +15,5 @@ returns c =
       old,
       new,
       c.code-2.ensures,
-      subst (λ (b : Brush). FedPath (path_by c.args.stroke c.args.gap c.args.points.now b) c.deref_mut.result.now c.path-answer.result c.path-answer.new.self) c.brush_of.ensures c.path-answer.ensures,
+      c.path-answer.ensures,
     )

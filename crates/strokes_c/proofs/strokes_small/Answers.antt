@@ -7,5 +7,5 @@ returns-in_default c = inl (c.in_default.ensures.none, c.in_default.ensures.shut
 pub returns : goal.returns
 returns c =
     let old : c.args.desk.now.value ≡ c.deref_mut.result.now ∷ [] = search rules in
-    let new : c.desk_in.new.desk.value ≡ c.small-answer.new.self ∷ [] = search rules in
+    let new : c.put.new.self.value ≡ c.small-answer.new.self ∷ [] = search rules in
     inr (c.deref_mut.result.now, c.small-answer.new.self, c.small-answer.result, old, new, c.code-2.ensures, c.small-answer.ensures)

@@ -7,5 +7,5 @@ returns-in_default c = inl (c.in_default.ensures.none, c.in_default.ensures.shut
 pub returns : goal.returns
 returns c =
     let old : c.args.desk.now.value ≡ c.deref_mut.result.now ∷ [] = search rules in
-    let new : c.desk_in.new.desk.value ≡ c.take-answer.new.host ∷ [] = search rules in
+    let new : c.put.new.self.value ≡ c.take-answer.new.host ∷ [] = search rules in
     inr (c.deref_mut.result.now, c.take-answer.new.host, c.take-answer.result, old, new, c.code-2.ensures, c.take-answer.ensures)

@@ -7,5 +7,5 @@ returns-in_default c = inl (c.in_default.ensures.none, c.in_default.ensures.shut
 pub returns : goal.returns
 returns c =
     let old : c.args.piece.now.value ≡ c.deref_mut.result.now ∷ [] = search rules in
-    let new : c.piece_in.new.piece.value ≡ c.work-answer.new.self ∷ [] = search rules in
+    let new : c.put.new.self.value ≡ c.work-answer.new.self ∷ [] = search rules in
     inr (c.deref_mut.result.now, c.work-answer.new.self, c.work-answer.result, old, new, c.code-2.ensures, c.work-answer.ensures)

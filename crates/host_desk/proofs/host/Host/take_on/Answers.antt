@@ -1,11 +1,11 @@
-use Rattle.std.proofs.Common.{Ok, refl, sym, ap, subst}
+use Rattle.std.proofs.Common.{Ok, refl, sym, ap, subst, ◌∙◌}
 use Rattle.machine_model.specs.State.{State}
 use Rattle.machine_model.specs.Event.{Start, WalkStart}
 use Rattle.machine_model.specs.Step.{Step}
-use Rattle.desk_state.specs.Choices.{HeadWaits}
-use Rattle.host_desk.specs.declared.piece.Piece.TheVariants as piece
+use Rattle.desk_state.specs.Choices.{HeadWaits, MayWant}
+use Rattle.host_pieces.specs.declared.piece.Piece.TheVariants as piece
 use Rattle.host_desk.specs.Taking.{Started}
-use Rattle.host_desk.specs.Walks.{WalkWork}
+use Rattle.host_pieces.specs.Walks.{WalkWork}
 use Rattle.host_desk.proofs.host.Host.take_on.Goals as goal
 
 pub new-requires-clause-checked : goal.new-requires-clause-checked
@@ -28,3 +28,6 @@ returns-in-Ok-Walk g c =
     let last = c.in-Ok-Walk.ensures.last c.in-Ok-Walk.ticket (ap Ok c.in-Ok-Walk.field-0-is) in
     subst (λ (w : WalkWork). Started c.args.self.now (piece.Walk w) c.take.new.self) (sym c.new-in-Ok-Walk.ensures)
     (subst (λ (s : State). Step s (WalkStart c.in-Ok-Walk.ticket.slot.place c.in-Ok-Walk.ticket.inputs.patch) c.take.new.self) c.self.view_is told.0, told.1, subst HeadWaits c.self.view_is last, refl)
+
+pub returns : goal.returns
+returns g c = (refl, subst MayWant c.self.view_is c.in-Err.ensures.err.0, c.in-Err.ensures.err.1 ∙ c.self.view_is)

@@ -1,5 +1,0 @@
-use Rattle.host_desk.proofs.PaintedJobs.{goes_then}
-use Rattle.host_desk.proofs.job_piece.JobPiece.work.Goals as goal
-
-pub returns-clause-on : goal.returns-clause-on
-returns-clause-on c = goes_then c.args.self.now c.begin.new.self c.paint.new.self c.begin.ensures.on c.paint.ensures.on

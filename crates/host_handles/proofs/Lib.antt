@@ -1,0 +1,3 @@
+mod DeskHandleSlots
+mod PieceHandleSlots
+mod ShotHandleSlots

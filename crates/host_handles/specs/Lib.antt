@@ -1,0 +1,3 @@
+pub mod DeskHandles
+pub mod PieceHandles
+pub mod ShotHandles

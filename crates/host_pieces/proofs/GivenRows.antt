@@ -1,0 +1,126 @@
+-- What work that is given leaves of the root's cache.
+use Rattle.std.proofs.Common.{◌≡◌, ℕ, ◌+◌, Bool, true, false, eqb, Option, Some, None, Ok, Err, List, [], ◌∷◌, ◌++◌, take, refl, sym, ap, ◌∙◌, subst, arith, inl, inr}
+use Rattle.std.specs.Prelude.{Result, slice_get}
+use Rattle.std.specs.Result.{IsErr}
+use Rattle.std.specs.Ordering.{nat_cmp}
+use Rattle.std.specs.FinMap.{FinMap}
+use Rattle.std.proofs.lemmas.Bool.Decides.{nat_tests}
+use Rattle.geom_core.specs.Areas.{Point, holds}
+use Rattle.geom_core.specs.Grid.{Key, keys_of}
+use Rattle.doc_model.specs.declared.canvas.Patch.{Patch}
+use Rattle.doc_model.specs.Layers.{Layer, at}
+use Rattle.whole_tiles.specs.Wholes.{Entire}
+use Rattle.machine_model.specs.State.{State, Walker, Walks}
+use Rattle.machine_model.specs.Event.{Event, Feed, Init, Start, Publish, End, Finish, Cancel, Act, WalkStart, WalkPublish, WalkEnd}
+use Rattle.machine_model.specs.EffectLaws.{ComposesTile}
+use Rattle.machine_model.specs.Groups.{cache}
+use Rattle.machine_model.specs.Step.{Run, Step, WalkPublishStep}
+use Rattle.machine_model.proofs.EffectsHold.{walk_stays_in_tile}
+use Rattle.machine_model.proofs.Lists.{get_set}
+use Rattle.walker_core.specs.Composing.{Composition}
+use Rattle.desk_state.specs.Enabled.{ends}
+use Rattle.desk_events.specs.Commits.{MayPublishRow, lacking_at, pair_events, row_events}
+use Rattle.desk_events.specs.declared.tickets.SlotId.{SlotId}
+use Rattle.desk_core.specs.Commits.{commit_events}
+use Rattle.desk_core.specs.declared.answers.Published.{Published}
+use Rattle.host_lines.specs.declared.answer.Answer.TheVariants as answer
+use Rattle.host_pieces.specs.declared.piece.Piece.{Piece}
+use Rattle.host_pieces.specs.declared.piece.Piece.TheVariants as piece
+use Rattle.host_pieces.specs.Giving.{BreaksOff, ChangesWithin, PatchGiven, RowsAnswered, RowsGiven, TilesGiven, WalkGiven, WorkGiven}
+use Rattle.host_pieces.specs.Jobs.{are_made}
+use Rattle.host_pieces.specs.Pieces.{patch_in}
+use Rattle.host_pieces.specs.Walks.{WalkWork, composed_by}
+use Rattle.host_pieces.proofs.Fronts.{next_taken}
+
+-- ---- one tile after another
+
+rows_then : (slot : SlotId) (c : Composition) (keys : List Key) (key : Key) (s mid t : State) → RowsGiven slot c keys s mid → MayPublishRow mid slot.place slot.serial c key → Run mid (row_events mid slot.place key) t → RowsGiven slot c (keys ++ key ∷ []) s t
+rows_then slot c [] key s mid t given may run = (t, subst (λ x. MayPublishRow x slot.place slot.serial c key) given may, subst (λ x. Run x (row_events x slot.place key) t) given run, refl)
+rows_then slot c (k ∷ keys) key s mid t given may run = (given.0, given.1, given.2, rows_then slot c keys key given.0 mid t given.3 may run)
+
+-- the tile at an index too
+pub rows_more : (slot : SlotId) (c : Composition) (keys : List Key) (i : ℕ) (key : Key) (s mid t : State) → slice_get keys i ≡ Some key → RowsGiven slot c (take i keys) s mid → MayPublishRow mid slot.place slot.serial c key × Run mid (row_events mid slot.place key) t → RowsGiven slot c (take (i + 1) keys) s t
+rows_more slot c keys i key s mid t here given stored = subst (λ ks. RowsGiven slot c ks s t) (sym (next_taken keys i key here)) (rows_then slot c (take i keys) key s mid t given stored.0 stored.1)
+
+-- memory ended
+pub rows_break : {E : Type 0} (s t : State) (slot : SlotId) (c : Composition) (keys : List Key) (r : Result Published E) → IsErr r → BreaksOff s slot c keys t → RowsAnswered s slot c keys r t
+rows_break s t slot c keys (Ok p) is breaks = cc
+rows_break s t slot c keys (Err e) is breaks = breaks
+
+-- ---- walks
+
+one_walker : (a b : Walker) → Some (Walks a) ≡ Some (Walks b) → a ≡ b
+one_walker a b e = cc
+
+pairs_within : (place : ℕ) (ps : List (ℕ × Key)) (w : Walker) (s t : State) → slice_get s.slots place ≡ Some (Walks w) → Run s (pair_events place ps) t → (p : Point) → holds w.patch.rect p ≡ false → at (cache t.caches 0) p ≡ at (cache s.caches 0) p
+pairs_within place [] w s t runs run p out = ap (λ (x : State). at (cache x.caches 0) p) run
+pairs_within place (q ∷ ps) w s t runs run p out = pairs_within place ps next run.0 t there run.2 p (subst (λ (x : Walker). holds x.patch.rect p ≡ false) (sym mine) out) ∙ here (eqb 0 q.0) refl
+  where
+    step : WalkPublishStep s place q.0 q.1 run.0
+    step = run.1
+
+    told : ComposesTile s run.0 place q.0 q.1
+    told = walk_stays_in_tile s run.0 place q.0 q.1 step
+
+    mine : step.walker ≡ w
+    mine = one_walker step.walker w (sym step.runs ∙ runs)
+
+    next : Walker
+    next = record step.walker { published = (q.0, q.1) ∷ step.walker.published }
+
+    there : slice_get run.0.slots place ≡ Some (Walks next)
+    there = ap (λ (x : State). slice_get x.slots place) step.new_is ∙ get_set s.slots place (Walks step.walker) (Walks next) step.runs
+
+    here : (b : Bool) → eqb 0 q.0 ≡ b → at (cache run.0.caches 0) p ≡ at (cache s.caches 0) p
+    here true e = let is : q.0 ≡ 0 = grind (arith, nat_tests) in
+        subst (λ n. at (cache run.0.caches n) p ≡ at (cache s.caches n) p) is (told.out_of_patch p (subst (λ (x : Walker). holds x.patch.rect p ≡ false) (sym (one_walker told.walker w (sym told.at_work ∙ runs))) out))
+    here false e = told.others 0 p (grind (arith, nat_tests))
+
+rows_within : (slot : SlotId) (c : Composition) (keys : List Key) (s t : State) → RowsGiven slot c keys s t → (p : Point) → holds c.readings.patch.rect p ≡ false → at (cache t.caches 0) p ≡ at (cache s.caches 0) p
+rows_within slot c [] s t given p out = ap (λ (x : State). at (cache x.caches 0) p) given
+rows_within slot c (k ∷ keys) s t given p out =
+    let may : MayPublishRow s slot.place slot.serial c k = given.1 in
+    rows_within slot c keys given.0 t given.3 p out
+    ∙ pairs_within slot.place (lacking_at (slice_get s.slots slot.place) k) may.walker s given.0 may.runs given.2 p (subst (λ (q : Patch). holds q.rect p ≡ false) (sym may.of.of.same.patch) out)
+
+end_leaves : (s t : State) (place : ℕ) (e : Event) → ends place e ≡ true → Step s e t → t.caches ≡ s.caches
+end_leaves s t place (End p) h step = ap (λ (x : State). x.caches) step.new_is
+end_leaves s t place (WalkEnd p) h step = ap (λ (x : State). x.caches) step.new_is
+end_leaves s t place (Feed c) h step = cc
+end_leaves s t place Init h step = cc
+end_leaves s t place (Start p) h step = cc
+end_leaves s t place (Publish p k) h step = cc
+end_leaves s t place Finish h step = cc
+end_leaves s t place Cancel h step = cc
+end_leaves s t place Act h step = cc
+end_leaves s t place (WalkStart p q) h step = cc
+end_leaves s t place (WalkPublish p g k) h step = cc
+
+-- ---- jobs
+
+commit_leaves : (place : ℕ) (tiles : List Entire) (s t : State) → Run s (commit_events place tiles) t → t.caches ≡ s.caches
+commit_leaves place [] s t run = ap (λ (x : State). x.caches) run.2 ∙ ap (λ (x : State). x.caches) run.1.new_is
+commit_leaves place (x ∷ tiles) s t run = commit_leaves place tiles run.0 t run.2 ∙ ap (λ (x : State). x.caches) run.1.new_is
+
+tiles_leave : (slot : SlotId) (tiles : Option (List Entire)) (s t : State) → TilesGiven s slot tiles answer.Done t → t.caches ≡ s.caches
+tiles_leave slot (Some tiles) s t h = commit_leaves slot.place tiles s t h.1
+tiles_leave slot None s t h = absurd h
+
+-- ---- pieces
+
+patch_within : (s t : State) (slot : SlotId) (c : Composition) → PatchGiven s slot c answer.Done t → (p : Point) → holds c.readings.patch.rect p ≡ false → at (cache t.caches 0) p ≡ at (cache s.caches 0) p
+patch_within s t slot c (inl g) p out =
+    ap (λ (l : FinMap nat_cmp Layer). at (cache l 0) p) (end_leaves g.0 t slot.place g.2.1.0 g.2.1.1 g.2.1.2)
+    ∙ rows_within slot c (keys_of c.readings.patch.rect) s g.0 g.1 p out
+patch_within s t slot c (inr (inl g)) p out = let e : answer.Done ≡ answer.Stranger = g.0 in cc
+patch_within s t slot c (inr (inr g)) p out = let e : answer.Done ≡ answer.NoMemory = g.0 in cc
+
+walk_within : (s t : State) (w : WalkWork) → WalkGiven s w answer.Done t → (p : Point) → holds w.ticket.inputs.patch.rect p ≡ false → at (cache t.caches 0) p ≡ at (cache s.caches 0) p
+walk_within s t w (inl h) p out = patch_within s t w.ticket.slot (composed_by w) h.1 p out
+walk_within s t w (inr h) p out = let e : answer.Done ≡ answer.Undone = h.1 in cc
+
+-- the root's cache changes within the rectangle of the work alone
+pub given_within : (s t : State) (p : Piece) → WorkGiven s p answer.Done t → ChangesWithin (patch_in p) s t
+given_within s t piece.Empty h = absurd h
+given_within s t (piece.Job j) h = λ p. ap (λ (c : FinMap nat_cmp Layer). at (cache c 0) p) (tiles_leave j.slot (are_made j.stage) s t h)
+given_within s t (piece.Walk w) h = walk_within s t w h

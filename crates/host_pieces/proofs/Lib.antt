@@ -1,0 +1,6 @@
+mod ComposedWalks
+mod Fronts
+mod GivenPieces
+pub mod GivenRows
+mod KeptTiles
+mod PaintedJobs

@@ -1,0 +1,45 @@
+-- Pieces of work, and what becomes of them.
+use Rattle.std.specs.Prelude.{◌≡◌, Result, Ok, Err, Option, Some, None}
+use Rattle.geom_core.specs.Areas.{Area}
+use Rattle.host_lines.specs.declared.answer.Answer.{Answer}
+use Rattle.host_lines.specs.declared.answer.Answer.TheVariants as answer
+use Rattle.host_pieces.specs.declared.piece.Piece.{Piece}
+use Rattle.host_pieces.specs.declared.piece.Piece.TheVariants as piece
+use Rattle.host_pieces.specs.Jobs.{GoesOn, HasAllTiles}
+use Rattle.host_pieces.specs.Walks.{HasAllRows, WalksOn}
+
+-- the answer to work that may want memory
+abbrev pub worked : {E : Type 0} → Result (Unit {0}) E → Answer
+worked (Ok u) = answer.Done
+worked (Err e) = answer.NoMemory
+
+-- it is the same work
+abbrev pub SameWork : Piece → Piece → Type 0
+SameWork piece.Empty piece.Empty = Unit {0}
+SameWork (piece.Job j) (piece.Job k) = k.slot ≡ j.slot
+SameWork (piece.Walk v) (piece.Walk w) = w.ticket ≡ v.ticket
+SameWork p q = ⊥
+
+-- it is the same work, with what was done of it, or more
+abbrev pub IsAhead : Piece → Piece → Type 0
+IsAhead (piece.Job j) (piece.Job k) = GoesOn j k
+IsAhead (piece.Walk v) (piece.Walk w) = WalksOn v w
+IsAhead p q = ⊥
+
+-- all its work is done
+abbrev pub IsDone : Piece → Type 0
+IsDone piece.Empty = ⊥
+IsDone (piece.Job j) = HasAllTiles j
+IsDone (piece.Walk w) = HasAllRows w
+
+-- a piece was worked on
+abbrev pub Worked : Piece → Answer → Piece → Type 0
+Worked old answer.Done new = IsAhead old new × IsDone new
+Worked old answer.NoMemory new = IsAhead old new
+Worked old answer.Shut new = (old ≡ piece.Empty) × (new ≡ piece.Empty)
+Worked old a new = ⊥
+
+-- the rectangle that its work composes anew
+abbrev pub patch_in : Piece → Option Area
+patch_in (piece.Walk w) = Some w.ticket.inputs.patch.rect
+patch_in p = None

@@ -1,0 +1,56 @@
+//! Work that a thread holds.
+
+ghost use Rattle.std.specs.Prelude.{◌≡◌};
+ghost use Rattle.host_pieces.specs.Pieces.{Worked, patch_in, worked};
+
+use crate::job_piece::JobPiece;
+use crate::walk_piece::WalkPiece;
+use geom_core::{NoMemory, Rect};
+use host_lines::Answer;
+use std::alloc::Global;
+
+/// A piece of work, or none.
+#[derive(Drop)]
+pub enum Piece {
+    /// It has no work.
+    Empty,
+    /// A job to be painted.
+    Job(JobPiece),
+    /// A patch to be composed anew.
+    Walk(WalkPiece),
+}
+
+impl Piece {
+    /// Does its work: it paints the tiles of a job that aren't painted yet, or composes the tiles of a walk that
+    /// aren't composed. It answers `Done`, also where all was done before; `Shut` where it has none; `NoMemory`,
+    /// and the same call goes on with what is done so far.
+    pub fn work(&mut self, alloc: Global) -> Answer
+        ensures { Worked self.old result self.new }
+    {
+        match self {
+            Piece::Empty => Answer::Shut,
+            Piece::Job(job) => told(job.work(alloc)),
+            Piece::Walk(walk) => told(walk.work(alloc)),
+        }
+    }
+
+    /// The rectangle of the canvas that its work composes anew: that of a walk's patch, or none.
+    pub fn patch(&self) -> Option<Rect>
+        ensures { result ≡ patch_in self.now }
+    {
+        match self {
+            Piece::Walk(walk) => Some(walk.patch()),
+            _ => None,
+        }
+    }
+}
+
+/// The answer to work that may want memory.
+fn told(done: Result<(), NoMemory>) -> Answer
+    ensures { result ≡ worked done }
+{
+    match done {
+        Ok(()) => Answer::Done,
+        Err(_) => Answer::NoMemory,
+    }
+}
