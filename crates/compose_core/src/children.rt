@@ -9,14 +9,14 @@ ghost use Rattle.compose_core.specs.declared.children.Given.TheVariants as given
 ghost use Rattle.compose_core.specs.Laid.{LaysChild};
 ghost use Rattle.compose_core.specs.Spots.{IsSpot, given_on};
 
-use crate::part::{Part, part_of};
+use crate::part::part_of;
 use crate::spot::Spot;
 use doc_model::Look;
 use geom_core::{NoMemory, Rect};
 use pixel_core::Pixel;
 use pixel_rows::{lay_colour, lay_sources};
 use std::alloc::Global;
-use tile_core::Tile;
+use tile_core::{Part, Tile};
 
 /// What a child of a group has on a tile.
 #[derive(Drop)]

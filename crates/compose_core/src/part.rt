@@ -5,15 +5,7 @@ ghost use Rattle.geom_core.specs.Rects.{IsWithin};
 ghost use Rattle.tile_core.specs.Pixels.{whole_tile};
 
 use geom_core::Rect;
-
-/// A part of a tile: `w` columns from the column `left` on, in `h` rows from the row `top` on.
-#[derive(Clone, Copy, Debug)]
-pub struct Part {
-    pub left: usize,
-    pub top: usize,
-    pub w: usize,
-    pub h: usize,
-}
+use tile_core::Part;
 
 /// The part that a rectangle inside the tile with the corner (0, 0) is.
 pub fn part_of(rect: &Rect) -> Part

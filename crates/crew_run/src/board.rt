@@ -4,15 +4,15 @@ ghost use Rattle.std.specs.Prelude.{◌≡◌};
 ghost use Rattle.script_text.specs.Script.{Contents};
 ghost use Rattle.crew_run.specs.Front.{IsFront, nothing};
 
-use crate::effort::{WORTH_TWO, load_of, points_in};
+use crate::effort::{WORTH_TWO, load_of};
 use crate::feeding::feed_ahead;
 use crate::pieces::{Piece, Walking};
-use crate::work::{Rows, Tiles, Work};
+use crate::work::{Tiles, WalkRows, Work};
 use desk_core::{Desk, Ended, Published, Taken};
 use geom_core::NoMemory;
 use memento_core::Steps;
 use script_text::Script;
-use stamped_desk::{Naming, StampedDesk, StampedPainting, StampedTiles, StampedWalk};
+use stamped_desk::{StampNaming, StampedDesk, StampedPainting, StampedTiles, StampedWalk};
 use std::alloc::Global;
 use std::marker::{Brand, PhantomData};
 use std::sync::Arc;
@@ -31,7 +31,7 @@ impl Following for Brand {
 /// A desk whose canvas is the script's and whose commands begin the script, and what is known of the
 /// threads.
 #[derive(Drop)]
-pub(crate) struct Board<J: Following + Naming> {
+pub(crate) struct Board<J: Following + StampNaming> {
     alloc: Global,
     desk: StampedDesk<J>,
     /// The caller's thread and those of the workers.
@@ -55,7 +55,7 @@ pub(crate) struct Board<J: Following + Naming> {
 
 /// What is to be done with the tiles that a thread brought.
 #[derive(Drop)]
-pub(crate) enum Brought<J: Naming> {
+pub(crate) enum Brought<J: StampNaming> {
     /// Nothing: some tiles of the job are missing.
     Kept,
     /// All tiles are there: the gate is entered, and then they are published.
@@ -66,7 +66,7 @@ pub(crate) enum Brought<J: Naming> {
 
 /// One look at the board.
 #[derive(Drop)]
-pub(crate) enum Next<J: Naming> {
+pub(crate) enum Next<J: StampNaming> {
     Work(Work<J>),
     /// An event was made; more may be there.
     Again,
@@ -76,7 +76,7 @@ pub(crate) enum Next<J: Naming> {
     Stop,
 }
 
-impl<J: Following + Naming> Board<J> {
+impl<J: Following + StampNaming> Board<J> {
     /// A board on which nothing is at work.
     pub(crate) fn new(alloc: Global, desk: StampedDesk<J>, threads: usize) -> Board<J>
         requires canvas { desk.canvas ≡ J.script.canvas }
@@ -228,7 +228,7 @@ impl<J: Following + Naming> Board<J> {
 
     /// The first tiles of a new walk. Whoever looks next finds those that are left, or another walk.
     fn begin_walk(&mut self, walk: StampedWalk<J>) -> Result<Next<J>, NoMemory> {
-        let leaves = points_in(&walk.ticket().inputs.patch().rect) > WORTH_TWO;
+        let leaves = walk.ticket().inputs.patch().rect.points() > WORTH_TWO;
         let mut walk = Walking::new(Arc::new(self.alloc, walk)?, self.threads);
         if !walk.ranges.is_open() {
             return Err(NoMemory);
@@ -264,7 +264,7 @@ impl<J: Following + Naming> Board<J> {
 
     /// Publishes tiles of a walk, of all its groups, and ends it where they are its last. Where that can't be
     /// done the threads are to stop.
-    pub(crate) fn put_rows(&mut self, rows: &Rows<J>, composed: &Composed<'_>)
+    pub(crate) fn put_rows(&mut self, rows: &WalkRows<J>, composed: &Composed<'_>)
         requires { composed.now.readings ≡ rows.now.walk.value.inputs }
     {
         let rect = rows.walk.ticket().inputs.patch().rect;
@@ -283,7 +283,7 @@ impl<J: Following + Naming> Board<J> {
     }
 
     /// Ends a walk where these were its last tiles.
-    fn tell_done(&mut self, rows: &Rows<J>) {
+    fn tell_done(&mut self, rows: &WalkRows<J>) {
         let slot = rows.walk.ticket().slot;
         let Some(i) = self.walks.iter().position(|w| w.serial() == slot.serial) else {
             self.is_over = true;

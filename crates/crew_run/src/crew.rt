@@ -7,13 +7,13 @@ ghost use Rattle.crew_run.specs.Painted.{IsPaintedBy};
 use crate::board::{Board, Brought, Following, Next};
 use crate::feeding::finish;
 use crate::watching::{Unwatched, Watching};
-use crate::work::{Rows, Tiles, Work};
+use crate::work::{Tiles, WalkRows, Work};
 use desk_core::{Desk, Taken};
 use geom_core::NoMemory;
 use io_edge::Gate;
 use memento_core::Steps;
 use script_text::Script;
-use stamped_desk::{Naming, StampedDesk, StampedPainting, StampedTiles, Unnamed};
+use stamped_desk::{StampNaming, StampedDesk, StampedPainting, StampedTiles, Unnamed};
 use std::alloc::Global;
 use std::marker::Brand;
 use std::sync::ledger::{Blank, Ledger};
@@ -23,7 +23,7 @@ use std::thread::Threads;
 
 /// What the threads share.
 #[derive(Drop)]
-struct Crew<'a, J: Following + Naming, R, G, W> {
+struct Crew<'a, J: Following + StampNaming, R, G, W> {
     rt: &'a R,
     script: &'a Script,
     gate: &'a G,
@@ -35,13 +35,13 @@ struct Crew<'a, J: Following + Naming, R, G, W> {
 
 /// A thread of the crew, the caller's or another, with a count of steps of its own.
 #[derive(Drop)]
-struct Worker<'c, 'a, J: Following + Naming, L: Ledger, R, G, W> {
+struct Worker<'c, 'a, J: Following + StampNaming, L: Ledger, R, G, W> {
     alloc: Global,
     crew: &'c Crew<'a, J, R, G, W>,
     steps: Steps<L>,
 }
 
-impl<'c, 'a, J: Following + Naming, L: Ledger, R: Wait, G: Gate, W: Watching> Worker<
+impl<'c, 'a, J: Following + StampNaming, L: Ledger, R: Wait, G: Gate, W: Watching> Worker<
     'c,
     'a,
     J,
@@ -130,7 +130,7 @@ impl<'c, 'a, J: Following + Naming, L: Ledger, R: Wait, G: Gate, W: Watching> Wo
     }
 
     /// Composes tiles of a walk, publishes them in one hold, and tells who watches.
-    fn compose(&mut self, rows: &Rows<J>) -> Option<Work<J>> {
+    fn compose(&mut self, rows: &WalkRows<J>) -> Option<Work<J>> {
         let Ok(composed) = rows.compose(self.alloc) else {
             return self.give_up();
         };
@@ -175,7 +175,7 @@ impl<'c, 'a, J: Following + Naming, L: Ledger, R: Wait, G: Gate, W: Watching> Wo
 }
 
 /// A thread more joins a crew, and works until nothing is left to be done.
-fn join<J: Following + Naming, R: Wait, G: Gate, W: Watching>(
+fn join<J: Following + StampNaming, R: Wait, G: Gate, W: Watching>(
     alloc: Global,
     crew: &Crew<'_, J, R, G, W>,
 ) {
@@ -183,7 +183,7 @@ fn join<J: Following + Naming, R: Wait, G: Gate, W: Watching>(
 }
 
 /// The thread of `join`, with the ledger of its steps under a name.
-fn named_join<J: Following + Naming, L: Ledger, R: Wait, G: Gate, W: Watching>(
+fn named_join<J: Following + StampNaming, L: Ledger, R: Wait, G: Gate, W: Watching>(
     alloc: Global,
     crew: &Crew<'_, J, R, G, W>,
     blank: Blank,
@@ -203,7 +203,7 @@ fn named_join<J: Following + Naming, L: Ledger, R: Wait, G: Gate, W: Watching>(
 
 /// So many threads more join the caller's crew, and all work until nothing is left to be done.
 fn together<
-    J: Following + Naming + Send + Sync,
+    J: Following + StampNaming + Send + Sync,
     L: Ledger,
     R: Threads + Wait + Sync,
     G: Gate,
@@ -272,7 +272,7 @@ pub fn run_watched<R: Threads + Wait + Sync, G: Gate, W: Watching>(
 /// The caller works alone up to the first work that is worth the workers.
 fn named_run<
     'a,
-    J: Following + Naming + Send + Sync,
+    J: Following + StampNaming + Send + Sync,
     L: Ledger,
     R: Threads + Wait + Sync,
     G: Gate,

@@ -20,11 +20,6 @@ pub(crate) const RANGES: usize = 6;
 /// The points that a tile counts for which is shared with its neighbours.
 const SHARED: u64 = 64;
 
-/// How many points a rectangle has.
-pub(crate) fn points_in(rect: &Rect) -> u64 {
-    u64::from(rect.w()).saturating_mul(u64::from(rect.h()))
-}
-
 /// About how much work a job is, as a count of points: those that it writes, where those of two rectangles
 /// count twice. Where a fill hides what is there, or nothing is, it is less: such tiles have one pixel all
 /// over and are shared, so a fill of them is for one thread, which makes one tile.
@@ -60,7 +55,7 @@ fn fill_load(rect: &Rect, hides: bool, shot: &Shot) -> u64 {
 fn part_load(rect: &Rect, tile: &Rect, is_light: bool) -> u64 {
     match rect.clip(tile) {
         Some(part) => {
-            let points = points_in(&part);
+            let points = part.points();
             if !is_light {
                 points
             } else if points == TILE_POINTS as u64 {
@@ -79,7 +74,7 @@ fn points_of(job: &Job) -> u64
 {
     let mut load = 0u64;
     for rect in job.writes().as_slice() {
-        load = load.saturating_add(points_in(rect));
+        load = load.saturating_add(rect.points());
     }
     load
 }

@@ -9,12 +9,12 @@ use doc_model::MOST_COMMANDS;
 use geom_core::NoMemory;
 use memento_core::Steps;
 use script_text::Script;
-use stamped_desk::{Naming, StampedDesk};
+use stamped_desk::{StampNaming, StampedDesk};
 use std::sync::ledger::Ledger;
 
 /// Feeds the next command of a script. `false` where none is left, or no memory.
 #[tactic(auto, using(crate::proofs::Fronts::front_more, crate::proofs::Fronts::next_follows))]
-fn feed_next<J: Naming>(desk: &mut StampedDesk<J>, script: &Script) -> bool
+fn feed_next<J: StampNaming>(desk: &mut StampedDesk<J>, script: &Script) -> bool
     requires front { IsFront desk.old.fed script.now.commands }
     ensures front { IsFront desk.new.fed script.now.commands }
     ensures canvas { desk.new.canvas ≡ desk.old.canvas }
@@ -29,7 +29,7 @@ fn feed_next<J: Naming>(desk: &mut StampedDesk<J>, script: &Script) -> bool
 
 /// Feeds a script on until the entry at the head is closed, or nothing is left. `false` where no memory
 /// was left.
-pub(crate) fn feed_ahead<J: Naming>(desk: &mut StampedDesk<J>, script: &Script) -> bool
+pub(crate) fn feed_ahead<J: StampNaming>(desk: &mut StampedDesk<J>, script: &Script) -> bool
     requires front { IsFront desk.old.fed script.now.commands }
     ensures front { IsFront desk.new.fed script.now.commands }
     ensures canvas { desk.new.canvas ≡ desk.old.canvas }

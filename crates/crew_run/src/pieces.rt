@@ -2,10 +2,10 @@
 
 ghost use Rattle.std.specs.Prelude.{◌≡◌, ◌≤◌, ◌<◌, nat_lt, IfOk, OnErr};
 
-use crate::effort::{ALONE, RANGES, points_in};
-use crate::work::{Rows, Tiles};
+use crate::effort::{ALONE, RANGES};
+use crate::work::{Tiles, WalkRows};
 use geom_core::NoMemory;
-use stamped_desk::{Naming, StampedPainting, StampedTiles, StampedWalk};
+use stamped_desk::{StampNaming, StampedPainting, StampedTiles, StampedWalk};
 use std::alloc::Global;
 use std::sync::Arc;
 
@@ -54,13 +54,13 @@ impl Ranges {
 
 /// A job that several threads paint, tile by tile. What they painted is gathered here.
 #[derive(Drop)]
-pub(crate) struct Piece<J: Naming> {
+pub(crate) struct Piece<J: StampNaming> {
     job: Arc<StampedPainting<J>, Global>,
     pub(crate) ranges: Ranges,
     made: StampedTiles<J>,
 }
 
-impl<J: Naming> Piece<J> {
+impl<J: StampNaming> Piece<J> {
     /// Whether a job of so much work is worth several of the threads.
     pub(crate) fn is_worth(job: &StampedPainting<J>, load: u64, threads: usize) -> bool {
         threads > 1 && load > ALONE && job.tile_count() > 1
@@ -133,20 +133,20 @@ impl<J: Naming> Piece<J> {
 
 /// A walk, whose tiles several threads compose. What is composed of a tile is published at once.
 #[derive(Drop)]
-pub(crate) struct Walking<J: Naming> {
+pub(crate) struct Walking<J: StampNaming> {
     walk: Arc<StampedWalk<J>, Global>,
     pub(crate) ranges: Ranges,
     /// How many tiles are published.
     done: usize,
 }
 
-impl<J: Naming> Walking<J> {
+impl<J: StampNaming> Walking<J> {
     /// A walk of which no tile was given out. One whose patch has few points is for one thread.
     pub(crate) fn new(walk: Arc<StampedWalk<J>, Global>, threads: usize) -> Walking<J>
         ensures { result.ranges.next ≡ 0 }
     {
         let rect = walk.ticket().inputs.patch().rect;
-        let count = if threads > 1 && points_in(&rect) > ALONE {
+        let count = if threads > 1 && rect.points() > ALONE {
             threads.saturating_mul(RANGES)
         } else {
             1
@@ -167,7 +167,7 @@ impl<J: Naming> Walking<J> {
     ///
     /// # Errors
     /// `NoMemory`; nothing is given out.
-    pub(crate) fn give(&mut self) -> Result<Rows<J>, NoMemory>
+    pub(crate) fn give(&mut self) -> Result<WalkRows<J>, NoMemory>
         requires open { self.old.ranges.next < self.old.ranges.tiles }
         ensures from { IfOk result (λ r. r.from ≡ self.old.ranges.next) }
         ensures to { IfOk result (λ r. r.to ≡ self.new.ranges.next) }
@@ -177,7 +177,7 @@ impl<J: Naming> Walking<J> {
         let walk = Arc::try_clone(&self.walk)?;
         let from = self.ranges.next;
         let to = self.ranges.give();
-        Ok(Rows { walk, from, to })
+        Ok(WalkRows { walk, from, to })
     }
 
     /// So many more tiles are published. `true` where none is missing then.

@@ -3,7 +3,7 @@
 ghost use Rattle.std.specs.Prelude.{◌≡◌, IfOk};
 
 use geom_core::{NoMemory, Rect};
-use stamped_desk::{Naming, StampedPainting, StampedWalk};
+use stamped_desk::{StampNaming, StampedPainting, StampedWalk};
 use std::alloc::Global;
 use std::sync::Arc;
 use walker_core::{Composed, compose_keys};
@@ -11,7 +11,7 @@ use walker_core::{Composed, compose_keys};
 /// Some tiles of a job: those from one place of its list to before another. Several threads may paint
 /// tiles of one job.
 #[derive(Drop)]
-pub(crate) struct Tiles<J: Naming> {
+pub(crate) struct Tiles<J: StampNaming> {
     pub(crate) job: Arc<StampedPainting<J>, Global>,
     pub(crate) from: usize,
     pub(crate) to: usize,
@@ -21,13 +21,13 @@ pub(crate) struct Tiles<J: Naming> {
 
 /// Some tiles of a walk: those of its patch from one place to before another.
 #[derive(Drop)]
-pub(crate) struct Rows<J: Naming> {
+pub(crate) struct WalkRows<J: StampNaming> {
     pub(crate) walk: Arc<StampedWalk<J>, Global>,
     pub(crate) from: usize,
     pub(crate) to: usize,
 }
 
-impl<J: Naming> Rows<J> {
+impl<J: StampNaming> WalkRows<J> {
     /// Composes them, of all groups of the walk.
     ///
     /// # Errors
@@ -60,12 +60,12 @@ impl<J: Naming> Rows<J> {
 /// Work that a thread took from the board. Something may be left then at once that is worth another
 /// thread.
 #[derive(Drop)]
-pub(crate) enum Work<J: Naming> {
+pub(crate) enum Work<J: StampNaming> {
     Paint { tiles: Tiles<J>, leaves: bool },
-    Compose { rows: Rows<J>, leaves: bool },
+    Compose { rows: WalkRows<J>, leaves: bool },
 }
 
-impl<J: Naming> Work<J> {
+impl<J: StampNaming> Work<J> {
     /// Whether something is left that is worth another thread.
     pub(crate) fn leaves(&self) -> bool {
         match self {

@@ -6,7 +6,6 @@ use Rattle.geom_core.specs.Areas.{Area, holds, Point}
 use Rattle.geom_core.proofs.Tests.{or_cases, or_left, or_right, equal_test}
 use Rattle.doc_model.specs.Layers.{at}
 use Rattle.doc_model.specs.Picture.{with_look}
-use Rattle.doc_model.specs.Forest.{children}
 use Rattle.doc_model.proofs.Shots.{at-shot_of}
 use Rattle.machine_model.specs.State.{Child, State}
 use Rattle.machine_model.specs.Groups.{children_of, on}

@@ -1,12 +1,10 @@
 //! Jobs that were painted outside come to the desk whole.
 
-ghost use Rattle.std.specs.Prelude.{◌≡◌, ◌↔◌, ℕ, IsTrue, Some, OnOk, OnErr, []};
+ghost use Rattle.std.specs.Prelude.{◌≡◌, ℕ, Some, OnOk, OnErr, []};
 ghost use Rattle.machine_model.specs.State.{State};
 ghost use Rattle.machine_model.specs.Event.{Publish, End};
-ghost use Rattle.machine_model.specs.Sound.{IsSound};
 ghost use Rattle.machine_model.specs.Step.{Step, Run};
 ghost use Rattle.desk_state.specs.Settles.{Settles};
-ghost use Rattle.desk_events.specs.AtWork.{HasPublished};
 ghost use Rattle.desk_events.specs.Commits.{AreOfWork, MayCommit, RunsFront, TakesWhole};
 ghost use Rattle.desk_events.specs.Sparing.{ArePrior, IsPriorAt};
 ghost use Rattle.desk_core.specs.Commits.{Commits, commit_events};
@@ -14,18 +12,10 @@ ghost use Rattle.desk_core.specs.Commits.{Commits, commit_events};
 use crate::answers::Published;
 use crate::desk::Desk;
 use desk_events::SlotId;
-use geom_core::{NoMemory, TileKey};
+use geom_core::NoMemory;
 use whole_tiles::Whole;
 
 impl Desk {
-    /// Whether the job with that serial is at work in the slot, and has published the tile: after want of memory
-    /// `commit` takes just the others. No memory.
-    pub fn has_published(&self, slot: SlotId, key: TileKey) -> bool
-        ensures { IsTrue result ↔ HasPublished self.now slot.place slot.serial key }
-    {
-        self.machine.has_published(slot, key)
-    }
-
     /// Publishes all tiles that the job in a slot lacks, and ends it. The tiles were made whole, by any
     /// threads, and stand in any order; where the layer has still the pixels that a tile was made from, no
     /// pixel is copied. `Nothing` exactly where the slot hasn't that work, the tiles aren't just those that
@@ -33,6 +23,7 @@ impl Desk {
     ///
     /// # Errors
     /// `NoMemory`; of the tiles some, from the first on, are published, or none, and the job hasn't ended.
+    /// `has_published` tells which, and the same call takes just the others.
     pub fn commit(&mut self, slot: SlotId, tiles: &[Whole]) -> Result<Published, NoMemory>
         ensures answer { Commits self.old slot.place slot.serial tiles.now result self.new }
         ensures runs { Settles self.old self.new }
@@ -66,13 +57,6 @@ impl Desk {
         ensures fed { self.new.fed ≡ self.old.fed }
     {
         self.commit_by(slot, Some(since), tiles)
-    }
-
-    /// Tells what holds of every desk. It does nothing.
-    pub fn tell_sound(&self)
-        ensures { IsSound self.now }
-    {
-        self.machine.tell_sound();
     }
 
     /// Publishes the tiles of a job, and ends it. Of what they were made it may be known from which index on.

@@ -4,7 +4,6 @@ ghost use Rattle.std.specs.Prelude.{◌≡◌, ◌≤◌, ◌<◌, ◌-◌, ◌^
 ghost use Rattle.doc_model.specs.Canvases.{IsOfLimits};
 ghost use Rattle.doc_model.specs.Lawful.{may_follow};
 ghost use Rattle.doc_model.specs.Strokes.{entries};
-ghost use Rattle.command_log.specs.Misfits.{jobs_misfit, misfit_of};
 ghost use Rattle.machine_model.specs.State.{new_state};
 ghost use Rattle.machine_model.specs.SoundnessLaws.{IsNew};
 ghost use Rattle.machine_model.specs.Event.{Feed, Publish};
@@ -17,18 +16,20 @@ ghost use Rattle.desk_core.specs.Painted.{HasJobsValue};
 use crate::answers::{Ended, Published};
 use crate::changes::begin_anew;
 use crate::spread::Spread;
-use command_log::{Commands, Misfit};
+use command_log::Commands;
 use desk_events::{Machine, SlotId};
 use doc_model::{Canvas, Command};
 use geom_core::NoMemory;
 use job_core::Painted;
 use std::alloc::Global;
 use std::marker::Model;
+use std::ops::Deref;
 
 /// What stands behind the one lock: the commands that were fed, the entries that wait, the document
 /// with its history, what its groups show, and what is at work. Beside these it keeps of each tile of
 /// the canvas the part at which a group's cache may be out of date. All other points are up to date, and
-/// nothing at work will change them: so a walk composes the damaged parts alone.
+/// nothing at work will change them: so a walk composes the damaged parts alone. What a machine answers
+/// a desk answers too, since it reads as its machine.
 #[derive(Drop)]
 pub struct Desk {
     pub(crate) alloc: Global,
@@ -52,6 +53,17 @@ impl Model for Desk {
     ghost view = { λ d. d.machine };
 
     ghost invariant = { λ d. Tracks d.machine d.damage.value d.calm };
+}
+
+/// A desk reads as its machine: what one was fed, shows and has so far is asked of `Machine`'s calls.
+impl Deref for Desk {
+    type Target = Machine;
+
+    ghost deref_gives = { λ d m. m ≡ d };
+
+    fn deref(&self) -> &Machine {
+        &self.machine
+    }
 }
 
 impl Desk {
@@ -98,7 +110,7 @@ impl Desk {
         })
     }
 
-    /// Feeds a command that may follow those that were fed.
+    /// Feeds a command that may follow those that were fed, as `lawful` tells.
     ///
     /// # Errors
     /// `NoMemory`; all is as it was.
@@ -109,29 +121,6 @@ impl Desk {
         ensures err { OnErr result (self.new ≡ self.old) }
     {
         self.machine.feed(command)
-    }
-
-    /// Whether the command may follow those that were fed, which `feed` asks of it. One look-up, no memory.
-    pub fn lawful(&self, command: &Command) -> bool
-        ensures { result ≡ may_follow (entries self.now.fed) command.now }
-    {
-        self.machine.lawful(command)
-    }
-
-    /// Why the command may not follow those that were fed, its job's own limits aside. None exactly where it
-    /// may, or its job's limits alone forbid it. One look-up, no memory.
-    pub fn misfit(&self, command: &Command) -> Option<Misfit>
-        ensures { result ≡ misfit_of (entries self.now.fed) command.now }
-    {
-        self.machine.misfit(command)
-    }
-
-    /// Why so many jobs can't be fed to the stroke with that number, their own limits aside. None exactly where
-    /// they can. One look-up, no memory.
-    pub fn jobs_misfit(&self, stroke: u32, count: usize) -> Option<Misfit>
-        ensures { result ≡ jobs_misfit (entries self.now.fed) stroke count }
-    {
-        self.machine.jobs_misfit(stroke, count)
     }
 
     /// Lays a tile that was painted of the job in a slot on the layer of the stroke under way. `Nothing`

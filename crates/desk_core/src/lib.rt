@@ -6,6 +6,9 @@
 //!
 //! - The calls see no field of the machine: they choose among the calls of `Machine`, each of which promises a
 //!   step, so what they promise is proved of states and runs alone.
+//! - A desk reads as its machine, by `Deref`: what changes nothing and asks nothing of the damage stands once,
+//!   with its contract. So whoever has a desk may make every reading call of a machine, also those that only
+//!   `take`, `commit` and `settle` choose by, and none that changes it.
 //! - The damage stands in the desk, beside the machine and not in it, since no one else calls the machine. One
 //!   damaged part of a tile serves all groups, and no call takes memory for it. A job damages what it writes as
 //!   it starts, so that nothing of a publish has to be known.

@@ -1,24 +1,19 @@
-//! What a desk shows.
+//! What a desk shows, and what has come so far, item by item.
 
-ghost use Rattle.std.specs.Prelude.{All, ◌≡◌, ◌↔◌, ◌<◌, IsTrue, pos, Some, length, map, IfOk, IfSome, IfNone, slice_get};
+ghost use Rattle.std.specs.Prelude.{All, ◌≡◌, ◌↔◌, ◌<◌, IsTrue, pos, Some, length, map, slice_get};
 ghost use Rattle.geom_core.specs.Areas.{point};
 ghost use Rattle.doc_model.specs.Layers.{at};
 ghost use Rattle.doc_model.specs.Picture.{picture};
 ghost use Rattle.tile_core.specs.Scenes.{HasSides, colours_of};
 ghost use Rattle.machine_model.specs.Groups.{cache};
 ghost use Rattle.machine_model.specs.Covers.{covered};
-ghost use Rattle.desk_state.specs.Cached.{ShowsCache};
-ghost use Rattle.slot_work.specs.Round.{IsRound};
-ghost use Rattle.desk_events.specs.Shown.{IsRootTile, RootIsClear, ShowsWhereClean};
 ghost use Rattle.desk_core.specs.declared.answers.Fresh.TheVariants as fresh;
 
 use crate::answers::Fresh;
 use crate::desk::Desk;
-use doc_model::{Canvas, Command, Outcome};
-use geom_core::{NoMemory, Rect, TileKey};
+use doc_model::{Command, Outcome};
 use pixel_core::Pixel;
-use std::alloc::Global;
-use tile_core::{Film, Frame, Tile};
+use tile_core::{Film, Frame};
 
 impl Desk {
     /// The pixel of the root's cache at a point of the canvas, and whether it is up to date: `Dirty`
@@ -39,43 +34,6 @@ impl Desk {
         } else {
             (pixel, Fresh::Clean)
         }
-    }
-
-    /// The least rectangle round the points of this one at which something that waits or is at work will compose
-    /// the root anew. None exactly where there is no such point. All other points of it on the canvas have the
-    /// picture's pixel. No memory.
-    pub fn dirty_in(&self, rect: &Rect) -> Option<Rect>
-        ensures round { IsRound rect.now (covered self.now 0) result }
-        ensures picture { ShowsWhereClean self.now }
-    {
-        self.machine.dirty_in(rect)
-    }
-
-    /// The root's cache as a frame on the canvas's paper, as an export would take it now, and which isn't kept.
-    /// Tiles are shared.
-    ///
-    /// # Errors
-    /// `NoMemory`.
-    pub fn root_frame(&self, alloc: Global) -> Result<Frame, NoMemory>
-        ensures { IfOk result (ShowsCache self.now.caches self.now.canvas) }
-    {
-        self.machine.root_frame(alloc)
-    }
-
-    /// The tile of the root's cache under a key. None only where the root's cache is clear on that tile.
-    pub fn root_tile(&self, key: TileKey) -> Option<&Tile>
-        ensures some { IfSome result (λ t. IsRootTile self.now key t.now) }
-        ensures none { IfNone result (RootIsClear self.now key) }
-    {
-        self.machine.root_tile(key)
-    }
-
-    /// The frames, one for each export so far. Each has the canvas's sides.
-    pub fn frames(&self) -> &[Frame]
-        ensures colours { map colours_of result.now ≡ self.now.frames }
-        ensures sides { All (HasSides self.now.canvas.w self.now.canvas.h) result.now }
-    {
-        self.machine.frames()
     }
 
     /// How many frames there are.
@@ -105,13 +63,6 @@ impl Desk {
         machine.into_results()
     }
 
-    /// The outcomes so far, in order.
-    pub fn outcomes(&self) -> &[Outcome]
-        ensures { result.now ≡ self.now.outcomes }
-    {
-        self.machine.outcomes()
-    }
-
     /// How many outcomes there are so far.
     pub fn outcome_count(&self) -> usize
         ensures { result ≡ length self.now.outcomes }
@@ -127,13 +78,6 @@ impl Desk {
         self.outcomes()[i]
     }
 
-    /// The commands that were fed, in order.
-    pub fn commands(&self) -> &[Command]
-        ensures { result.now ≡ self.now.fed }
-    {
-        self.machine.commands()
-    }
-
     /// How many commands were fed.
     pub fn fed_count(&self) -> usize
         ensures { result ≡ length self.now.fed }
@@ -147,12 +91,5 @@ impl Desk {
         ensures { slice_get self.now.fed i ≡ Some result.now }
     {
         &self.commands()[i]
-    }
-
-    /// The canvas that it was made for.
-    pub fn canvas(&self) -> Canvas
-        ensures { result ≡ self.now.canvas }
-    {
-        self.machine.canvas()
     }
 }

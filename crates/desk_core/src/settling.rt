@@ -20,17 +20,10 @@ use memento_core::Steps;
 use std::sync::ledger::Ledger;
 
 impl Desk {
-    /// Whether all strokes that were fed are closed, which `settle` asks. No memory, and a look-up for each entry
-    /// without outcome.
-    pub fn all_closed(&self) -> bool
-        ensures { result ≡ list_all is_closed_entry (entries self.now.fed) }
-    {
-        self.machine.all_closed()
-    }
-
     /// Makes the events that may happen, one after another, until every entry has its outcome and nothing
     /// is at work or waits. Work whose ticket is held elsewhere is done here too. Afterwards the desk
-    /// shows what the commands that were fed mean.
+    /// shows what the commands that were fed mean. It asks that all strokes that were fed are closed, as
+    /// `all_closed` tells.
     ///
     /// # Errors
     /// `NoMemory`; some of the events were made, and the same commands are fed.

@@ -145,15 +145,16 @@ impl Machine {
         self.fed.may_follow(command)
     }
 
-    /// Why the command may not follow those that were fed, its job's own limits aside. One look-up, no memory.
+    /// Why the command may not follow those that were fed, its job's own limits aside. None exactly where it
+    /// may, or its job's limits alone forbid it. One look-up, no memory.
     pub fn misfit(&self, command: &Command) -> Option<Misfit>
         ensures { result ≡ misfit_of (entries self.now.fed) command.now }
     {
         self.fed.misfit(command)
     }
 
-    /// Why so many jobs can't be fed to the stroke with that number, their own limits aside. One look-up, no
-    /// memory.
+    /// Why so many jobs can't be fed to the stroke with that number, their own limits aside. None exactly where
+    /// they can. One look-up, no memory.
     pub fn jobs_misfit(&self, no: u32, count: usize) -> Option<Misfit>
         ensures { result ≡ jobs_misfit (entries self.now.fed) no count }
     {

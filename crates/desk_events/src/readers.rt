@@ -55,7 +55,8 @@ impl Machine {
         round_unsettled(&self.updates, &self.slots, rect)
     }
 
-    /// The root's cache as a frame on the canvas's paper, which isn't kept. Tiles are shared.
+    /// The root's cache as a frame on the canvas's paper, as an export would take it now, and which isn't kept.
+    /// Tiles are shared.
     ///
     /// # Errors
     /// `NoMemory`.

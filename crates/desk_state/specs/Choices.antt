@@ -109,11 +109,6 @@ IsChoice s choice.Init = Enabled s Init
 IsChoice s (choice.Start place) = Enabled s (Start place)
 IsChoice s choice.Wait = HeadWaits s
 
--- the fact, or that it doesn't hold
-pub record Tells (b : Bool) (P : Type 0) : Type 0 where
-  pub yes : b ≡ true → P
-  pub no : b ≡ false → P → ⊥
-
 -- an event that makes no work was made, and its steps were counted
 pub record DoesAtOnce (old new : State) (before now : ℕ) : Type 0 where
   pub event : Event

@@ -151,6 +151,13 @@ impl Rect {
         self.h
     }
 
+    /// How many points it has.
+    pub fn points(&self) -> u64
+        ensures { result ≡ self.now.w * self.now.h }
+    {
+        u64::from(self.w) * u64::from(self.h)
+    }
+
     /// Whether it holds the point (x, y).
     pub fn holds(&self, x: i32, y: i32) -> bool
         ensures { result ≡ holds self.now (point x y) }

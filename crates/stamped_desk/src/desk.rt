@@ -17,7 +17,7 @@ ghost use Rattle.desk_core.specs.declared.answers.Ended.TheVariants as ended;
 ghost use Rattle.desk_core.specs.declared.tickets.Taken.TheVariants as taken;
 ghost use Rattle.stamped_desk.specs.Stamped.{IsKnown};
 
-use crate::history::{Naming, Stamp, Stamps, Unnamed};
+use crate::history::{Stamp, StampNaming, Stamps, Unnamed};
 use crate::tiles::StampedTiles;
 use crate::walk::StampedWalk;
 use desk_core::{Desk, Ended, Published, SlotId, Taken};
@@ -30,12 +30,12 @@ use walker_core::Composed;
 
 /// A desk, and the stamps of what was taken from it. Contracts see the desk's state.
 #[derive(Drop)]
-pub struct StampedDesk<J: Naming> {
+pub struct StampedDesk<J: StampNaming> {
     pub(crate) desk: Desk,
     stamps: Stamps<J, Taken>,
 }
 
-impl<J: Naming> Model for StampedDesk<J> {
+impl<J: StampNaming> Model for StampedDesk<J> {
     ghost use Rattle.machine_model.specs.State.{State};
     ghost use Rattle.machine_model.specs.Codes.{state_code};
     ghost use Rattle.stamped_desk.specs.Drawn.{AreDrawn};
@@ -49,7 +49,7 @@ impl<J: Naming> Model for StampedDesk<J> {
     ghost invariant = { λ d. AreDrawn d.desk d.stamps };
 }
 
-impl<J: Naming> StampedDesk<J> {
+impl<J: StampNaming> StampedDesk<J> {
     /// A desk of which nothing that was taken is known.
     pub fn new(desk: Desk, unnamed: Unnamed<Taken>) -> StampedDesk<J>
         requires { unnamed ≡ J.book }
@@ -181,7 +181,7 @@ impl<J: Naming> StampedDesk<J> {
 }
 
 /// Whether there is a stamp, and it is one of these.
-fn knows<J: Naming>(stamps: &Stamps<J, Taken>, stamp: &Option<Stamp<J, Taken>>) -> bool
+fn knows<J: StampNaming>(stamps: &Stamps<J, Taken>, stamp: &Option<Stamp<J, Taken>>) -> bool
     ensures { result ≡ true → IsKnown stamps.now stamp.now }
 {
     match stamp {

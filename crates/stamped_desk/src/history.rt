@@ -17,13 +17,13 @@ use logbook::{Offer, Seen, Start, Word};
 use std::marker::{Brand, Model, PhantomData};
 
 /// Which history it is. Whoever begins one picks it.
-pub trait Naming {
+pub trait StampNaming {
     ghost use Rattle.logbook.specs.Pages.{Book};
 
     ghost book: { Book };
 }
 
-impl Naming for Brand {
+impl StampNaming for Brand {
     ghost book = { record { number = 0; log_name = 0; cells_name = 0 } };
 }
 
@@ -59,7 +59,7 @@ impl<T> Unnamed<T> {
     }
 
     /// The same under a name.
-    pub fn named<J: Naming>(self) -> Stamps<J, T>
+    pub fn named<J: StampNaming>(self) -> Stamps<J, T>
         requires { self ≡ J.book }
         ensures { result ≡ [] }
     {
@@ -78,14 +78,14 @@ const MOST: u64 = 1 << 62;
 
 /// Makes stamps. Contracts see the values that they were made for, in order.
 #[derive(Drop)]
-pub struct Stamps<J: Naming, T> {
+pub struct Stamps<J: StampNaming, T> {
     head: Word<T, u64, HoldsLength>,
     made: u64,
     seen: Seen<T, u64, HoldsLength>,
     of: PhantomData<J>,
 }
 
-impl<J: Naming, T> Model for Stamps<J, T> {
+impl<J: StampNaming, T> Model for Stamps<J, T> {
     ghost use Rattle.std.specs.Prelude.{◌≡◌, List, length};
     ghost use Rattle.std.specs.Coded.{coded_list};
 
@@ -103,13 +103,13 @@ impl<J: Naming, T> Model for Stamps<J, T> {
 
 /// Tells what was stamped with it. It is a number and no more.
 #[derive(Drop)]
-pub struct Stamp<J: Naming, T> {
+pub struct Stamp<J: StampNaming, T> {
     number: u64,
     seen: Seen<T, u64, HoldsLength>,
     of: PhantomData<J>,
 }
 
-impl<J: Naming, T> Model for Stamp<J, T> {
+impl<J: StampNaming, T> Model for Stamp<J, T> {
     ghost use Rattle.std.specs.Prelude.{◌≡◌, ◌<◌, length, slice_get};
     ghost use Rattle.stamped_desk.specs.Marks.{Mark, mark, mark_code};
 
@@ -122,7 +122,7 @@ impl<J: Naming, T> Model for Stamp<J, T> {
     ghost invariant = { λ s. (s.number < length s.seen.log) × (s.seen.book ≡ J.book) };
 }
 
-impl<J: Naming, T> Stamps<J, T> {
+impl<J: StampNaming, T> Stamps<J, T> {
     /// A stamp of the value, in constant time and without memory. In practice None never comes: only these
     /// stamps have the word that counts them, and they are never so many. No clause says so.
     pub fn stamp(&mut self, value: &T) -> Option<Stamp<J, T>>
@@ -165,7 +165,7 @@ impl<J: Naming, T> Stamps<J, T> {
     }
 }
 
-impl<J: Naming, T> Stamp<J, T> {
+impl<J: StampNaming, T> Stamp<J, T> {
     /// A copy.
     pub fn again(&self) -> Stamp<J, T>
         ensures { result ≡ self.now }

@@ -22,7 +22,7 @@ mod tiles;
 mod walk;
 
 pub use desk::StampedDesk;
-pub use history::{Naming, Stamp, Stamps, Unnamed};
+pub use history::{Stamp, StampNaming, Stamps, Unnamed};
 pub use painting::StampedPainting;
 pub use tiles::StampedTiles;
 pub use walk::StampedWalk;

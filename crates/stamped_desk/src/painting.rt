@@ -7,7 +7,7 @@ ghost use Rattle.whole_tiles.specs.Plans.{tiles_of};
 ghost use Rattle.desk_core.specs.declared.tickets.Taken.TheVariants as taken;
 ghost use Rattle.stamped_desk.specs.Stamped.{IsMadeOf, batch};
 
-use crate::history::{Naming, Stamp};
+use crate::history::{Stamp, StampNaming};
 use crate::tiles::StampedTiles;
 use desk_core::{PaintTicket, SlotId, Taken};
 use geom_core::NoMemory;
@@ -17,7 +17,7 @@ use whole_tiles::{Painting, Whole};
 
 /// A job that any number of threads may paint, tile by tile, beside its stamp. Contracts see its ticket.
 #[derive(Drop)]
-pub struct StampedPainting<J: Naming> {
+pub struct StampedPainting<J: StampNaming> {
     slot: SlotId,
     stroke: u32,
     job: u32,
@@ -26,7 +26,7 @@ pub struct StampedPainting<J: Naming> {
     stamp: Option<Stamp<J, Taken>>,
 }
 
-impl<J: Naming> Model for StampedPainting<J> {
+impl<J: StampNaming> Model for StampedPainting<J> {
     ghost use Rattle.std.specs.Prelude.{◌≡◌, Some, IfSome};
     ghost use Rattle.desk_events.specs.declared.tickets.PaintTicket.{PaintTicket};
     ghost use Rattle.desk_events.specs.contracts.tickets.PaintTicket.{the_row};
@@ -43,7 +43,7 @@ impl<J: Naming> Model for StampedPainting<J> {
         ≡ Some (taken.Paint (ticket_of p.slot p.stroke p.job p.since p.painting))) };
 }
 
-impl<J: Naming> StampedPainting<J> {
+impl<J: StampNaming> StampedPainting<J> {
     /// The painting of the job of a ticket that was stamped as it was taken.
     ///
     /// # Errors
@@ -125,7 +125,7 @@ impl<J: Naming> StampedPainting<J> {
 }
 
 /// The same stamp, or none.
-fn copy_of<J: Naming>(stamp: &Option<Stamp<J, Taken>>) -> Option<Stamp<J, Taken>>
+fn copy_of<J: StampNaming>(stamp: &Option<Stamp<J, Taken>>) -> Option<Stamp<J, Taken>>
     ensures { result ≡ stamp.now }
 {
     match stamp {

@@ -5,10 +5,10 @@ ghost use Rattle.desk_events.specs.SmallJobs.{PaintsSmall};
 ghost use Rattle.desk_state.specs.Settles.{Settles};
 
 use crate::desk::StampedDesk;
-use crate::history::Naming;
+use crate::history::StampNaming;
 use geom_core::{NoMemory, Rect};
 
-impl<J: Naming> StampedDesk<J> {
+impl<J: StampNaming> StampedDesk<J> {
     /// Paints jobs of the stroke at the head in place, as `Desk::paint_small` does. None where it painted none.
     ///
     /// # Errors

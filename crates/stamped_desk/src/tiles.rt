@@ -3,7 +3,7 @@
 ghost use Rattle.std.specs.Prelude.{◌≡◌, ◌++◌, [], true, length, IfSome, OnErr, OnOk};
 ghost use Rattle.stamped_desk.specs.Stamped.{AreMadeOf, AreOne, batch};
 
-use crate::history::{Naming, Stamp};
+use crate::history::{Stamp, StampNaming};
 use desk_core::{SlotId, Taken};
 use geom_core::NoMemory;
 use std::marker::Model;
@@ -12,7 +12,7 @@ use whole_tiles::Whole;
 /// Tiles that were made whole, for the job in a slot, beside the stamp of the job that all were made of.
 /// There is no stamp where it isn't known that all were made of one job.
 #[derive(Drop)]
-pub struct StampedTiles<J: Naming> {
+pub struct StampedTiles<J: StampNaming> {
     slot: SlotId,
     /// The least index of the jobs that were at work when that job started, its own where none was.
     pub(crate) since: u32,
@@ -20,7 +20,7 @@ pub struct StampedTiles<J: Naming> {
     pub(crate) stamp: Option<Stamp<J, Taken>>,
 }
 
-impl<J: Naming> Model for StampedTiles<J> {
+impl<J: StampNaming> Model for StampedTiles<J> {
     ghost use Rattle.std.specs.Prelude.{IfSome};
     ghost use Rattle.stamped_desk.specs.Stamped.{AreMadeOf, Batch, batch, batch_code};
 
@@ -34,7 +34,7 @@ impl<J: Naming> Model for StampedTiles<J> {
         AreMadeOf s t.since (batch t.slot t.tiles.items)) };
 }
 
-impl<J: Naming> StampedTiles<J> {
+impl<J: StampNaming> StampedTiles<J> {
     /// Tiles that were made of one job, with its stamp.
     pub(crate) fn of_job(
         slot: SlotId,
@@ -87,7 +87,7 @@ impl<J: Naming> StampedTiles<J> {
 }
 
 /// Whether both are there, and are one stamp.
-fn are_one<J: Naming>(a: &Option<Stamp<J, Taken>>, b: &Option<Stamp<J, Taken>>) -> bool
+fn are_one<J: StampNaming>(a: &Option<Stamp<J, Taken>>, b: &Option<Stamp<J, Taken>>) -> bool
     ensures { result ≡ true → AreOne a.now b.now }
 {
     match (a, b) {

@@ -152,7 +152,7 @@ shows_drawn form.Log script scenes outcomes fit h = h
 shows_drawn form.Sum script scenes outcomes fit h = h
 shows_drawn form.Live script scenes outcomes fit h = cc
 
--- behind its lead it is all that is written
+-- behind its preface it is all that is written
 pub whole_shown : (f : Form) (asked : Choice) (drawn : Contents) (bytes : List ℕ) → bytes ≡ led asked.artists (asked_as f) drawn → IsWhole (asked_as f) asked drawn bytes
 whole_shown form.Picture asked drawn bytes h = h
 whole_shown form.Log asked drawn bytes h = h

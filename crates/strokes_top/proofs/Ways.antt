@@ -34,7 +34,7 @@ of_script P Q f None left rest h = read_weaker (Gives false P) (Spells Q) (λ b 
 of_trace : (P Q : Contents → Type 0) → ((s : Contents) → P s → Q s) → (left rest : Option (List ℕ)) → IsOf P None true left rest → WasRead left rest (Replays Q)
 of_trace P Q f left rest h = read_weaker (Gives true P) (Replays Q) (λ b g. (g.0, g.1, f _ g.2)) left rest h
 
--- what is no trace is the output behind its lead
+-- what is no trace is the output behind its preface
 whole_output : (e : Emit) (asked : Choice) (drawn : Contents) (bytes : List ℕ) → is_trace e ≡ false → IsWhole e asked drawn bytes → bytes ≡ led asked.artists e drawn
 whole_output emit.Picture asked drawn bytes other h = h
 whole_output emit.Log asked drawn bytes other h = h

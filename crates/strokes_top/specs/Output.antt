@@ -29,5 +29,5 @@ asked_as form.Live = Live
 
 -- all bytes of what is written of a painted script
 abbrev pub written : Output → Contents → List ℕ
-written (Shown form lead film) script = lead.items ++ output (asked_as form) script
+written (Shown form preface film) script = preface.items ++ output (asked_as form) script
 written (Traced text) script = text.items

@@ -34,7 +34,7 @@ rows_by form scenes h = 0
 
 -- how many are of what is written
 abbrev pub rows_of : Output → ℕ → ℕ
-rows_of (Shown form lead film) h = rows_by form film h
+rows_of (Shown form preface film) h = rows_by form film h
 rows_of (Traced text) h = 0
 
 -- so many bytes are room for the colours of a row of one picture alone, or for those of each of several
@@ -54,5 +54,5 @@ ShowsFor form script scenes outcomes = Shows script scenes outcomes
 
 -- the frames of what is written are these
 abbrev pub IsShown : Output → Contents → List Outcome → Type 0
-IsShown (Shown form lead film) script outcomes = ShowsFor form script film outcomes
+IsShown (Shown form preface film) script outcomes = ShowsFor form script film outcomes
 IsShown (Traced text) script outcomes = Unit {0}

@@ -21,15 +21,15 @@ IsDrawn None s drawn = drawn ≡ s
 IsDrawn (Some n) s drawn = IsDrawnBy n s drawn
 
 -- what is written before the output: the text of what artists draw
-abbrev pub lead : Option ℕ → Contents → List ℕ
-lead None drawn = []
-lead (Some n) drawn = text drawn
+abbrev pub preface : Option ℕ → Contents → List ℕ
+preface None drawn = []
+preface (Some n) drawn = text drawn
 
--- the lead, and the output behind it
+-- the preface, and the output behind it
 abbrev pub led : Option ℕ → Emit → Contents → List ℕ
-led artists emit drawn = lead artists drawn ++ output emit drawn
+led artists emit drawn = preface artists drawn ++ output emit drawn
 
--- the bytes are all that is written of what was drawn: a trace of it, with one slot more than there are workers, or its lead and its output
+-- the bytes are all that is written of what was drawn: a trace of it, with one slot more than there are workers, or its preface and its output
 abbrev pub IsWhole : Emit → Choice → Contents → List ℕ → Type 0
 IsWhole Trace asked drawn bytes = IsTraceOf drawn (asked.workers + 1) bytes
 IsWhole emit asked drawn bytes = bytes ≡ led asked.artists emit drawn

@@ -39,7 +39,7 @@ pub(crate) enum Output {
     /// What it shows, in that form, and a text before it.
     Shown {
         form: Form,
-        lead: Vec<u8>,
+        preface: Vec<u8>,
         film: Film,
     },
     /// A trace of it.

@@ -91,11 +91,15 @@ fn painted_by_crew<R: Threads + Wait + Sync, G: Gate>(
     ensures shows { IfOk result (λ p. IsShown p.output p.script p.outcomes.items) }
 {
     let Shown { film, outcomes } = shown_by_crew(rt, alloc, form, &script, workers, gate)?;
-    let lead = Vec::new(alloc);
+    let preface = Vec::new(alloc);
     Ok(Painting {
         script,
         outcomes,
-        output: Output::Shown { form, lead, film },
+        output: Output::Shown {
+            form,
+            preface,
+            film,
+        },
     })
 }
 
@@ -147,12 +151,16 @@ fn painted_by_artists<R: Threads + Wait + Sync, G: Gate>(
     ensures shows { IfOk result (λ p. IsShown p.output p.script p.outcomes.items) }
 {
     let Drawn { script, desk } = paint_together(rt, alloc, script, artists, workers, gate)?;
-    let lead = text_of(alloc, &script)?;
+    let preface = text_of(alloc, &script)?;
     let Shown { film, outcomes } = shown_of(desk);
     Ok(Painting {
         script,
         outcomes,
-        output: Output::Shown { form, lead, film },
+        output: Output::Shown {
+            form,
+            preface,
+            film,
+        },
     })
 }
 

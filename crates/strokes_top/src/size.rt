@@ -1,7 +1,7 @@
 //! How much a script asks for.
 
 use doc_model::{Change, Command, Job, Track};
-use geom_core::{Rect, TILE_POINTS, TILE_SIDE};
+use geom_core::{TILE_POINTS, TILE_SIDE};
 use script_text::Script;
 
 /// How many jobs are few: the holds of a lock that they take are soon over.
@@ -33,13 +33,13 @@ pub(crate) fn is_for_many(script: &Script) -> bool {
 /// How many points a job writes, or some more.
 fn points_of(job: &Job) -> u64 {
     match job {
-        Job::Fill { rect, .. } => area(rect),
+        Job::Fill { rect, .. } => rect.points(),
         Job::Dab { r, .. } => {
             let side = 2 * u64::from(*r) + 1;
             side * side
         }
-        Job::Move { rect, .. } => area(rect).saturating_mul(2),
-        Job::Blur { rect, .. } => area(rect),
+        Job::Move { rect, .. } => rect.points().saturating_mul(2),
+        Job::Blur { rect, .. } => rect.points(),
         Job::Track { track, .. } => track_points(track),
     }
 }
@@ -49,9 +49,4 @@ fn track_points(track: &Track) -> u64 {
     let side = 2 * u64::from(track.stamp().r) + 1;
     let dabs = (TILE_SIDE as u64 + side) / u64::from(track.gap()).max(1) + 1;
     (side * side).min(TILE_POINTS as u64) * dabs
-}
-
-/// How many points a rectangle has.
-fn area(rect: &Rect) -> u64 {
-    u64::from(rect.w()).saturating_mul(u64::from(rect.h()))
 }

@@ -167,8 +167,12 @@ pub(crate) fn write_painting<R: Threads + Sync, K: Sink>(
     ensures cause { HasCause (K.faults out.old) (K.faults out.new) result }
 {
     match &painting.output {
-        Output::Shown { form, lead, film } => {
-            write_all(out, lead)?;
+        Output::Shown {
+            form,
+            preface,
+            film,
+        } => {
+            write_all(out, preface)?;
             let outcomes = &painting.outcomes;
             write_output(
                 rt,

@@ -55,7 +55,9 @@ pub(crate) fn same_groups(
 fn same_children(xs: &[Source], ys: &[Source], group: u16, key: TileKey, rect: &Rect) -> bool
     requires key { IsWorldKey key }
     requires met { HasPointIn rect.now key }
-    ensures { IsTrue result ↔ AlikeChildren rect.now key (children_in rect.now group xs.now) (children_in rect.now group ys.now) }
+    ensures { IsTrue result
+        ↔ AlikeChildren rect.now key (children_in rect.now group xs.now)
+        (children_in rect.now group ys.now) }
 {
     let mut from = 0;
     for i in 0..xs.len() {
@@ -98,7 +100,8 @@ fn next_child(sources: &[Source], from: usize, group: u16) -> Option<usize>
     requires { from ≤ length sources.now }
     ensures inside { IfSome result (λ at. at < length sources.now) }
     ensures next { IfSome result (IsNext group sources.now from) }
-    ensures none { IfNone result ((rect : Area) → children_in rect group (drop from sources.now) ≡ []) }
+    ensures none { IfNone result
+        ((rect : Area) → children_in rect group (drop from sources.now) ≡ []) }
 {
     for at in from..sources.len() {
         if sources[at].group == group {
@@ -112,7 +115,8 @@ fn next_child(sources: &[Source], from: usize, group: u16) -> Option<usize>
 fn same_child(x: &Source, y: &Source, key: TileKey, rect: &Rect) -> bool
     requires key { IsWorldKey key }
     requires met { HasPointIn rect.now key }
-    ensures { IsTrue result ↔ AlikeChild rect.now key (child_of rect.now x.now) (child_of rect.now y.now) }
+    ensures { IsTrue result
+        ↔ AlikeChild rect.now key (child_of rect.now x.now) (child_of rect.now y.now) }
 {
     if x.id != y.id {
         return false;

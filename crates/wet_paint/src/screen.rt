@@ -5,7 +5,7 @@ ghost use Rattle.live_view.specs.Views.{IsOnCanvas};
 ghost use Rattle.tile_core.specs.Frames.{IsTileOf};
 
 use crate::paint::WetError;
-use geom_core::{NoMemory, TileKey};
+use geom_core::{NoMemory, TILE_SIDE, TileKey};
 use io_edge::StdSink;
 use live_view::{LiveReader, Naming};
 use ppm_out::write_frame;
@@ -49,7 +49,7 @@ fn has_tile(frame: &Frame, key: TileKey) -> bool
 fn lies_in(tile: i16, points: u16) -> bool
     ensures { result ≡ true → (pos 0 ≤ℤ tile) × ((pos 64 *ℤ tile) <ℤ pos points) }
 {
-    0 <= tile && 64 * i32::from(tile) < i32::from(points)
+    0 <= tile && TILE_SIDE as i32 * i32::from(tile) < i32::from(points)
 }
 
 /// Puts the tile that the reader sees into the frame, if there is one.

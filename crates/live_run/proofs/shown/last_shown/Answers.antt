@@ -2,6 +2,7 @@ use Rattle.std.proofs.Common.{◌≡◌, [], ◌∷◌, ◌++◌, Some, None, sy
 use Rattle.tile_core.specs.Films.{newest}
 use Rattle.tile_core.specs.Frames.{Scene}
 use Rattle.doc_model.specs.Canvases.{IsOfLimits}
+use Rattle.machine_model.specs.State.{State}
 use Rattle.script_text.proofs.Scripts.{script_holds}
 use Rattle.live_run.specs.Last.{ShowsLast}
 use Rattle.live_run.proofs.LastPictures.{last_is}
@@ -16,4 +17,4 @@ push-requires g c = λ before e. absurd (let t : None ≡ Some before = sym (ap 
 pub returns : goal.returns
 returns g c = subst (λ (scenes : List Scene). ShowsLast c.args.script.now scenes c.in_ok-outcomes.outcomes.items) (sym (c.in_ok-push.ensures.ok ∙ ap (λ (scenes : List Scene). scenes ++ c.in_ok-frame.frame ∷ []) c.new-film.ensures))
     (last_is c.args.desk c.args.script.now c.in_ok-frame.frame c.in_ok-outcomes.outcomes.items (c.settled_has_meaning.ensures c.requires.painted.settled) (c.settled_shows_picture.ensures c.requires.painted.settled) c.requires.painted.canvas c.requires.painted.fed
-    c.in_ok-frame.ensures (c.in_ok-outcomes.ensures.items ∙ c.outcomes.ensures))
+    c.in_ok-frame.ensures (c.in_ok-outcomes.ensures.items ∙ c.outcomes.ensures ∙ ap (λ (s : State). s.outcomes) c.deref.ensures))

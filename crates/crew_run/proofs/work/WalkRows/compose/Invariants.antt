@@ -1,6 +1,6 @@
 use Rattle.std.specs.Prelude.{All}
 use Rattle.geom_core.specs.Keys.{IsWorldKey}
-use Rattle.crew_run.proofs.work.Rows.compose.Given as goal
+use Rattle.crew_run.proofs.work.WalkRows.compose.Given as goal
 
 -- the keys so far lie in the world
 abbrev pub invariant-loop-i : goal.invariant-loop-i

@@ -1,4 +1,0 @@
-use Rattle.desk_core.proofs.desk.Desk.tell_sound.Goals as goal
-
-pub returns : goal.returns
-returns c = rw (← c.self.view_is) c.tell_sound.ensures
