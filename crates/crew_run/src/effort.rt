@@ -1,10 +1,7 @@
 //! How much work there is, as a count of points, and how many threads it is worth.
 
-ghost use Rattle.std.specs.Prelude.{◌≡◌, true};
-ghost use Rattle.doc_model.specs.Jobs.{checks};
-
-use doc_model::Job;
-use geom_core::{Rect, TILE_POINTS};
+use doc_model::{Job, Track};
+use geom_core::{Rect, TILE_POINTS, TILE_SIDE};
 use pixel_rows::left_everywhere;
 use tile_core::Shot;
 
@@ -20,12 +17,10 @@ pub(crate) const RANGES: usize = 6;
 /// The points that a tile counts for which is shared with its neighbours.
 const SHARED: u64 = 64;
 
-/// About how much work a job is, as a count of points: those that it writes, where those of two rectangles
-/// count twice. Where a fill hides what is there, or nothing is, it is less: such tiles have one pixel all
-/// over and are shared, so a fill of them is for one thread, which makes one tile.
-pub(crate) fn load_of(job: &Job, shot: &Shot) -> u64
-    requires { checks job.now ≡ true }
-{
+/// About how much work a job is, as a count of points: those that it writes. Where a fill hides what is there, or
+/// nothing is, it is less: such tiles have one pixel all over and are shared, so a fill of them is for one thread,
+/// which makes one tile.
+pub(crate) fn load_of(job: &Job, shot: &Shot) -> u64 {
     match *job {
         Job::Fill {
             rect,
@@ -68,13 +63,24 @@ fn part_load(rect: &Rect, tile: &Rect, is_light: bool) -> u64 {
     }
 }
 
-/// How many points a job writes, those of two rectangles counted twice.
-fn points_of(job: &Job) -> u64
-    requires { checks job.now ≡ true }
-{
-    let mut load = 0u64;
-    for rect in job.writes().as_slice() {
-        load = load.saturating_add(rect.points());
+/// About how many points a job writes, each as often as it is written. Those of the two rectangles of a move count
+/// twice.
+pub fn points_of(job: &Job) -> u64 {
+    match job {
+        Job::Fill { rect, .. } => rect.points(),
+        Job::Dab { r, .. } => {
+            let side = 2 * u64::from(*r) + 1;
+            side * side
+        }
+        Job::Move { rect, .. } => rect.points().saturating_mul(2),
+        Job::Blur { rect, .. } => rect.points(),
+        Job::Track { track, .. } => track_points(track),
     }
-    load
+}
+
+/// How many points the dabs of a track paint in one tile, if it goes straight through it.
+fn track_points(track: &Track) -> u64 {
+    let side = 2 * u64::from(track.stamp().r) + 1;
+    let dabs = (TILE_SIDE as u64 + side) / u64::from(track.gap()).max(1) + 1;
+    (side * side).min(TILE_POINTS as u64) * dabs
 }

@@ -30,5 +30,6 @@ mod watching;
 mod work;
 
 pub use crew::{run_crew, run_watched};
+pub use effort::points_of;
 pub use shown::{Shown, run_shown};
 pub use watching::Watching;

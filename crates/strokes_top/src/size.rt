@@ -1,7 +1,7 @@
 //! How much a script asks for.
 
-use doc_model::{Change, Command, Job, Track};
-use geom_core::{TILE_POINTS, TILE_SIDE};
+use crew_run::points_of;
+use doc_model::{Change, Command};
 use script_text::Script;
 
 /// How many jobs are few: the holds of a lock that they take are soon over.
@@ -28,25 +28,4 @@ pub(crate) fn is_for_many(script: &Script) -> bool {
         }
     }
     jobs <= FEW_JOBS || points >= jobs.saturating_mul(POINTS_A_JOB)
-}
-
-/// How many points a job writes, or some more.
-fn points_of(job: &Job) -> u64 {
-    match job {
-        Job::Fill { rect, .. } => rect.points(),
-        Job::Dab { r, .. } => {
-            let side = 2 * u64::from(*r) + 1;
-            side * side
-        }
-        Job::Move { rect, .. } => rect.points().saturating_mul(2),
-        Job::Blur { rect, .. } => rect.points(),
-        Job::Track { track, .. } => track_points(track),
-    }
-}
-
-/// How many points the dabs of a track paint in one tile, if it goes straight through it.
-fn track_points(track: &Track) -> u64 {
-    let side = 2 * u64::from(track.stamp().r) + 1;
-    let dabs = (TILE_SIDE as u64 + side) / u64::from(track.gap()).max(1) + 1;
-    (side * side).min(TILE_POINTS as u64) * dabs
 }

@@ -13,9 +13,6 @@ invariant_of-self g c =
       front = subst (λ (fed : List Command). IsFront fed g.J.Following.script.commands) (sym keeps.fed) c.args.self.now.front;
     }
 
-pub load_of-load-requires : goal.load_of-load-requires
-load_of-load-requires g c = (c.in_ok-taken.ensures.paint c.in-Paint.ticket c.in-Paint.is).1.checked
-
 pub new-requires-clause-checked : goal.new-requires-clause-checked
 new-requires-clause-checked g c = (c.in_ok-taken.ensures.paint c.in-Paint.ticket c.in-Paint.is).1.checked
 
