@@ -5,7 +5,10 @@
 static strokes_answer take(struct crew *crew, strokes_piece *piece) {
     strokes_answer told = strokes_take(&crew->desk, piece);
     if (told == STROKES_OK) crew->out++;
-    if (told == STROKES_IDLE || told == STROKES_SETTLED) crew->rests = crew->out == 0;
+    if ((told == STROKES_IDLE || told == STROKES_SETTLED) && crew->out == 0) {
+        crew->rests = true;
+        pthread_cond_broadcast(&crew->rested);
+    }
     return told == STROKES_IN_USE ? STROKES_OK : told;
 }
 
@@ -20,10 +23,12 @@ static strokes_answer give(struct crew *crew, strokes_piece *piece) {
     return STROKES_OK;
 }
 
-/* Works on what can be done next, with the lock at the beginning and at the end. */
+/* Works on what can be done next, with the lock at the beginning and at the end. Meanwhile one more thread looks whether there is
+ * more: what comes of its own piece a thread takes itself. */
 static strokes_answer turn(struct crew *crew, strokes_piece *piece) {
     strokes_answer told = take(crew, piece);
     if (told != STROKES_OK) return told;
+    pthread_cond_signal(&crew->changed);
     pthread_mutex_unlock(&crew->lock);
     told = strokes_work(piece);
     pthread_mutex_lock(&crew->lock);
@@ -32,7 +37,9 @@ static strokes_answer turn(struct crew *crew, strokes_piece *piece) {
 
 static void sleep_a_while(struct crew *crew) {
     struct timespec until;
-    pthread_cond_broadcast(&crew->changed);
+    crew->lacks = true;
+    pthread_cond_broadcast(&crew->rested);
+    pthread_cond_signal(&crew->changed);
     clock_gettime(CLOCK_REALTIME, &until);
     until.tv_nsec += 20000000;
     if (until.tv_nsec >= 1000000000) until.tv_nsec -= 1000000000, until.tv_sec++;
@@ -46,11 +53,8 @@ static void *paint(void *it) {
     while (!crew->is_over) {
         switch (turn(crew, &piece)) {
         case STROKES_OK:
-        case STROKES_AGAIN: pthread_cond_broadcast(&crew->changed); break;
-        case STROKES_NO_MEMORY:
-            crew->lacks = true;
-            sleep_a_while(crew);
-            break;
+        case STROKES_AGAIN: break;
+        case STROKES_NO_MEMORY: sleep_a_while(crew); break;
         default: pthread_cond_wait(&crew->changed, &crew->lock); /* idle or settled */
         }
     }
@@ -62,6 +66,7 @@ static void *paint(void *it) {
 void crew_start(struct crew *crew, int threads) {
     pthread_mutex_init(&crew->lock, NULL);
     pthread_cond_init(&crew->changed, NULL);
+    pthread_cond_init(&crew->rested, NULL);
     crew->is_over = crew->rests = crew->lacks = false;
     crew->out = 0;
     crew->threads = 0;
@@ -72,7 +77,7 @@ void crew_start(struct crew *crew, int threads) {
 
 void crew_wake(struct crew *crew) {
     crew->rests = false;
-    pthread_cond_broadcast(&crew->changed);
+    pthread_cond_signal(&crew->changed);
 }
 
 strokes_answer crew_feed(struct crew *crew, const char *line, size_t line_len) {
@@ -91,10 +96,8 @@ strokes_answer crew_rest(struct crew *crew) {
         strokes_answer told = turn(crew, &piece);
         if (told == STROKES_NO_MEMORY)
             crew->lacks = true;
-        else if (told == STROKES_OK || told == STROKES_AGAIN)
-            pthread_cond_broadcast(&crew->changed);
-        else if (!crew->rests && !crew->lacks)
-            pthread_cond_wait(&crew->changed, &crew->lock);
+        else if (told != STROKES_OK && told != STROKES_AGAIN && !crew->rests && !crew->lacks)
+            pthread_cond_wait(&crew->rested, &crew->lock);
     } while (!crew->rests && !crew->lacks);
     if (piece.full) crew->out--;
     strokes_close_piece(&piece);
@@ -117,5 +120,6 @@ void crew_end(struct crew *crew) {
     pthread_mutex_unlock(&crew->lock);
     while (crew->threads > 0) pthread_join(crew->ids[--crew->threads], NULL);
     pthread_cond_destroy(&crew->changed);
+    pthread_cond_destroy(&crew->rested);
     pthread_mutex_destroy(&crew->lock);
 }

@@ -10,7 +10,8 @@ enum { CREW_MOST = 16 };
 struct crew {
     strokes_desk desk; /* under the lock */
     pthread_mutex_t lock;
-    pthread_cond_t changed; /* something was fed, given back or done */
+    pthread_cond_t changed; /* there may be work for one more thread */
+    pthread_cond_t rested;  /* nothing can be done before more is fed, or memory ended */
     bool is_over;           /* under the lock: the threads are to end */
     int out;                /* under the lock: how many pieces are out */
     bool rests;             /* under the lock: nothing can be done before more is fed */
@@ -25,10 +26,10 @@ struct crew {
  * can't be started aren't missed: crew_rest does all that is left. */
 void crew_start(struct crew *crew, int threads);
 
-/* Feeds a line, and wakes the threads. */
+/* Feeds a line, and wakes a thread. */
 strokes_answer crew_feed(struct crew *crew, const char *line, size_t line_len);
 
-/* Wakes the threads, once the caller has fed by itself under the lock. */
+/* Wakes a thread, once the caller has fed by itself under the lock. It wakes others where there is work for them. */
 void crew_wake(struct crew *crew);
 
 /* Works with the threads until nothing can be done before more is fed. OK; NO_MEMORY, for any of them; what the caller was at

@@ -14,7 +14,7 @@
 #include <stdlib.h>
 #include <string.h>
 
-enum { MOST_LAYERS = 64, WAITING = 256, KEPT_CHANGES = 200, MOST_CHANGES = 400 };
+enum { MOST_LAYERS = 256, WAITING = 256, KEPT_CHANGES = 200, MOST_CHANGES = 400 };
 
 /* A change that can be undone: by it a layer was painted on, added above all, or hidden or shown. */
 struct change {

@@ -1,5 +1,5 @@
 /* Drives a program of SDL2 by a file in place of a hand: preloaded, it gives the events that the file named by DRIVE has, one
- * each 8 milliseconds, among those of the program itself.
+ * each 8 milliseconds, or each EACH, among those of the program itself.
  *
  *     down X Y, move X Y, up X Y      the left button
  *     drag DX DY                      the right one
@@ -11,8 +11,7 @@
 #include <stdio.h>
 #include <stdlib.h>
 #include <string.h>
-
-enum { EACH = 8 };
+#include <time.h>
 
 static void button(SDL_Event *event, Uint32 type, int x, int y) {
     event->type = type;
@@ -26,6 +25,11 @@ static void motion(SDL_Event *event, Uint32 state, int x, int y) {
     event->motion.state = state;
     event->motion.x = event->motion.xrel = x;
     event->motion.y = event->motion.yrel = y;
+}
+
+static Uint64 each(void) {
+    const char *told = getenv("EACH");
+    return told ? (Uint64)atoi(told) : 8;
 }
 
 /* The event of a line. */
@@ -51,9 +55,9 @@ int SDL_WaitEvent(SDL_Event *event) {
     if (!file && !(file = fopen(getenv("DRIVE"), "r"))) exit(70);
     while (SDL_GetTicks64() < due) {
         if (SDL_PollEvent(event)) return 1;
-        SDL_Delay(1);
+        nanosleep(&(struct timespec){0, 100000}, NULL);
     }
-    due = SDL_GetTicks64() + EACH;
+    due = SDL_GetTicks64() + each();
     if (!fgets(line, sizeof line, file)) strcpy(line, "quit");
     read_event(event, line);
     return 1;
