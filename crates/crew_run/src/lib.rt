@@ -14,7 +14,8 @@
 //!   before there is work for two. Where memory runs out in a thread all stop, and the caller settles.
 //! - A job of more than 60,000 points to lay is cut into ranges of tiles. A tile that a fill makes plain counts
 //!   for 64 points, and one that it covers in part for a quarter, since each range made a plain tile of its own
-//!   (`load_of`). No clause speaks of it.
+//!   (`load_of`); one that a path meets counts for as many points as its dabs there have (`points_of`). No clause
+//!   speaks of it.
 //! - Whoever watches is told after each hold in which tiles of a walk were laid (`Watching`), under the desk's
 //!   lock, so updates come in the order of the desk's events. A caller that is alone paints small jobs in place
 //!   and enters the gate for none of these.
