@@ -78,6 +78,10 @@ alone_by Multiply true m s h k = let full : m ≡ 255 = grind (arith, nat_tests)
 alone_by Screen true m s h k = let full : m ≡ 255 = grind (arith, nat_tests) in sym (ap (compose Screen s clear) full ∙ on_clear Screen s (λ e. cc) k)
 alone_by Addition true m s h k = let full : m ≡ 255 = grind (arith, nat_tests) in sym (ap (compose Addition s clear) full ∙ on_clear Addition s (λ e. cc) k)
 
+-- one picture on a clear backdrop, as it is
+pub as_it_is : (s : Rgba) → IsCanonical s → with_look (record { opacity = 255; op = Over; visible = true }) s clear ≡ s
+as_it_is s k = on_clear Over s (λ e. cc) k
+
 -- one child that is left as it is
 pub laid_alone : (looks : List Look) (tiles : List Given) (look : Look) (given g : Given) (p : Point) → length looks ≡ 1 → length tiles ≡ 1 → look ≡ get_or looks 0 look → given ≡ get_or tiles 0 given → true ≡ shows_itself look → IsCanonical (given_on given p) → g ≡ given
     → given_on g p ≡ laid_at looks tiles p

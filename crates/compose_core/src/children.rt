@@ -7,6 +7,7 @@ ghost use Rattle.tile_core.specs.Pixels.{whole_tile, HasPixels};
 ghost use Rattle.compose_core.specs.Children.{IsComposed};
 ghost use Rattle.compose_core.specs.declared.children.Given.TheVariants as given_is;
 ghost use Rattle.compose_core.specs.Laid.{LaysChild};
+ghost use Rattle.compose_core.specs.Piles.{IsClean};
 ghost use Rattle.compose_core.specs.Spots.{IsSpot, given_on};
 
 use crate::part::part_of;
@@ -14,7 +15,7 @@ use crate::spot::Spot;
 use doc_model::Look;
 use geom_core::{NoMemory, Rect};
 use pixel_core::Pixel;
-use pixel_rows::{lay_colour, lay_sources};
+use pixel_rows::{lay_colour, lay_sources, tell_canonical};
 use std::alloc::Global;
 use tile_core::{Part, Tile};
 
@@ -45,6 +46,18 @@ impl Given {
         match self {
             Given::Held(_) => false,
             Given::Plain(pixel) => *pixel == Pixel::CLEAR,
+        }
+    }
+
+    /// Tells that it is canonical at every point, as all pixels are. It does nothing.
+    pub fn tell_clean(&self)
+        ensures { IsClean self.now }
+    {
+        match self {
+            Given::Held(tile) => tell_canonical(tile.pixels()),
+            Given::Plain(pixel) => {
+                let _known = pixel.bytes();
+            }
         }
     }
 

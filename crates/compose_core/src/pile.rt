@@ -13,9 +13,15 @@ use crate::children::{Given, compose_tile};
 use doc_model::Look;
 use geom_core::{NoMemory, Rect};
 use pixel_core::{Op, Pixel};
-use pixel_rows::tell_canonical;
 use std::alloc::Global;
 use tile_core::Tile;
+
+/// A look with which a picture stays as it is on a clear backdrop.
+const AS_IT_IS: Look = Look {
+    opacity: 255,
+    op: Op::Over,
+    visible: true,
+};
 
 /// Visible children of a group from the bottom: the look of each, and what it has on the tile. A
 /// child that can't be seen is left out, so the pile may have fewer than the group.
@@ -53,12 +59,23 @@ impl Pile {
         ensures known { OnOk result (IsPile self.new) }
         ensures laid { OnOk result ((p : Point) → pile_at self.new p ≡ with_look look (given_on given p) (pile_at self.old p)) }
     {
-        tell_clean(&given);
+        given.tell_clean();
         if given.is_clear() {
             return Ok(());
         }
         self.uncover(look, &given);
         self.push(look, given)
+    }
+
+    /// Lets all children go and has one picture in their place, as it is. After want of memory the pile is to be
+    /// cleared.
+    pub fn start_from(&mut self, given: Given) -> Result<(), NoMemory>
+        ensures known { OnOk result (IsPile self.new) }
+        ensures shows { OnOk result ((p : Point) → pile_at self.new p ≡ given_on given p) }
+    {
+        given.tell_clean();
+        self.clear();
+        self.add(AS_IT_IS, given)
     }
 
     /// Lets go what the child will hide.
@@ -97,7 +114,7 @@ impl Pile {
         }
         if self.looks.len() == 1 && shows_itself(self.looks[0]) {
             let only = &self.tiles[0];
-            tell_clean(only);
+            only.tell_clean();
             return only.share();
         }
         let tile = compose_tile(alloc, &self.looks, &self.tiles, part)?;
@@ -133,18 +150,6 @@ fn alpha_of(pixel: Pixel) -> u8
 {
     let [_, _, _, a] = pixel.bytes();
     a
-}
-
-/// Tells that it is canonical at every point, as all pixels are. It does nothing.
-fn tell_clean(given: &Given)
-    ensures { IsClean given.now }
-{
-    match given {
-        Given::Held(tile) => tell_canonical(tile.pixels()),
-        Given::Plain(pixel) => {
-            let _known = pixel.bytes();
-        }
-    }
 }
 
 /// Whether a source with that look on a clear backdrop is left as it is.

@@ -1,12 +1,12 @@
 -- A settled desk shows what its script means.
 use Rattle.std.proofs.Common.{◌≡◌, List, map, sym, ap, ◌∙◌, subst}
 use Rattle.std.specs.List.{All}
-use Rattle.tile_core.specs.Frames.{Scene}
+use Rattle.frame_core.specs.Frames.{Scene}
 use Rattle.doc_model.specs.declared.canvas.Canvas.{Canvas}
 use Rattle.doc_model.specs.declared.command.Outcome.{Outcome}
 use Rattle.doc_model.specs.Meaning.{Story, meaning}
 use Rattle.doc_model.specs.Strokes.{entries}
-use Rattle.tile_core.specs.Scenes.{HasSides, colours_of}
+use Rattle.frame_core.specs.Scenes.{HasSides, colours_of}
 use Rattle.machine_model.specs.State.{State}
 use Rattle.machine_model.specs.Settled.{story}
 use Rattle.machine_model.specs.MeaningLaws.{HasMeaning}

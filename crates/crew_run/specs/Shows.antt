@@ -1,9 +1,9 @@
 -- What a painted script gives.
 use Rattle.std.specs.Prelude.{◌≡◌, List, map, All}
 use Rattle.doc_model.specs.declared.command.Outcome.{Outcome}
-use Rattle.tile_core.specs.Frames.{Scene}
+use Rattle.frame_core.specs.Frames.{Scene}
 use Rattle.script_text.specs.Script.{Contents, meaning_of}
-use Rattle.tile_core.specs.Scenes.{HasSides, colours_of}
+use Rattle.frame_core.specs.Scenes.{HasSides, colours_of}
 
 -- the frames show what the script's exports mean, and the outcomes are those of its entries
 pub record Shows (script : Contents) (scenes : List Scene) (outcomes : List Outcome) : Type 0 where

@@ -228,12 +228,13 @@ impl<J: Following + StampNaming> Board<J> {
 
     /// The first tiles of a new walk. Whoever looks next finds those that are left, or another walk.
     fn begin_walk(&mut self, walk: StampedWalk<J>) -> Result<Next<J>, NoMemory> {
-        let leaves = walk.ticket().inputs.patch().rect.points() > WORTH_TWO;
+        let is_large = walk.ticket().inputs.patch().rect.points() > WORTH_TWO;
         let mut walk = Walking::new(Arc::new(self.alloc, walk)?, self.threads);
         if !walk.ranges.is_open() {
             return Err(NoMemory);
         }
         let rows = walk.give()?;
+        let leaves = is_large || walk.ranges.is_open();
         self.walks.push(walk)?;
         Ok(Next::Work(Work::Compose { rows, leaves }))
     }

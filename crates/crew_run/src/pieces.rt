@@ -141,19 +141,20 @@ pub(crate) struct Walking<J: StampNaming> {
 }
 
 impl<J: StampNaming> Walking<J> {
-    /// A walk of which no tile was given out. One whose patch has few points is for one thread.
+    /// A walk of which no tile was given out. One that is little work is for one thread.
     pub(crate) fn new(walk: Arc<StampedWalk<J>, Global>, threads: usize) -> Walking<J>
         ensures { result.ranges.next ≡ 0 }
     {
-        let rect = walk.ticket().inputs.patch().rect;
-        let count = if threads > 1 && rect.points() > ALONE {
+        let inputs = &walk.ticket().inputs;
+        let tiles = inputs.patch().rect.tile_count() as usize;
+        let count = if threads > 1 && inputs.load() > ALONE {
             threads.saturating_mul(RANGES)
         } else {
             1
         };
         Walking {
             walk,
-            ranges: Ranges::new(rect.tile_count() as usize, count),
+            ranges: Ranges::new(tiles, count),
             done: 0,
         }
     }

@@ -6,13 +6,13 @@ ghost use Rattle.crew_run.specs.Shows.{Shows};
 use crate::crew::run_crew;
 use desk_core::settled_has_meaning;
 use doc_model::Outcome;
+use frame_core::Film;
 use geom_core::NoMemory;
 use io_edge::Gate;
 use script_text::Script;
 use std::alloc::Global;
 use std::sync::Wait;
 use std::thread::Threads;
-use tile_core::Film;
 
 /// What a painted script gives: a frame for each export, and an outcome for each entry.
 #[derive(Drop)]

@@ -6,6 +6,7 @@ use crate::gates::Yields;
 use crate::painted::{CREWS, painted, script_of};
 use desk_core::Desk;
 use doc_model::{Change, Command, Job, Kind, Outcome};
+use frame_core::Frame;
 use geom_core::{NoMemory, Rect};
 use io_edge::NoGate;
 use pixel_core::{Op, Pixel};
@@ -15,7 +16,6 @@ use std::alloc::Global;
 use std::sync::Wait;
 use std::test::Fail;
 use std::thread::Threads;
-use tile_core::Frame;
 use worked_scripts::{ROWS, Row, WIDE};
 
 /// How many drawn scripts are painted.

@@ -10,10 +10,10 @@ use Rattle.geom_core.specs.Grid.{Key, key_of, keys_of, same_key}
 use Rattle.geom_core.proofs.Keys.{key_of_held}
 use Rattle.geom_core.proofs.Tests.{or_cases}
 use Rattle.geom_core.proofs.Tiles.{key_same}
-use Rattle.tile_core.specs.Marks.{on_canvas}
-use Rattle.tile_core.specs.Damage.{Parts, part_at, part_has, is_damaged}
-use Rattle.tile_core.specs.Damage.{Adds}
-use Rattle.tile_core.proofs.DamagedPoints.{undamaged_before, undamaged_outside}
+use Rattle.frame_core.specs.Marks.{on_canvas}
+use Rattle.frame_core.specs.Damage.{Parts, part_at, part_has, is_damaged}
+use Rattle.frame_core.specs.Damage.{Adds}
+use Rattle.frame_core.proofs.DamagedPoints.{undamaged_before, undamaged_outside}
 
 -- of these tiles, what is left has all damaged points outside of a rectangle
 abbrev pub LeftOn : List Key → Area → Parts → Parts → Type 0

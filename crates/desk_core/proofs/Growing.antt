@@ -6,10 +6,10 @@ use Rattle.geom_core.specs.Areas.{Area, holds, Point}
 use Rattle.geom_core.specs.Rects.{any_holds}
 use Rattle.geom_core.specs.Grid.{key_of}
 use Rattle.geom_core.proofs.Tests.{neither}
-use Rattle.tile_core.specs.Marks.{on_canvas}
-use Rattle.tile_core.specs.Damage.{Parts, is_damaged}
-use Rattle.tile_core.specs.Damage.{Adds}
-use Rattle.tile_core.proofs.DamagedPoints.{undamaged_before, undamaged_outside}
+use Rattle.frame_core.specs.Marks.{on_canvas}
+use Rattle.frame_core.specs.Damage.{Parts, is_damaged}
+use Rattle.frame_core.specs.Damage.{Adds}
+use Rattle.frame_core.proofs.DamagedPoints.{undamaged_before, undamaged_outside}
 
 -- one rectangle more
 pub rect_more : (rects : List Area) (i : ℕ) (r : Area) (first mid last : Parts) → i < length rects → r ≡ get_or rects i r → Adds r mid last

@@ -2,6 +2,10 @@ mod Values
 mod Steps
 mod Ripe
 mod Shots
+mod LowerChildren
+mod Keeping
+mod MadeFolds
+mod KeptFolds
 mod Tracking
 mod Telling
 mod Growing

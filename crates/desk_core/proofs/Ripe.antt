@@ -46,12 +46,12 @@ use Rattle.desk_core.specs.Calm.{ReadsNow, IsRipe, IsCalm}
 use Rattle.desk_core.specs.Events.{is_quiet}
 
 -- what holds of the item at each place holds of each
-all_by : {A : Type 0} (P : A → Type 0) (xs : List A) → ((i : ℕ) (x : A) → slice_get xs i ≡ Some x → P x) → AllByRecursion P xs
+pub all_by : {A : Type 0} (P : A → Type 0) (xs : List A) → ((i : ℕ) (x : A) → slice_get xs i ≡ Some x → P x) → AllByRecursion P xs
 all_by P [] f = tt
 all_by P (x ∷ xs) f = (f 0 x refl, all_by P xs (λ i y e. f (suc i) y e))
 
 -- no job is at work at any place
-no_job : {B : Type 0} (s : State) (i : ℕ) (slot : Slot) → no_painter s ≡ true → slice_get s.slots i ≡ Some slot → is_painter slot ≡ true → B
+pub no_job : {B : Type 0} (s : State) (i : ℕ) (slot : Slot) → no_painter s ≡ true → slice_get s.slots i ≡ Some slot → is_painter slot ≡ true → B
 no_job s i slot idle k is = absurd (let t : list_any is_painter s.slots ≡ true = any_found is_painter s.slots i slot k is in let f : list_any is_painter s.slots ≡ false = not_true _ idle in cc)
 
 -- another slot doesn't bring one
@@ -84,7 +84,7 @@ free_calm s free = record { painters = ap not (idle s.slots free); ripe = all_by
     ripe (Walks w) h = absurd (let t : false ≡ true = h in cc)
 
 -- children as a walk reads them that starts now
-cut_same : (path : List ℕ) (rect : Area) (cs : List Child) (p : Point) → holds rect p ≡ true → SamePixels path (map (cut_child rect) cs) cs p
+pub cut_same : (path : List ℕ) (rect : Area) (cs : List Child) (p : Point) → holds rect p ≡ true → SamePixels path (map (cut_child rect) cs) cs p
 cut_same path rect [] p h = tt
 cut_same path rect (c ∷ cs) p h = ((λ e. at-shot_of (rect ∷ []) c.pixels p ∙ ap (λ b. cond b (at c.pixels p) c.pixels.default_pixel) (or_left (holds rect p) _ h)), cut_same path rect cs p h)
 
@@ -97,7 +97,7 @@ start_ripe old patch serial p h = each (path_of patch.walk old.present)
     each (g ∷ gs) = (record { published = λ e. absurd (let t : false ≡ true = e in cc); current = cut_same _ patch.rect (children_of old g) p h }, each gs)
 
 -- what was read stays as it is where the caches of the groups off the path do
-pixels_off : (path : List ℕ) (caches caches' : FinMap nat_cmp Layer) (read : List Child) (f : Doc) (p : Point) → SameChildren read (with_pixels caches f) → ((c : ℕ) → on c path ≡ false → cached_at caches p c ≡ cached_at caches' p c)
+pub pixels_off : (path : List ℕ) (caches caches' : FinMap nat_cmp Layer) (read : List Child) (f : Doc) (p : Point) → SameChildren read (with_pixels caches f) → ((c : ℕ) → on c path ≡ false → cached_at caches p c ≡ cached_at caches' p c)
     → SamePixels path read (with_pixels caches f) p → SamePixels path read (with_pixels caches' f) p
 pixels_off path caches caches' [] none p same off reads = tt
 pixels_off path caches caches' (r ∷ read) none p same off reads = absurd same
@@ -107,9 +107,33 @@ pixels_off path caches caches' (r ∷ read) (paint id look x rest) p same off re
 pixels_off path caches caches' (r ∷ read) (group id look nodes rest) p same off reads = ((λ e. reads.0 e ∙ off id (ap (λ n. on n path) (sym same.0) ∙ e)), pixels_off path caches caches' read rest p same.2 off reads.1)
 
 -- each entry of a list with two facts
-all_both : {A : Type 0} (P Q R : A → Type 0) (xs : List A) → ((x : A) → P x → Q x → R x) → AllByRecursion P xs → AllByRecursion Q xs → AllByRecursion R xs
+pub all_both : {A : Type 0} (P Q R : A → Type 0) (xs : List A) → ((x : A) → P x → Q x → R x) → AllByRecursion P xs → AllByRecursion Q xs → AllByRecursion R xs
 all_both P Q R [] f a b = tt
 all_both P Q R (x ∷ xs) f a b = (f x a.0 b.0, all_both P Q R xs f a.1 b.1)
+
+-- the walk that publishes is the one that is told of
+told_one : (old new : State) (place g : ℕ) (key : Key) (step : WalkPublishStep old place g key new) → (walk_stays_in_tile old new place g key step).walker ≡ step.walker
+told_one old new place g key step = let both : Some (Walks (walk_stays_in_tile old new place g key step).walker) ≡ Some (Walks step.walker) = sym (walk_stays_in_tile old new place g key step).at_work ∙ step.runs in cc
+
+-- it leaves the cache of another group
+pub other_cache : (old new : State) (place g : ℕ) (key : Key) (step : WalkPublishStep old place g key new) (c : ℕ) (p : Point) → eqb c g ≡ false → cached_at old.caches p c ≡ cached_at new.caches p c
+other_cache old new place g key step c p e = sym ((walk_stays_in_tile old new place g key step).others c p (grind (arith, nat_tests)))
+
+-- and every cache outside of its patch
+pub cache_outside : (old new : State) (place g : ℕ) (key : Key) (step : WalkPublishStep old place g key new) (c : ℕ) (p : Point) → holds step.walker.patch.rect p ≡ false → cached_at old.caches p c ≡ cached_at new.caches p c
+cache_outside old new place g key step c p out = go (eqb c g) refl
+  where
+    go : (b : Bool) → eqb c g ≡ b → cached_at old.caches p c ≡ cached_at new.caches p c
+    go false e = other_cache old new place g key step c p e
+    go true e = let is : g ≡ c = grind (arith, nat_tests) in subst (λ n. cached_at old.caches p n ≡ cached_at new.caches p n) is (sym ((walk_stays_in_tile old new place g key step).out_of_patch p (ap (λ (v : Walker). holds v.patch.rect p) (told_one old new place g key step) ∙ out)))
+
+-- a point of one walk's patch lies in no other's
+pub patch_outside : (s : State) (i place : ℕ) (v w : Walker) (p : Point) → IsSound s → slice_get s.slots i ≡ Some (Walks v) → slice_get s.slots place ≡ Some (Walks w) → i ≢ place → holds v.patch.rect p ≡ true → holds w.patch.rect p ≡ false
+patch_outside s i place v w p sound k runs apart h = go (holds w.patch.rect p) refl
+  where
+    go : (b : Bool) → holds w.patch.rect p ≡ b → b ≡ false
+    go false e = refl
+    go true e = absurd (let m : meets v.patch.rect w.patch.rect ≡ true = meets_held v.patch.rect w.patch.rect p h e in let f : meets v.patch.rect w.patch.rect ≡ false = walks_never_meet s i place v w sound.orderly k runs apart in cc)
 
 module _ (old new : State) (place g : ℕ) (key : Key) (sound : IsSound old) (step : WalkPublishStep old place g key new) (calm : IsCalm old) where
   told : ComposesTile old new place g key
@@ -120,22 +144,19 @@ module _ (old new : State) (place g : ℕ) (key : Key) (sound : IsSound old) (st
   w = step.walker
 
   one : told.walker ≡ w
-  one = let both : Some (Walks told.walker) ≡ Some (Walks w) = sym told.at_work ∙ step.runs in cc
+  unfolding told
+  one = told_one old new place g key step
 
   stands : (i : ℕ) (v : Walker) → slice_get old.slots i ≡ Some (Walks v) → WalkStands old (Walks v)
   stands i v k = all_get (WalkStands old) old.slots i (Walks v) sound.orderly.walking.walks k
 
   -- the cache of another group
   other : (c : ℕ) (p : Point) → eqb c g ≡ false → cached_at old.caches p c ≡ cached_at new.caches p c
-  other c p e = sym (told.others c p (grind (arith, nat_tests)))
+  other = other_cache old new place g key step
 
   -- outside of the walk's patch every cache is as it was
   outside : (c : ℕ) (p : Point) → holds w.patch.rect p ≡ false → cached_at old.caches p c ≡ cached_at new.caches p c
-  outside c p out = go (eqb c g) refl
-    where
-      go : (b : Bool) → eqb c g ≡ b → cached_at old.caches p c ≡ cached_at new.caches p c
-      go false e = other c p e
-      go true e = let is : g ≡ c = grind (arith, nat_tests) in subst (λ n. cached_at old.caches p n ≡ cached_at new.caches p n) is (sym (told.out_of_patch p (ap (λ (v : Walker). holds v.patch.rect p) one ∙ out)))
+  outside = cache_outside old new place g key step
 
   -- another walk
   other_ripe : (i : ℕ) (v : Walker) → i ≢ place → slice_get old.slots i ≡ Some (Walks v) → IsRipe old.present new.caches (Walks v)
@@ -147,11 +168,7 @@ module _ (old new : State) (place g : ℕ) (key : Key) (sound : IsSound old) (st
       (stands i v k).2 (all_get (IsRipe old.present old.caches) old.slots i (Walks v) calm.ripe k p h)
     where
       out : holds w.patch.rect p ≡ false
-      out = go (holds w.patch.rect p) refl
-        where
-          go : (b : Bool) → holds w.patch.rect p ≡ b → b ≡ false
-          go false e = refl
-          go true e = absurd (let m : meets v.patch.rect w.patch.rect ≡ true = meets_held v.patch.rect w.patch.rect p h e in let f : meets v.patch.rect w.patch.rect ≡ false = walks_never_meet old i place v w sound.orderly k step.runs apart in cc)
+      out = patch_outside old i place v w p sound k step.runs apart h
 
   -- the walk itself
   own_ripe : IsRipe old.present new.caches (Walks (record w { published = (g, key) ∷ w.published }))

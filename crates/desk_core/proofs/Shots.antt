@@ -13,7 +13,7 @@ use Rattle.geom_core.specs.Grid.{Key, key_of, keys_of, same_key}
 use Rattle.geom_core.proofs.Keys.{key_of_held}
 use Rattle.geom_core.proofs.Tests.{taken, or_left, is_some-None}
 use Rattle.geom_core.proofs.Tiles.{key_same}
-use Rattle.tile_core.specs.Damage.{Parts, part_at, part_has, is_damaged}
+use Rattle.frame_core.specs.Damage.{Parts, part_at, part_has, is_damaged}
 use Rattle.tile_core.specs.Shots.{Sight, sight_at}
 use Rattle.doc_model.specs.Layers.{Layer, at, plain}
 use Rattle.std.specs.FinMap as finite

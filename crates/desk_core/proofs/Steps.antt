@@ -38,7 +38,7 @@ use Rattle.machine_model.proofs.OtherPixels.{moved_from}
 use Rattle.machine_model.proofs.RootPicture.{still_is_clean}
 use Rattle.machine_model.proofs.StateTrees.{present_tree}
 use Rattle.machine_model.proofs.WalkPaths.{grouped, grouped_with, path_grouped, SameAt, folded_same}
-use Rattle.tile_core.specs.Damage.{Parts, is_damaged}
+use Rattle.frame_core.specs.Damage.{Parts, is_damaged}
 use Rattle.desk_core.specs.UpToDate.{AreCached, cached_at, LeavesPoint, UpToDate, IsUpToDate, IsTracked}
 use Rattle.desk_core.specs.Events.{is_quiet}
 use Rattle.machine_model.proofs.WalkEndCaches.{firsts, on_path_cached, paint_off_path}

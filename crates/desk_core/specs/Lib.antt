@@ -8,3 +8,4 @@ pub mod Tracking
 pub mod Events
 pub mod Shown
 pub mod Spreading
+pub mod Keeping

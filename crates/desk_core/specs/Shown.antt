@@ -3,7 +3,7 @@ use Rattle.std.specs.Prelude.{◌≡◌, ℕ, true, List, [], ◌∷◌}
 use Rattle.std.specs.Ordering.{nat_cmp}
 use Rattle.std.specs.FinMap.{FinMap}
 use Rattle.geom_core.specs.Areas.{Area, Point, holds}
-use Rattle.tile_core.specs.Damage.{Parts, is_damaged}
+use Rattle.frame_core.specs.Damage.{Parts, is_damaged}
 use Rattle.tile_core.specs.Shots.{Sight, sight_at}
 use Rattle.walker_core.specs.Knowing.{is_stale}
 use Rattle.walker_core.specs.declared.known.Damaged.{Damaged}

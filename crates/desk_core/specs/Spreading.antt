@@ -3,8 +3,8 @@ use Rattle.std.specs.Prelude.{◌≡◌, ◌⊎◌, true, false, List}
 use Rattle.geom_core.specs.Areas.{Area, Point, holds}
 use Rattle.geom_core.specs.Grid.{key_of}
 use Rattle.geom_core.specs.Rects.{any_holds}
-use Rattle.tile_core.specs.Damage.{Parts, is_damaged}
-use Rattle.tile_core.specs.Marks.{on_canvas}
+use Rattle.frame_core.specs.Damage.{Parts, is_damaged}
+use Rattle.frame_core.specs.Marks.{on_canvas}
 
 -- what isn't damaged now wasn't before, and no rectangle holds it
 abbrev pub Damages : Parts → List Area → Parts → Type 0

@@ -6,8 +6,8 @@ use Rattle.std.specs.List.{AllByRecursion}
 use Rattle.pixel_core.specs.Rgba.{Rgba, clear}
 use Rattle.geom_core.specs.Areas.{holds, Point}
 use Rattle.geom_core.specs.Rects.{any_holds}
-use Rattle.tile_core.specs.Damage.{Parts, is_damaged}
-use Rattle.tile_core.specs.Marks.{on_canvas}
+use Rattle.frame_core.specs.Damage.{Parts, is_damaged}
+use Rattle.frame_core.specs.Marks.{on_canvas}
 use Rattle.geom_core.specs.Grid.{key_of}
 use Rattle.doc_model.specs.Forest.{is_group}
 use Rattle.doc_model.specs.Jobs.{writes}

@@ -3,8 +3,8 @@
 ghost use Rattle.std.specs.Prelude.{◌≡◌, ◌⊎◌, true, false, IfSome, IsSomeAnd};
 ghost use Rattle.geom_core.specs.Areas.{holds, Point};
 ghost use Rattle.geom_core.specs.Grid.{key_of};
-ghost use Rattle.tile_core.specs.Marks.{on_canvas};
-ghost use Rattle.tile_core.specs.Damage.{is_damaged};
+ghost use Rattle.frame_core.specs.Marks.{on_canvas};
+ghost use Rattle.frame_core.specs.Damage.{is_damaged};
 ghost use Rattle.desk_core.specs.Calm.{IsRenewed};
 ghost use Rattle.desk_core.specs.Spreading.{Forgets};
 ghost use Rattle.desk_core.specs.UpToDate.{IsStill};

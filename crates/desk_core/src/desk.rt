@@ -15,6 +15,7 @@ ghost use Rattle.desk_core.specs.Painted.{HasJobsValue};
 
 use crate::answers::{Ended, Published};
 use crate::changes::begin_anew;
+use crate::folds::Folds;
 use crate::spread::Spread;
 use command_log::Commands;
 use desk_events::{Machine, SlotId};
@@ -38,6 +39,8 @@ pub struct Desk {
     /// Whether it is known that no job is at work, and that none has begun since the walks at work
     /// did.
     pub(crate) calm: bool,
+    /// What walks have made of the children below the painted layer.
+    pub(crate) folds: Box<Folds>,
 }
 
 impl Model for Desk {
@@ -52,7 +55,7 @@ impl Model for Desk {
 
     ghost view = { λ d. d.machine };
 
-    ghost invariant = { λ d. Tracks d.machine d.damage.value d.calm };
+    ghost invariant = { λ d. Tracks d.machine d.damage.value d.calm d.folds.value };
 }
 
 /// A desk reads as its machine: what one was fed, shows and has so far is asked of `Machine`'s calls.
@@ -102,11 +105,14 @@ impl Desk {
     {
         let mut damage = Box::new(alloc, Spread::none())?;
         begin_anew(&machine, &mut damage);
+        let kept = Folds::new(alloc);
+        let folds = Box::new(alloc, kept)?;
         Ok(Desk {
             alloc,
             machine,
             damage,
             calm: false,
+            folds,
         })
     }
 

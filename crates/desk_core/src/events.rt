@@ -1,7 +1,7 @@
 //! Events that change what is damaged, or by which it is told.
 
 ghost use Rattle.std.specs.Prelude.{IfOk, Ok, OnErr, OnOk, true, ◌+◌, ◌≡◌};
-ghost use Rattle.machine_model.specs.Event.{Act, Cancel, Start, WalkEnd, WalkStart};
+ghost use Rattle.machine_model.specs.Event.{Act, Cancel, Init, Start, WalkEnd, WalkStart};
 ghost use Rattle.machine_model.specs.State.{head};
 ghost use Rattle.machine_model.specs.Step.{Step};
 ghost use Rattle.machine_model.specs.UnderWay.{IsOnWay};
@@ -19,6 +19,20 @@ use memento_core::Steps;
 use std::sync::ledger::Ledger;
 
 impl Desk {
+    /// Begins the stroke at the head. What was folded below another layer goes.
+    ///
+    /// # Errors
+    /// `NoMemory`; all is as it was.
+    pub(crate) fn begin(&mut self) -> Result<(), NoMemory>
+        requires { Enabled self.old Init }
+        ensures ok { OnOk result (Step self.old Init self.new) }
+        ensures err { OnErr result (self.new ≡ self.old) }
+    {
+        let layer = self.machine.begin()?;
+        self.folds.turn_to(layer, self.machine.next_serial());
+        Ok(())
+    }
+
     /// Starts the next job of the stroke at the head in a slot: what it writes is damaged.
     ///
     /// # Errors
@@ -46,6 +60,7 @@ impl Desk {
     {
         self.machine.cancel(steps);
         self.calm = false;
+        self.folds.forget(self.machine.next_serial());
         begin_anew(&self.machine, &mut self.damage);
     }
 
@@ -63,6 +78,7 @@ impl Desk {
     {
         self.machine.act(steps)?;
         self.calm = false;
+        self.folds.forget(self.machine.next_serial());
         begin_anew(&self.machine, &mut self.damage);
         Ok(())
     }
@@ -82,15 +98,18 @@ impl Desk {
         let calm = self.calm || self.machine.busy_place().is_none();
         let mut ticket = self.machine.start_walk(place)?;
         self.calm = calm;
+        let patch = ticket.inputs.patch();
         match known_of(
             self.alloc,
             &ticket.inputs,
             self.machine.caches(),
             &self.damage,
+            &self.folds,
         ) {
             Ok(known) => ticket.inputs.know(known),
             Err(NoMemory) => {}
         }
+        self.folds.begin_walk(patch.walk, &patch.rect);
         Ok(ticket)
     }
 

@@ -1,12 +1,14 @@
 //! What is known of a walk's values as it starts.
 
-ghost use Rattle.std.specs.Prelude.{◌≡◌, true, IfOk};
+ghost use Rattle.std.specs.Prelude.{◌≡◌, true, IfOk, IfSome};
 ghost use Rattle.geom_core.specs.Areas.{holds, Point};
 ghost use Rattle.tile_core.specs.Shots.{sight_at};
 ghost use Rattle.walker_core.specs.Readings.{path_in};
 ghost use Rattle.desk_core.specs.UpToDate.{cached_at};
+ghost use Rattle.desk_core.specs.Keeping.{AreOfFolds};
 ghost use Rattle.desk_core.specs.Shown.{ShowCachesOn, TellDamage};
 
+use crate::folds::Folds;
 use crate::spread::Spread;
 use geom_core::{NoMemory, Rect};
 use group_caches::Caches;
@@ -24,16 +26,24 @@ pub(crate) fn known_of(
     inputs: &Inputs,
     caches: &Caches,
     damage: &Spread,
+    folds: &Folds,
 ) -> Result<Known, NoMemory>
     ensures shots { IfOk result (λ k.
         ShowCachesOn inputs.now.patch.rect caches.now (path_in inputs.now) k.shots.items) }
     ensures damaged { IfOk result (λ k.
         TellDamage inputs.now.patch.rect damage.now k.damaged.items) }
+    ensures footing { IfOk result (λ k.
+        IfSome k.footing (AreOfFolds folds.now inputs.now.patch.walk)) }
 {
     let rect = inputs.patch().rect;
     let shots = shots_of(alloc, inputs.path(), caches, &rect)?;
     let damaged = damaged_on(alloc, damage, &rect)?;
-    Ok(Known { shots, damaged })
+    let footing = folds.footing(alloc, inputs.patch().walk, &rect)?;
+    Ok(Known {
+        shots,
+        damaged,
+        footing,
+    })
 }
 
 /// The caches of groups on a rectangle.

@@ -16,6 +16,7 @@
 //!   all groups as that ends, where no job has been at work since it began (`calm`). Without the second a cell
 //!   that waits twice would be composed whole twice. To forget tile by tile while jobs are at work would take a
 //!   search of what waits and runs for each tile.
+//! - Folds of lower children go by what events tell (layers, sorts of walks, serials): no pixel is compared.
 //! - `take` makes an event of the head where one may happen, and else starts a walk: so composing comes late,
 //!   and where a walk finds no memory, nothing of the head was possible.
 //! - `commit` takes a job's tiles in one hold, made whole outside: to copy a tile's pixels under the lock takes
@@ -29,6 +30,7 @@ mod changes;
 mod commits;
 mod desk;
 mod events;
+mod folds;
 mod known;
 mod laws;
 mod looks;

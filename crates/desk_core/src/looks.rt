@@ -4,7 +4,7 @@ ghost use Rattle.std.specs.Prelude.{All, ◌≡◌, ◌↔◌, ◌<◌, IsTrue, 
 ghost use Rattle.geom_core.specs.Areas.{point};
 ghost use Rattle.doc_model.specs.Layers.{at};
 ghost use Rattle.doc_model.specs.Picture.{picture};
-ghost use Rattle.tile_core.specs.Scenes.{HasSides, colours_of};
+ghost use Rattle.frame_core.specs.Scenes.{HasSides, colours_of};
 ghost use Rattle.machine_model.specs.Groups.{cache};
 ghost use Rattle.machine_model.specs.Covers.{covered};
 ghost use Rattle.desk_core.specs.declared.answers.Fresh.TheVariants as fresh;
@@ -12,8 +12,8 @@ ghost use Rattle.desk_core.specs.declared.answers.Fresh.TheVariants as fresh;
 use crate::answers::Fresh;
 use crate::desk::Desk;
 use doc_model::{Command, Outcome};
+use frame_core::{Film, Frame};
 use pixel_core::Pixel;
-use tile_core::{Film, Frame};
 
 impl Desk {
     /// The pixel of the root's cache at a point of the canvas, and whether it is up to date: `Dirty`

@@ -4,13 +4,13 @@ ghost use Rattle.std.specs.Prelude.{◌≡◌, true, IfSome};
 ghost use Rattle.geom_core.specs.Areas.{holds, Point};
 ghost use Rattle.geom_core.specs.Grid.{key_of, tile};
 ghost use Rattle.geom_core.specs.Rects.{IsWithin};
-ghost use Rattle.tile_core.specs.Marks.{on_canvas};
-ghost use Rattle.tile_core.specs.Damage.{intact, is_damaged, part_at};
+ghost use Rattle.frame_core.specs.Marks.{on_canvas};
+ghost use Rattle.frame_core.specs.Damage.{intact, is_damaged, part_at};
 ghost use Rattle.desk_core.specs.Spreading.{Damages, Forgets};
 
+use frame_core::Damage;
 use geom_core::{Rect, TileKey};
 use std::marker::Model;
-use tile_core::Damage;
 
 /// The damaged parts of the tiles of a canvas, and whether it is known that all points of the largest
 /// canvas are damaged: then damage costs nothing more.
@@ -21,7 +21,7 @@ pub(crate) struct Spread {
 }
 
 impl Model for Spread {
-    ghost use Rattle.tile_core.specs.Damage.{Parts};
+    ghost use Rattle.frame_core.specs.Damage.{Parts};
 
     ghost Value = { Parts };
 

@@ -53,7 +53,7 @@ impl Desk {
                 Ok(Taken::Did)
             }
             Choice::Init => {
-                self.machine.begin()?;
+                self.begin()?;
                 Ok(Taken::Did)
             }
             Choice::Start(place) => Ok(Taken::Paint(self.start(place)?)),

@@ -5,7 +5,7 @@ ghost use Rattle.machine_model.specs.Event.{WalkPublish};
 ghost use Rattle.machine_model.specs.Step.{Step};
 ghost use Rattle.desk_state.specs.Enabled.{TakesWalk};
 ghost use Rattle.desk_state.specs.Settles.{Settles};
-ghost use Rattle.desk_events.specs.Commits.{ReadsAsWork};
+ghost use Rattle.desk_events.specs.Commits.{MayPublishRow, ReadsAsWork};
 ghost use Rattle.desk_core.specs.Commits.{PublishesRow};
 ghost use Rattle.desk_core.specs.declared.answers.Published.TheVariants as answers;
 
@@ -91,7 +91,22 @@ impl Desk {
         if !self.machine.may_publish_row(slot, composed, key) {
             return Ok(Published::Nothing);
         }
+        self.keep_folds(slot, composed, key);
         self.machine.lay_walked_row(slot, composed, key)?;
         Ok(Published::Stored)
+    }
+
+    /// Keeps what the walk in a slot made of lower children on a tile, where these are known to be as it read them and
+    /// all walks at work compose the same groups. Where there is no memory, some of it isn't kept.
+    fn keep_folds(&mut self, slot: SlotId, composed: &Composed<'_>, key: TileKey)
+        requires { MayPublishRow self.old slot.place slot.serial composed.now key }
+        ensures { self.new ≡ self.old }
+    {
+        let patch = composed.inputs().patch();
+        let _sides = (patch.rect.w(), patch.rect.h());
+        if self.folds.are_read_by(patch.walk, slot.serial) && self.machine.all_walk(patch.walk) {
+            let made = composed.folds(key);
+            let _kept = self.folds.keep(self.alloc, &patch.rect, made);
+        }
     }
 }

@@ -16,7 +16,7 @@ use Rattle.desk_steps.specs.Archives.{Archive, TellsReach, TellsFirst, undone, r
 use Rattle.desk_steps.specs.declared.reach.Reach as told
 use Rattle.machine_model.specs.State.{Reach, Whole, head}
 use Rattle.machine_model.specs.Event.{Act}
-use Rattle.tile_core.specs.Frames.{Scene}
+use Rattle.frame_core.specs.Frames.{Scene}
 use Rattle.update_queue.specs.Waiting.{Waiting}
 use Rattle.desk_state.specs.Enabled.{Enabled}
 use Rattle.desk_state.specs.Parts.{Parts, state_of}

@@ -1,5 +1,5 @@
 -- A pass over the slots for one at work.
-use Rattle.std.proofs.Common.{◌≡◌, ℕ, suc, zero, ◌+◌, ◌&&◌, true, false, Option, Some, None, List, [], ◌∷◌, map, drop, is_some, Bor, refl, sym, ap, ◌∙◌, arith}
+use Rattle.std.proofs.Common.{◌≡◌, ℕ, suc, zero, ◌+◌, ◌&&◌, true, false, Option, Some, None, List, [], ◌∷◌, map, drop, is_some, Bor, refl, sym, ap, ◌∙◌}
 use Rattle.std.specs.Prelude.{slice_get, option_copied}
 use Rattle.std.specs.List.{list_all}
 use Rattle.machine_model.specs.State.{Slot, is_free}

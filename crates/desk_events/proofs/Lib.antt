@@ -14,3 +14,4 @@ mod WalkedRows
 pub mod Ending
 mod SmallJobs
 mod Barriers
+mod SameWalks

@@ -6,7 +6,8 @@ use Rattle.doc_model.specs.Jobs.{reads, checks}
 use Rattle.doc_model.specs.Lawful.{within_limits}
 use Rattle.doc_model.specs.Strokes.{Stroke}
 use Rattle.machine_model.specs.State as state
-use Rattle.machine_model.specs.State.{State, Paints, Walks, head_stroke}
+use Rattle.doc_model.specs.declared.canvas.Walk.{Walk}
+use Rattle.machine_model.specs.State.{Slot, State, Paints, Walks, head_stroke}
 use Rattle.desk_state.specs.declared.work.Painter.{Painter}
 use Rattle.desk_state.specs.declared.work.Walker.{Walker}
 use Rattle.desk_state.specs.Parts.{painter_of, walker_of}
@@ -40,3 +41,8 @@ pub record HasWalk (s : State) (place serial : ℕ) (w : Walker) : Type 0 where
 -- no walk with that serial is at work in the slot
 abbrev pub HasNoWalk : State → ℕ → ℕ → Type 0
 HasNoWalk s place serial = (w : state.Walker) → slice_get s.slots place ≡ Some (Walks w) → w.serial ≡ serial → ⊥
+
+-- a walk in the slot is of that sort
+abbrev pub WalksAs : Walk → Slot → Type 0
+WalksAs walk (Walks w) = w.patch.walk ≡ walk
+WalksAs walk slot = Unit {0}

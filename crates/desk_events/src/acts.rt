@@ -144,7 +144,8 @@ impl Machine {
         ensures ok { OnOk result (Step self.old Act self.new) }
         ensures err { OnErr result (self.new ≡ self.old) }
     {
-        self.filmed.take_frame(self.alloc, self.canvas)?;
+        self.filmed
+            .take_frame(self.alloc, self.canvas, &self.store)?;
         self.queue.pop(Outcome::Done);
         Ok(())
     }

@@ -4,7 +4,7 @@ ghost use Rattle.std.specs.Prelude.{All, ◌≡◌, ◌<◌, pos, true, false, m
 ghost use Rattle.geom_core.specs.Areas.{point};
 ghost use Rattle.doc_model.specs.Layers.{at};
 ghost use Rattle.doc_model.specs.Picture.{picture};
-ghost use Rattle.tile_core.specs.Scenes.{HasSides, colours_of};
+ghost use Rattle.frame_core.specs.Scenes.{HasSides, colours_of};
 ghost use Rattle.machine_model.specs.Groups.{cache};
 ghost use Rattle.machine_model.specs.Covers.{covered};
 ghost use Rattle.desk_state.specs.Cached.{ShowsCache};
@@ -15,12 +15,13 @@ ghost use Rattle.desk_events.specs.Shown.{IsRootTile, RootIsClear, ShowsWhereCle
 use crate::machine::Machine;
 use doc_model::{Canvas, Command, Outcome};
 use entry_queue::Entry;
+use frame_core::{Film, Frame};
 use geom_core::{NoMemory, Rect, TileKey};
 use group_caches::Caches;
 use pixel_core::Pixel;
 use slot_work::{round_unsettled, some_waits, some_works};
 use std::alloc::Global;
-use tile_core::{Film, Frame, Tile};
+use tile_core::Tile;
 
 /// The id of the root.
 const ROOT: u16 = 0;

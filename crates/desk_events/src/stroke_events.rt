@@ -1,6 +1,6 @@
 //! The stroke at the head.
 
-ghost use Rattle.std.specs.Prelude.{◌≡◌, ◌+◌, OnOk, OnErr, Some, None, is_some, true};
+ghost use Rattle.std.specs.Prelude.{◌≡◌, ◌+◌, IfOk, OnOk, OnErr, Some, None, is_some, true};
 ghost use Rattle.doc_model.specs.Strokes.{Stroke, conflict};
 ghost use Rattle.machine_model.specs.State.{head_stroke};
 ghost use Rattle.machine_model.specs.Event.{Init, Finish, Cancel};
@@ -39,13 +39,15 @@ impl Machine {
         self.store.tree().parent(layer).unwrap_or(0)
     }
 
-    /// Begins the stroke at the head.
+    /// Begins the stroke at the head, and tells its layer.
     ///
     /// # Errors
     /// `NoMemory`; all is as it was.
-    pub fn begin(&mut self) -> Result<(), NoMemory>
+    pub fn begin(&mut self) -> Result<u16, NoMemory>
         requires { Enabled self.old Init }
         ensures ok { OnOk result (Step self.old Init self.new) }
+        ensures layer { IfOk result (λ l. (s : Stroke) → head_stroke self.old ≡ Some s
+            → l ≡ s.layer) }
         ensures err { OnErr result (self.new ≡ self.old) }
     {
         let layer = self.head_layer();
@@ -53,7 +55,7 @@ impl Machine {
         match self.store.begin(layer)? {
             Begun::Ready => {
                 self.way = Some(0);
-                Ok(())
+                Ok(layer)
             }
             Begun::NoLayer | Begun::NotPaint => unreachable!(),
         }

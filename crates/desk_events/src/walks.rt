@@ -1,7 +1,8 @@
 //! Walks, which compose groups anew.
 
-ghost use Rattle.std.specs.Prelude.{◌≡◌, OnErr, IfOk, IfSome, IfNone, Some, false, slice_get};
-ghost use Rattle.machine_model.specs.State.{Walker as At, head_stroke, Free, Walks};
+ghost use Rattle.std.specs.Prelude.{◌≡◌, ◌↔◌, IsTrue, OnErr, IfOk, IfSome, IfNone, Some, false, slice_get};
+ghost use Rattle.std.specs.List.{AllByRecursion};
+ghost use Rattle.machine_model.specs.State.{Slot, Walker as At, head_stroke, Free, Walks};
 ghost use Rattle.machine_model.specs.Guards.{is_exclusive};
 ghost use Rattle.machine_model.specs.Event.{WalkStart};
 ghost use Rattle.machine_model.specs.Step.{Step};
@@ -9,12 +10,13 @@ ghost use Rattle.machine_model.specs.Walking.{IsGroupOf};
 ghost use Rattle.machine_model.specs.Walks.{walk_shot};
 ghost use Rattle.walker_core.specs.Readings.{readings};
 ghost use Rattle.desk_state.specs.Choices.{WalksWait, CanWalk};
+ghost use Rattle.desk_events.specs.AtWork.{WalksAs};
 ghost use Rattle.desk_events.specs.Tickets.{IsWalkTicket};
 
 use crate::machine::Machine;
 use crate::tickets::{SlotId, WalkTicket};
 use desk_state::{Newest, Walker, Work};
-use doc_model::Patch;
+use doc_model::{Patch, Walk};
 use geom_core::NoMemory;
 use slot_work::gather;
 use walker_core::Inputs;
@@ -68,6 +70,37 @@ impl Machine {
             Some(Work::Paint(_)) => None,
             None => None,
         }
+    }
+
+    /// Whether all walks at work are of that sort.
+    pub fn all_walk(&self, walk: Walk) -> bool
+        ensures { IsTrue result ↔ AllByRecursion (WalksAs walk) self.now.slots }
+    {
+        for place in 0..self.slots.count() {
+            if !self.walks_as(place, walk) {
+                return false;
+            }
+        }
+        true
+    }
+
+    /// Whether no walk of another sort is at work in a slot.
+    fn walks_as(&self, place: u8, walk: Walk) -> bool
+        ensures { (slot : Slot) → slice_get self.now.slots place ≡ Some slot
+            → (IsTrue result ↔ WalksAs walk slot) }
+    {
+        match self.slots.work(place) {
+            Some(Work::Walk(walker)) => walker.inputs.patch().walk == walk,
+            Some(Work::Paint(_)) => true,
+            None => true,
+        }
+    }
+
+    /// The next serial.
+    pub fn next_serial(&self) -> u64
+        ensures { result ≡ self.now.next }
+    {
+        self.next
     }
 
     /// Starts a walk of the first patch that meets no other walk.

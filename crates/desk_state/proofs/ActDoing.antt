@@ -16,8 +16,8 @@ use Rattle.doc_model.specs.Changes.{changed}
 use Rattle.doc_model.specs.Layers.{Layer, plain}
 use Rattle.doc_model.specs.Picture.{Doc, frame}
 use Rattle.doc_model.specs.Strokes.{Entry, Changes, Undoes, Redoes, Purges, Exports}
-use Rattle.tile_core.specs.Frames.{Scene}
-use Rattle.tile_core.specs.Scenes.{HasSides, colours_of}
+use Rattle.frame_core.specs.Frames.{Scene}
+use Rattle.frame_core.specs.Scenes.{HasSides, colours_of}
 use Rattle.entry_queue.specs.declared.entry.Entry.TheVariants as item
 use Rattle.entry_queue.specs.Pushed.{Pending, queued}
 use Rattle.desk_steps.specs.Archives as archives

@@ -18,8 +18,8 @@ use Rattle.doc_model.specs.Picture.{Doc, frame, canvas_area}
 use Rattle.doc_model.specs.Strokes as doc
 use Rattle.doc_model.specs.Strokes.{Stroke, Fate, Open, Ended, Cancelled, Strokes, Changes, Undoes, Redoes, Purges, Exports}
 use Rattle.doc_model.specs.Updates.{queued, refreshed}
-use Rattle.tile_core.specs.Frames.{Scene}
-use Rattle.tile_core.specs.Scenes.{HasSides, colours_of}
+use Rattle.frame_core.specs.Frames.{Scene}
+use Rattle.frame_core.specs.Scenes.{HasSides, colours_of}
 use Rattle.entry_queue.specs.declared.entry.Entry.{Entry}
 use Rattle.entry_queue.specs.declared.entry.Entry.TheVariants as item
 use Rattle.entry_queue.specs.Pushed as pushed

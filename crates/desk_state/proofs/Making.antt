@@ -12,7 +12,7 @@ use Rattle.doc_model.specs.Picture.{canvas_area}
 use Rattle.entry_queue.specs.Pushed.{StandsFor}
 use Rattle.desk_steps.specs.Archives.{empty_archive}
 use Rattle.machine_model.specs.State.{Free, new_state}
-use Rattle.tile_core.specs.Scenes.{HasSides}
+use Rattle.frame_core.specs.Scenes.{HasSides}
 use Rattle.machine_model.proofs.RunsSound.{new_sound}
 use Rattle.update_queue.specs.Waiting.{waiting}
 use Rattle.desk_state.specs.Parts.{Parts, state_of, slot_of}

@@ -11,7 +11,7 @@ use Rattle.doc_model.specs.Jobs.{writes}
 use Rattle.doc_model.specs.Layers.{Layer}
 use Rattle.doc_model.specs.Picture.{Doc}
 use Rattle.doc_model.specs.Updates.{refreshed}
-use Rattle.tile_core.specs.Frames.{Scene}
+use Rattle.frame_core.specs.Frames.{Scene}
 use Rattle.job_core.specs.Paints.{Paint}
 use Rattle.tile_core.specs.Shots.{Sight}
 use Rattle.entry_queue.specs.Pushed.{Pending, pushed}

@@ -10,7 +10,7 @@ use Rattle.doc_model.specs.Shots.{in_tile}
 use Rattle.doc_model.specs.Layers.{Layer, at}
 use Rattle.doc_model.specs.Picture.{canvas_area}
 use Rattle.machine_model.specs.Groups.{cache}
-use Rattle.tile_core.specs.Frames.{Scene, put_at}
+use Rattle.frame_core.specs.Frames.{Scene, put_at}
 
 -- the frame has the canvas's sides and paper, and shows the root's cache
 pub record ShowsCache (caches : FinMap nat_cmp Layer) (canvas : Canvas) (s : Scene) : Type 0 where

@@ -5,8 +5,8 @@ use Rattle.std.specs.FinMap.{FinMap}
 use Rattle.doc_model.specs.declared.canvas.Canvas.{Canvas}
 use Rattle.doc_model.specs.declared.command.Command.{Command}
 use Rattle.doc_model.specs.Layers.{Layer}
-use Rattle.tile_core.specs.Frames.{Scene}
-use Rattle.tile_core.specs.Scenes.{colours_of}
+use Rattle.frame_core.specs.Frames.{Scene}
+use Rattle.frame_core.specs.Scenes.{colours_of}
 use Rattle.job_core.specs.Paints.{layer_of}
 use Rattle.entry_queue.specs.Pushed.{Pending}
 use Rattle.desk_steps.specs.Archives.{Archive}

@@ -14,7 +14,7 @@ use Rattle.desk_steps.specs.Archives.{Archive}
 use Rattle.machine_model.specs.State.{State, head_stroke}
 use Rattle.machine_model.specs.Guards.{kept_jobs}
 use Rattle.machine_model.specs.Sound.{IsSound}
-use Rattle.tile_core.specs.Scenes.{HasSides}
+use Rattle.frame_core.specs.Scenes.{HasSides}
 use Rattle.slot_core.specs.declared.Busy.{Busy}
 use Rattle.desk_state.specs.declared.work.Work.{Work}
 use Rattle.desk_state.specs.declared.work.Work.TheVariants.{Paint, Walk}

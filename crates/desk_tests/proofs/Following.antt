@@ -11,7 +11,7 @@ use Rattle.doc_model.specs.Feeding.{is_closed_entry}
 use Rattle.script_text.specs.Script.{Contents}
 use Rattle.script_text.specs.Closed.{is_script}
 use Rattle.script_text.proofs.Scripts.{script_holds}
-use Rattle.slot_work.proofs.KeyLists.{key_in_one}
+use Rattle.filmed_caches.proofs.KeyLists.{key_in_one}
 
 pub limits_of : (s : Contents) → is_script s ≡ true → IsOfLimits s.canvas
 limits_of s h = (script_holds s h).canvas

@@ -5,6 +5,7 @@ ghost use Rattle.std.specs.Prelude.{◌≡◌, ◌<◌};
 use crate::fixtures::{desk_for, feed, script_of, settle};
 use crate::tickets::{Held, Took, take_ticket};
 use desk_core::{Desk, Ended, Fresh, Published, SlotId};
+use frame_core::Frame;
 use geom_core::{NoMemory, TileKey};
 use memento_core::Steps;
 use pixel_core::Pixel;
@@ -12,7 +13,6 @@ use script_text::Script;
 use std::alloc::Global;
 use std::marker::Brand;
 use std::sync::ledger::{Blank, Ledger};
-use tile_core::Frame;
 
 /// The tile whose corner is (0, 0).
 const ORIGIN: TileKey = TileKey { row: 0, col: 0 };

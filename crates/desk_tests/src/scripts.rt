@@ -6,6 +6,7 @@ use crate::fixtures::{desk_for, script_of, settle};
 use crate::told::is_as_told;
 use demo_gen::script_of as generated;
 use desk_core::Desk;
+use frame_core::Frame;
 use geom_core::NoMemory;
 use io_edge::MemSink;
 use memento_core::Steps;
@@ -15,7 +16,6 @@ use std::alloc::Global;
 use std::marker::Brand;
 use std::sync::ledger::{Blank, Ledger};
 use std::test::Fail;
-use tile_core::Frame;
 use worked_scripts::{DONE, REFUSED, ROWS, Row, WIDE};
 
 /// A desk with so many slots that was fed with all of the script and has settled. None where it hasn't.

@@ -1,11 +1,11 @@
 //! What a desk shows, against what its script means.
 
 use desk_core::Desk;
+use frame_core::Frame;
 use geom_core::NoMemory;
 use plain_painter::plain_frames;
 use script_text::Script;
 use std::alloc::Global;
-use tile_core::Frame;
 
 /// Whether the desk has the outcomes and frames that the plain evaluator tells of the script.
 pub(crate) fn is_as_told(alloc: Global, desk: &Desk, script: &Script) -> Result<bool, NoMemory> {

@@ -1,7 +1,7 @@
 -- Rows of frames and shots as they are copied.
 use Rattle.std.specs.Prelude.{◌≡◌, ◌⊎◌, ◌≤◌, ◌<◌, ◌*◌, ◌++◌, ◌+◌, ℕ, Some, List, length, take, drop, slice_get}
-use Rattle.tile_core.specs.Frames.{Scene, row_colours}
-use Rattle.tile_core.specs.Scenes.{HasSides, colours_of}
+use Rattle.frame_core.specs.Frames.{Scene, row_colours}
+use Rattle.frame_core.specs.Scenes.{HasSides, colours_of}
 use Rattle.machine_model.specs.State.{State}
 use Rattle.host_lines.specs.declared.answer.Answer.{Answer}
 use Rattle.host_lines.specs.declared.answer.Answer.TheVariants as answer

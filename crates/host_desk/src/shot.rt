@@ -3,9 +3,10 @@
 ghost use Rattle.std.specs.Prelude.{◌≡◌, ◌≤◌, ◌<◌, ◌+◌, ◌*◌, ◌++◌, length, drop};
 ghost use Rattle.host_desk.specs.Views.{PartOf, part_colours};
 
+use frame_core::Frame;
+use geom_core::TILE_SIDE;
 use host_lines::Answer;
 use std::marker::Model;
-use tile_core::Frame;
 
 /// How many bytes the colours of the longest row are.
 const ROW_BYTES: usize = 3 * 2048;
@@ -17,7 +18,7 @@ pub struct Shot {
 }
 
 impl Model for Shot {
-    ghost use Rattle.tile_core.specs.Frames.{Scene, scene_code};
+    ghost use Rattle.frame_core.specs.Frames.{Scene, scene_code};
 
     ghost Value = { Scene };
 
@@ -54,17 +55,19 @@ impl Shot {
         Answer::Done
     }
 
-    /// The same of pixels that are there, with room for them. It goes by the whole row, of which many pixels are laid
-    /// on the paper at once.
+    /// The same of pixels that are there, with room for them. It goes by the tiles that they lie in: many of a tile's
+    /// pixels are laid on the paper at once.
     fn copy_part(&self, x: u16, y: u16, w: u16, out: &mut [u8])
         requires columns { x + w ≤ self.now.width }
         requires row { y < self.now.height }
         requires room { 3 * w ≤ length out.old }
         ensures { out.new ≡ part_colours self.now x y w ++ drop (3 * w) out.old }
     {
+        let side = TILE_SIDE as u16;
         let _sides = self.frame.width();
         let mut row = [0; ROW_BYTES];
-        self.frame.row_into(y, &mut row);
+        self.frame
+            .columns_into(x / side, (x + w).div_ceil(side), y, &mut row);
         let from = 3 * usize::from(x);
         let count = 3 * usize::from(w);
         out[..count].copy_from_slice(&row[from..from + count]);

@@ -7,9 +7,9 @@ ghost use Rattle.host_desk.specs.Views.{FrameRow, RowOf};
 use crate::host::Host;
 use crate::shot::Shot;
 use doc_model::{Canvas, Outcome};
+use frame_core::Frame;
 use geom_core::NoMemory;
 use host_lines::Answer;
-use tile_core::Frame;
 
 impl Host {
     /// The canvas that it was opened for.

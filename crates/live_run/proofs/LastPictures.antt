@@ -5,13 +5,13 @@ use Rattle.std.specs.List.{All}
 use Rattle.std.proofs.lemmas.List.Elements.{All-nil, All-cons}
 use Rattle.pixel_core.specs.Compose.{on_paper}
 use Rattle.geom_core.specs.Areas.{area, points_of}
-use Rattle.tile_core.specs.Frames.{Scene, put_at}
+use Rattle.frame_core.specs.Frames.{Scene, put_at}
 use Rattle.doc_model.specs.declared.canvas.Canvas.{Canvas}
 use Rattle.doc_model.specs.declared.command.Outcome.{Outcome}
 use Rattle.doc_model.specs.Meaning.{Story, meaning}
 use Rattle.doc_model.specs.Picture.{Frame, picture, frame, canvas_area}
 use Rattle.doc_model.specs.Strokes.{entries}
-use Rattle.tile_core.specs.Scenes.{HasSides, colours_of}
+use Rattle.frame_core.specs.Scenes.{HasSides, colours_of}
 use Rattle.machine_model.specs.State.{State}
 use Rattle.machine_model.specs.Settled.{story}
 use Rattle.machine_model.specs.MeaningLaws.{HasMeaning}

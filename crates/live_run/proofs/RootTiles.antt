@@ -15,7 +15,7 @@ use Rattle.geom_core.proofs.Axes.{tiles_met}
 use Rattle.geom_core.proofs.Keys.{key_of_held}
 use Rattle.geom_core.proofs.Tests.{and_left, and_right, or_cases, or_left, taken, kept}
 use Rattle.geom_core.proofs.Tiles.{key_same}
-use Rattle.tile_core.specs.Marks.{place_at, on_canvas}
+use Rattle.frame_core.specs.Marks.{place_at, on_canvas}
 use Rattle.tile_core.specs.Pixels.{Pixels, pixel_at, pixel_or}
 use Rattle.doc_model.specs.declared.canvas.Canvas.{Canvas}
 use Rattle.doc_model.specs.Canvases.{IsOfLimits}
@@ -24,7 +24,7 @@ use Rattle.doc_model.specs.Picture.{canvas_area}
 use Rattle.doc_model.specs.Shots.{in_tile}
 use Rattle.machine_model.specs.State.{State}
 use Rattle.machine_model.specs.Groups.{cache}
-use Rattle.slot_work.proofs.KeyLists.{key_in}
+use Rattle.filmed_caches.proofs.KeyLists.{key_in}
 use Rattle.desk_events.specs.Shown as desk
 use Rattle.live_view.specs.declared.update.Update.{Update}
 use Rattle.live_view.specs.Shown.{Rows, updates_of, newer, shown, with_row}

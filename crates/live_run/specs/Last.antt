@@ -2,8 +2,8 @@
 use Rattle.std.specs.Prelude.{◌≡◌, List, [], ◌∷◌, map, All}
 use Rattle.doc_model.specs.declared.command.Outcome.{Outcome}
 use Rattle.doc_model.specs.Picture.{frame}
-use Rattle.tile_core.specs.Frames.{Scene}
-use Rattle.tile_core.specs.Scenes.{HasSides, colours_of}
+use Rattle.frame_core.specs.Frames.{Scene}
+use Rattle.frame_core.specs.Scenes.{HasSides, colours_of}
 use Rattle.script_text.specs.Script.{Contents, meaning_of}
 
 -- the one frame is that of the document that the script makes, and the outcomes are those of its entries

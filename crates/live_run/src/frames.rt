@@ -3,16 +3,17 @@
 ghost use Rattle.std.specs.Prelude.{◌≡◌, [], ◌∷◌, IfOk, IfSome, OnOk};
 ghost use Rattle.doc_model.specs.Canvases.{IsOfLimits};
 ghost use Rattle.desk_state.specs.Cached.{ShowsCache, PutsCache};
-ghost use Rattle.tile_core.specs.Frames.{IsTileOf};
+ghost use Rattle.frame_core.specs.Frames.{IsTileOf};
 ghost use Rattle.live_view.specs.Shown.{updates_of, shown};
 ghost use Rattle.live_view.specs.Views.{published, pending, IsOnCanvas};
 ghost use Rattle.live_run.specs.Showing.{ShowsTiles, ShowsRoot};
 
 use desk_core::Desk;
+use frame_core::Frame;
 use geom_core::{NoMemory, TileKey};
 use live_view::{LiveWriter, Naming};
 use std::alloc::Global;
-use tile_core::{Frame, Tile};
+use tile_core::Tile;
 
 /// The frame that new readers see of a desk whose root is published, on the canvas's paper. Where no place was
 /// free for a reader or a look was refused, the tile is the desk's own. Tiles are shared.

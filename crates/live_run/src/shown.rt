@@ -13,6 +13,7 @@ use crate::frames::live_frame;
 use crate::run::run_live;
 use crew_run::Shown;
 use desk_core::{Desk, settled_has_meaning, settled_shows_picture};
+use frame_core::{Film, Frame, Marks};
 use geom_core::NoMemory;
 use io_edge::Gate;
 use live_view::{LiveOpened, LiveWriter, Naming, open_live};
@@ -21,7 +22,6 @@ use std::alloc::Global;
 use std::marker::Brand;
 use std::sync::Wait;
 use std::thread::Threads;
-use tile_core::{Film, Frame, Marks};
 
 /// Paints a script by so many workers and the caller, and gives the frame of the document that it makes, as
 /// new readers of a live view see it, with the outcomes. What is promised holds if it returns.

@@ -3,7 +3,7 @@ use Rattle.std.proofs.Common.{◌≡◌, ℕ, suc, ◌+◌, ◌<◌, List, ◌++
 use Rattle.std.specs.List.{sum}
 use Rattle.std.proofs.Math.Seq.{drop-cons}
 use Rattle.std.proofs.lemmas.List.Sums.{sum_by-append}
-use Rattle.tile_core.specs.Frames.{Scene, row_colours}
+use Rattle.frame_core.specs.Frames.{Scene, row_colours}
 use Rattle.ppm_out.proofs.Lines.{lines, lines_more}
 use Rattle.log_out.specs.Summary.{sheet_of}
 use Rattle.log_out.specs.Log.{frame_line, frame_lines}

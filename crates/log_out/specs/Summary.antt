@@ -2,9 +2,9 @@
 use Rattle.std.specs.Prelude.{ℕ}
 use Rattle.std.specs.List.{concat, sum}
 use Rattle.doc_model.specs.Picture.{Frame}
-use Rattle.tile_core.specs.Frames.{Scene}
+use Rattle.frame_core.specs.Frames.{Scene}
 use Rattle.log_out.specs.Log.{Sheet}
-use Rattle.tile_core.specs.Scenes.{colours_of}
+use Rattle.frame_core.specs.Scenes.{colours_of}
 
 -- what a frame of tiles shows
 abbrev pub sheet_of : Scene → Sheet

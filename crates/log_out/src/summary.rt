@@ -6,14 +6,14 @@ ghost use Rattle.std.specs.Io.KnownBytes.{Appends};
 ghost use Rattle.io_edge.specs.Told.{AppendsPrefix};
 ghost use Rattle.io_edge.specs.Faults.{HasCause};
 ghost use Rattle.doc_model.specs.Meaning.{refused};
-ghost use Rattle.tile_core.specs.Scenes.{colours_of};
+ghost use Rattle.frame_core.specs.Scenes.{colours_of};
 ghost use Rattle.log_out.specs.Summary.{sheet_of, colour_sum as sum_of};
 ghost use Rattle.log_out.specs.Log.{done, cancelled, counts, frame_line, sum_text};
 
 use doc_model::Outcome;
+use frame_core::Frame;
 use io_edge::{Failed, Sink, write_pieces};
 use itoa::Buffer;
-use tile_core::Frame;
 
 /// The bytes of a row of the most columns, three a column.
 const ROW: usize = 3 * 2048;

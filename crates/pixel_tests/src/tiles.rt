@@ -2,15 +2,16 @@
 
 ghost use Rattle.std.specs.Prelude.{◌≡◌, ◌≤◌, ◌∷◌, ◌++◌, [], Some, IfOk, OnOk};
 ghost use Rattle.std.specs.FinMap as map;
-ghost use Rattle.tile_core.specs.Films.{newest};
-ghost use Rattle.tile_core.specs.Frames.{scene, with_put};
+ghost use Rattle.frame_core.specs.Films.{newest};
+ghost use Rattle.frame_core.specs.Frames.{scene, with_put};
 
 use crate::fixtures::{ORIGIN, RED, crosses, opaque, rect, shows};
+use frame_core::{Damage, Film, Frame, Marks, Ply};
 use geom_core::{NoMemory, TileKey};
-use pixel_core::Pixel;
+use pixel_core::{Op, Pixel};
 use std::alloc::Global;
 use std::test::Fail;
-use tile_core::{Block, Damage, Film, Frame, Marks, Shot, Tile};
+use tile_core::{Block, Shot, Tile};
 
 /// The tile to the right of that one.
 const SECOND: TileKey = TileKey { row: 0, col: 1 };
@@ -72,6 +73,39 @@ fn a_frame(rt: HostRuntime) -> Result<(), Fail> {
 }
 
 #[test]
+fn a_frame_of_plies(rt: HostRuntime) -> Result<(), Fail> {
+    let alloc = rt.alloc();
+    let mut frame = Frame::new(alloc, 1, 1, opaque(0x33, 0x66, 0x99))?;
+    let mut plies = Vec::new(alloc);
+    plies.push(Ply::Open)?;
+    plies.push(Ply::Plain {
+        pixel: opaque(0, 255, 0),
+        op: Op::Over,
+        opacity: 255,
+    })?;
+    plies.push(Ply::Tile {
+        tile: Tile::plain(alloc, opaque(255, 0, 0))?,
+        op: Op::Over,
+        opacity: 255,
+    })?;
+    plies.push(Ply::Close {
+        op: Op::Over,
+        opacity: 128,
+    })?;
+    frame.put_plies(alloc, ORIGIN, plies)?;
+    let mut shared = Frame::new(alloc, 1, 1, opaque(0x33, 0x66, 0x99))?;
+    shared.put_of(ORIGIN, &frame)?;
+    let mut row = [7; 4];
+    frame.row_into(0, &mut row);
+    assert_eq!(rt; row, [153, 51, 76, 7]);
+    shared.row_into(0, &mut row);
+    assert_eq!(rt; row, [153, 51, 76, 7]);
+    assert_eq!(rt; frame.at(0, 0), [153, 51, 76]);
+    assert_eq!(rt; shared.at(0, 0), [153, 51, 76]);
+    Ok(())
+}
+
+#[test]
 fn marked_tiles(rt: HostRuntime) {
     let mut marks = Marks::none();
     let outside = TileKey { row: 0, col: -1 };
@@ -113,11 +147,11 @@ fn a_film_of_two_frames(rt: HostRuntime) -> Result<(), Fail> {
     film.push(half_covered(alloc, paper, &left)?, Marks::none())?;
     let right = Tile::plain(alloc, opaque(4, 5, 6))?;
     push_covered(&mut film, half_covered(alloc, paper, &left)?, &right)?;
-    let mut picture = [7; 196];
-    film.lay(0, &mut picture);
-    assert_eq!(rt; &picture[189..], [1, 2, 3, 0x33, 0x66, 0x99, 7].as_slice());
-    film.lay(1, &mut picture);
-    assert_eq!(rt; &picture[189..], [1, 2, 3, 4, 5, 6, 7].as_slice());
+    let mut picture = [7; 195];
+    film.frames()[0].rows_into(0, 1, &mut picture);
+    assert_eq!(rt; &picture[189..], [1, 2, 3, 0x33, 0x66, 0x99].as_slice());
+    film.rows_after(1, 0, 1, &mut picture);
+    assert_eq!(rt; &picture[189..], [1, 2, 3, 4, 5, 6].as_slice());
     Ok(())
 }
 

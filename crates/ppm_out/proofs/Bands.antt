@@ -3,10 +3,10 @@ use Rattle.std.proofs.Common.{◌≡◌, ℕ, ◌+◌, ◌-◌, ◌*◌, ◌≤�
 use Rattle.std.specs.Prelude.{pos}
 use Rattle.std.specs.List.{concat}
 use Rattle.geom_core.specs.Areas.{area, points_of}
-use Rattle.tile_core.specs.Frames.{Scene, colours_at, rows_colours}
-use Rattle.tile_core.proofs.PictureRows.{rows_more}
+use Rattle.frame_core.specs.Frames.{Scene, colours_at, rows_colours}
+use Rattle.frame_core.proofs.PictureRows.{rows_more}
 use Rattle.ppm_out.specs.Pictures.{header, frame_bytes}
-use Rattle.tile_core.specs.Scenes.{colours_of}
+use Rattle.frame_core.specs.Scenes.{colours_of}
 use Rattle.ppm_out.proofs.Series.{concat_is}
 
 -- the rows so far and those of the next band

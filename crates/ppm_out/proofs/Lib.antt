@@ -1,3 +1,4 @@
 pub mod Lines
 pub mod Series
 pub mod Bands
+pub mod Halves

@@ -6,7 +6,7 @@ use Rattle.std.proofs.Math.Seq.{take-append_seam}
 use Rattle.std.proofs.lemmas.List.{append-nil}
 use Rattle.std.proofs.lemmas.Grind.{common_steps}
 use Rattle.geom_core.specs.Areas.{row, rows, Point}
-use Rattle.tile_core.specs.Frames.{Scene, colours_at, row_colours}
+use Rattle.frame_core.specs.Frames.{Scene, colours_at, row_colours}
 
 -- the colours of n rows from row b on
 abbrev pub lines : Scene → ℕ → ℕ → List ℕ

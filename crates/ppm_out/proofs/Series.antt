@@ -2,7 +2,7 @@
 use Rattle.std.proofs.Common.{◌≡◌, ℕ, suc, ◌+◌, List, [], ◌∷◌, ◌++◌, take, drop, map, refl, sym, ap, ◌∙◌, append-nil}
 use Rattle.std.specs.List.{concat, flat_map}
 use Rattle.std.proofs.lemmas.Option.{get_or_from_slice_get, slice_get_within}
-use Rattle.tile_core.specs.Frames.{Scene, Shows, colours_at}
+use Rattle.frame_core.specs.Frames.{Scene, Shows, colours_at}
 use Rattle.geom_core.specs.Areas.{area, points_of, Point}
 use Rattle.std.specs.Prelude.{Option, Some, Result, Ok, Err, OnOk, OnErr, pos, ◌*◌, slice_get}
 use Rattle.std.specs.Io.KnownBytes.{Appends}
@@ -10,16 +10,12 @@ use Rattle.io_edge.specs.declared.outside.Failed.{Failed}
 use Rattle.io_edge.specs.Told.{AppendsPrefix}
 use Rattle.io_edge.proofs.Written.{prefix_behind, appends_to, flat_at}
 use Rattle.ppm_out.specs.Scenes.{scene_bytes}
-use Rattle.tile_core.specs.Scenes.{colours_of}
+use Rattle.frame_core.specs.Scenes.{colours_of}
 
 -- the colours of points, one after another
 pub concat_is : (f : Point → List ℕ) (ps : List Point) → flat_map f ps ≡ concat (map f ps)
 concat_is f [] = refl
 concat_is f (p ∷ ps) = ap (λ l. f p ++ l) (concat_is f ps)
-
--- the bytes show the frame before place i, if there is one
-abbrev pub ShowsLast : List Scene → ℕ → List ℕ → Type 0
-ShowsLast film i bytes = (k : ℕ) (before : Scene) → i ≡ k + 1 → slice_get film k ≡ Some before → Shows before bytes
 
 -- the pixmaps of a film, those before a place, the one there and those behind it
 pub pixmaps_at : (film : List Scene) (i : ℕ) (s : Scene) → slice_get film i ≡ Some s → flat_map scene_bytes film ≡ flat_map scene_bytes (take i film) ++ (scene_bytes s ++ flat_map scene_bytes (drop (suc i) film))

@@ -1,2 +1,3 @@
 pub mod Pictures
 pub mod Scenes
+pub mod Rows

@@ -1,7 +1,7 @@
 -- Frames of tiles as pixmaps.
 use Rattle.std.specs.Prelude.{ℕ, List}
-use Rattle.tile_core.specs.Frames.{Scene}
-use Rattle.tile_core.specs.Scenes.{colours_of}
+use Rattle.frame_core.specs.Frames.{Scene}
+use Rattle.frame_core.specs.Scenes.{colours_of}
 use Rattle.ppm_out.specs.Pictures.{frame_bytes}
 
 -- a frame of tiles as a pixmap

@@ -1,20 +1,21 @@
 //! Portable pixmaps of kind P6, as Netpbm's page on PPM has them.
 
-ghost use Rattle.std.specs.Prelude.{◌≡◌, ◌+◌, ◌*◌, ◌≤◌, OnOk, OnErr, length, All};
+ghost use Rattle.std.specs.Prelude.{◌≡◌, ◌+◌, ◌*◌, ◌<◌, ◌≤◌, ℕ, List, Some, OnOk, OnErr, length, All, slice_get};
 ghost use Rattle.std.specs.List.{flat_map};
-ghost use Rattle.tile_core.specs.Frames.{Scene, Shows, rows_colours};
+ghost use Rattle.frame_core.specs.Frames.{Scene, Shows, rows_colours};
 ghost use Rattle.std.specs.Io.KnownBytes.{Appends};
 ghost use Rattle.io_edge.specs.Told.{AppendsPrefix};
 ghost use Rattle.io_edge.specs.Faults.{HasCause};
 ghost use Rattle.ppm_out.specs.Pictures.{header, frame_bytes};
 ghost use Rattle.ppm_out.specs.Scenes.{scene_bytes};
-ghost use Rattle.tile_core.specs.Scenes.{colours_of};
+ghost use Rattle.ppm_out.specs.Rows.{scene_of, IsThere, PictureBefore, ShowsFrameBefore};
+ghost use Rattle.frame_core.specs.Scenes.{colours_of};
 
-use crate::rows::{Alone, LaysRows, Threaded, lay_rows};
+use crate::rows::{Alone, LaysRows, Rows, Threaded, lay_rows};
+use frame_core::{Film, Frame};
 use io_edge::{Failed, Sink, write_all, write_pieces};
 use itoa::Buffer;
 use std::thread::Threads;
-use tile_core::{Film, Frame};
 
 /// Writes a frame as a pixmap: a header, and then red, green and blue of each point, the rows from
 /// the top and each row from the left. `row` is room for at least three bytes a column, and as many
@@ -101,8 +102,8 @@ fn write_band<L: LaysRows, K: Sink>(
 }
 
 /// Writes the frames of a film as pixmaps, one after another. `picture` has room for the colours of
-/// each frame, which it keeps for the next one: only the tiles that may differ are laid anew. The first
-/// is laid by at most so many threads. It takes no memory but that of the threads.
+/// each frame, which it keeps for the next one: only the tiles that may differ are laid anew. All are
+/// laid by at most so many threads. It takes no memory but that of the threads.
 ///
 /// # Errors
 /// `Failed` only where the sink's count of faults rose. The sink then took the first of the bytes.
@@ -120,31 +121,47 @@ pub fn write_frames_by<R: Threads + Sync, K: Sink>(
 {
     let frames = film.frames();
     for i in 0..frames.len() {
-        if i == 0 {
-            lay_whole(rt, threads, &frames[0], picture);
-        } else {
-            film.lay(i, picture);
-        }
+        let rows = rows_of(film, i);
+        lay_picture(rt, rows.most(threads), &frames[i], rows, picture);
         write_picture(&frames[i], picture, out)?;
     }
     Ok(())
 }
 
-/// Lays all rows of a frame at the front of the picture.
-fn lay_whole<R: Threads + Sync>(rt: &R, threads: u8, frame: &Frame, picture: &mut [u8])
+/// The rows of the frame at that place of a film, over those of the frame before where it follows it.
+fn rows_of(film: &Film, i: usize) -> Rows<'_>
+    requires { i < length film.now }
+    ensures there { IsThere result }
+    ensures of { slice_get film.now i ≡ Some (scene_of result) }
+    ensures after { (picture : List ℕ) → ShowsFrameBefore film.now i picture → PictureBefore result picture }
+{
+    if film.follows(i) {
+        Rows::After(film, i)
+    } else {
+        let frames = film.frames();
+        Rows::Of(&frames[i])
+    }
+}
+
+/// Lays all rows of a frame at the front of the picture, as they are told.
+fn lay_picture<R: Threads + Sync>(
+    rt: &R,
+    threads: u8,
+    frame: &Frame,
+    rows: Rows<'_>,
+    picture: &mut [u8],
+)
+    requires there { IsThere rows }
+    requires of { scene_of rows ≡ frame.now }
     requires room { 3 * (frame.now.width * frame.now.height) ≤ length picture.old }
+    requires before { PictureBefore rows picture.old }
     ensures shown { Shows frame.now picture.new }
     ensures rest { length picture.new ≡ length picture.old }
 {
-    let places = 3 * (frame.width() as usize * frame.height() as usize);
-    lay_rows(
-        rt,
-        threads,
-        frame,
-        0,
-        frame.height(),
-        &mut picture[..places],
-    );
+    let width = frame.width();
+    let height = frame.height();
+    let places = 3 * (width as usize * height as usize);
+    lay_rows(rt, threads, rows, 0, height, &mut picture[..places]);
 }
 
 /// Writes the pixmap of a frame whose colours stand in the picture.

@@ -2,16 +2,16 @@
 
 ghost use Rattle.std.specs.Prelude.{◌≡◌, ◌*◌, ◌≤◌, ◌∷◌, ◌++◌, [], All, IfOk, OnOk};
 ghost use Rattle.std.specs.FinMap as map;
-ghost use Rattle.tile_core.specs.Frames.{Scene, scene};
+ghost use Rattle.frame_core.specs.Frames.{Scene, scene};
 
 use crate::fixtures::opaque;
+use frame_core::{Film, Frame, Marks};
 use geom_core::{NoMemory, TileKey};
 use io_edge::{Failed, MemSink};
 use pixel_core::Pixel;
 use ppm_out::{write_frame, write_frames_by};
 use std::alloc::Global;
 use std::test::Fail;
-use tile_core::{Film, Frame, Marks};
 
 /// The tile that the one point is in.
 const CORNER: TileKey = TileKey { row: 0, col: 0 };

@@ -22,7 +22,7 @@ use Rattle.update_queue.proofs.Elements.{take_here}
 use Rattle.desk_state.specs.Newest.{newest_first}
 use Rattle.desk_state.proofs.Meeting.{written_some}
 use Rattle.slot_work.specs.Lacking.{IsOfJob, AreLacking, keys_of_tiles}
-use Rattle.slot_work.proofs.KeyLists.{apart}
+use Rattle.filmed_caches.proofs.KeyLists.{apart}
 
 -- ---- one rectangle, and nothing published
 

@@ -9,7 +9,7 @@ use Rattle.machine_model.specs.Guards.{same_pair}
 use Rattle.machine_model.specs.Walks.{walk_value}
 use Rattle.walker_core.specs.Readings.{Readings}
 use Rattle.group_caches.specs.Kept.{with_picture}
-use Rattle.slot_work.specs.Filmed.{Filmed}
+use Rattle.filmed_caches.specs.Filmed.{Filmed}
 
 -- the groups on one tile
 abbrev pub pairs_at : List ℕ → Key → List (ℕ × Key)

@@ -1,6 +1,5 @@
 pub mod LaidTiles
 pub mod Lacking
 pub mod OfWalk
-pub mod Filmed
 pub mod Gathering
 pub mod Round

@@ -5,15 +5,8 @@
 //! - `gather` takes a store, the caches and a patch, and stands here, in the lowest crate that has both.
 //!   Children that are groups on the path are gathered with their caches' tiles too, as the machine's walk
 //!   reads them.
-//! - Caches, film and marks are one value (`FilmedCaches`), whose type says that the newest frame shows the
-//!   root's cache wherever no mark is. A walk's picture of the root marks its tile, and nothing else marks any.
-//!   So no frame is compared with another, and no proof of an event knows of marks.
-//! - An export's frame is made of the root's cache, whose tiles it shares: it takes effect only where no patch
-//!   waits and nothing is at work, so the cache is the picture there.
 #![tactic(auto)]
 
-mod exports;
-mod filmed;
 mod gathering;
 mod job_ends;
 mod own_work;
@@ -27,7 +20,6 @@ mod slot_tests;
 mod walking;
 mod wholes;
 
-pub use filmed::FilmedCaches;
 pub use gathering::gather;
 pub use job_ends::{is_painted, widen_all};
 pub use own_work::{compose_own, paint_own};

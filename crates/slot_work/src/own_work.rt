@@ -11,11 +11,11 @@ ghost use Rattle.desk_steps.specs.Archives.{with_put};
 ghost use Rattle.walker_core.specs.Readings.{path_in};
 ghost use Rattle.slot_work.specs.LaidTiles.{Lays, LaysFront, laid_in, pairs_at};
 
-use crate::filmed::FilmedCaches;
 use crate::painting::lay;
 use crate::rows::lay_groups;
 use desk_state::{Painter, Walker};
 use desk_steps::Store;
+use filmed_caches::FilmedCaches;
 use geom_core::{NoMemory, TileKey};
 use job_core::paint_tile;
 use std::alloc::Global;

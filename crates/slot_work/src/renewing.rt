@@ -7,9 +7,9 @@ ghost use Rattle.desk_steps.specs.Archives.{TellsReach};
 ghost use Rattle.machine_model.specs.State as machine;
 ghost use Rattle.desk_state.specs.After.{moved_caches, moved_updates};
 
-use crate::filmed::FilmedCaches;
 use desk_steps::{Reach, Store};
 use doc_model::Canvas;
+use filmed_caches::FilmedCaches;
 use update_queue::{Updates, widen};
 use walker_core::all_groups;
 

@@ -10,9 +10,9 @@ ghost use Rattle.slot_work.specs.LaidTiles.{Lays, LaysFront, LaysSome, laid_in, 
 ghost use Rattle.machine_model.specs.Guards.{same_pair};
 ghost use Rattle.slot_work.specs.OfWalk.{IsOfWalkAt, IsRowOfWalk};
 
-use crate::filmed::FilmedCaches;
 use crate::walking::{is_tile_of, lay_composed};
 use desk_state::{Newest, has_pair as was_published};
+use filmed_caches::FilmedCaches;
 use geom_core::{NoMemory, TileKey};
 use walker_core::{Composed, Inputs};
 

@@ -11,9 +11,9 @@ ghost use Rattle.walker_core.specs.Composing.{has_pair};
 ghost use Rattle.group_caches.specs.Kept.{with_picture};
 ghost use Rattle.desk_state.specs.Painted.{TakesComposed};
 
-use crate::filmed::FilmedCaches;
 use crate::remaining::next_pair;
 use desk_state::{Newest, Walker, has_pair as was_published};
+use filmed_caches::FilmedCaches;
 use geom_core::{NoMemory, Rect, TileKey};
 use walker_core::Composed;
 

@@ -11,10 +11,10 @@ use Rattle.doc_model.specs.declared.command.Outcome.{Outcome}
 use Rattle.doc_model.specs.Strokes.{entries}
 use Rattle.doc_model.proofs.DoneLaws.{one_outcome_an_entry}
 use Rattle.doc_model.specs.Picture.{Frame}
-use Rattle.tile_core.specs.Frames.{Scene}
+use Rattle.frame_core.specs.Frames.{Scene}
 use Rattle.ppm_out.specs.Pictures.{frame_bytes}
 use Rattle.ppm_out.specs.Scenes.{scene_bytes}
-use Rattle.tile_core.specs.Scenes.{HasSides, colours_of}
+use Rattle.frame_core.specs.Scenes.{HasSides, colours_of}
 use Rattle.log_out.specs.Summary.{sheet_of}
 use Rattle.log_out.specs.Log.{Sheet, sum_text}
 use Rattle.script_text.specs.Script.{Contents, meaning_of}

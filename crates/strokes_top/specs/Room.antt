@@ -1,6 +1,6 @@
 -- What is written is made of this, and wants this room.
 use Rattle.std.specs.Prelude.{◌≡◌, ◌≤◌, ◌*◌, ℕ, min, max, List, [], ◌∷◌, length, All}
-use Rattle.tile_core.specs.Frames.{Scene}
+use Rattle.frame_core.specs.Frames.{Scene}
 use Rattle.doc_model.specs.declared.command.Outcome.{Outcome}
 use Rattle.script_text.specs.Script.{Contents}
 use Rattle.crew_run.specs.Shows.{Shows}

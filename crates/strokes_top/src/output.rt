@@ -4,7 +4,7 @@ ghost use Rattle.std.specs.Prelude.{◌≡◌, IfSome, IfNone};
 ghost use Rattle.strokes_top.specs.Output.{asked_as};
 
 use crate::choice::Emit;
-use tile_core::Film;
+use frame_core::Film;
 
 /// In which form it is written what a script shows.
 #[derive(Clone, Copy)]

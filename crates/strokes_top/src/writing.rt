@@ -12,6 +12,7 @@ ghost use Rattle.strokes_top.specs.Output.{asked_as, output, written};
 use crate::output::{Form, Output};
 use crate::painting::Painting;
 use doc_model::Outcome;
+use frame_core::{Film, Frame};
 use geom_core::TILE_SIDE;
 use io_edge::{Failed, Sink, write_all};
 use log_out::{write_log, write_sum};
@@ -19,7 +20,6 @@ use ppm_out::{write_frame_by, write_frames_by};
 use script_text::Script;
 use std::alloc::{AllocError, Global};
 use std::thread::Threads;
-use tile_core::{Film, Frame};
 
 /// The pictures that a film has.
 #[derive(Clone, Copy)]

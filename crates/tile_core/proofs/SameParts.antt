@@ -1,7 +1,8 @@
 -- Parts of tiles that have given pixels, row by row.
-use Rattle.std.proofs.Common.{◌≡◌, ℕ, ◌+◌, ◌*◌, ◌%◌, ◌<◌, ◌≤◌, ◌&&◌, Bool, true, false, IsTrue, ap, sym, subst, ◌∙◌, arith, ◌⊎◌, inl, inr}
+use Rattle.std.proofs.Common.{◌≡◌, ℕ, ◌+◌, ◌*◌, ◌/◌, ◌%◌, ◌<◌, ◌≤◌, length, ◌&&◌, Bool, true, false, IsTrue, ap, sym, subst, ◌∙◌, arith, ◌⊎◌, inl, inr}
 use Rattle.std.specs.Prelude.{ℤ, pos, negsuc, ◌+ℤ◌, ◌-ℤ◌, ◌*ℤ◌, ◌≤ℤ◌, int_le, int_lt, nat_abs, slice_index_or}
 use borrow.Author.Differences.{ints}
+use Rattle.std.proofs.lemmas.List.{ext_get_or}
 use Rattle.pixel_core.specs.Rgba.{Rgba, clear}
 use Rattle.geom_core.specs.Areas.{Area, holds, Point, point}
 use Rattle.geom_core.specs.Rects.{IsWithin}
@@ -101,3 +102,12 @@ not_true false e h = absurd (no h)
 
 pub is_true : (b : Bool) → b ≡ true → IsTrue b
 is_true b e = e
+
+-- tiles with the same pixels in all columns and rows
+pub whole_same : (t o : Pixels) → length t ≡ 4096 → length o ≡ 4096 → PartIs t (λ k. slice_index_or o k clear) 0 0 64 64 → t ≡ o
+whole_same t o m n is = ext_get_or clear t o (m ∙ sym n) (λ i h.
+    let place : 64 * (0 + i / 64) + (0 + i % 64) ≡ i = omega arith in
+    sym (ap (λ k. slice_index_or t k clear) place) ∙ is (i % 64) (i / 64) (omega arith) (omega (arith, m)) ∙ ap (λ k. slice_index_or o k clear) place)
+
+pub same_whole : (t o : Pixels) → t ≡ o → PartIs t (λ k. slice_index_or o k clear) 0 0 64 64
+same_whole t o e col row p q = ap (λ (v : Pixels). slice_index_or v (64 * (0 + row) + (0 + col)) clear) e

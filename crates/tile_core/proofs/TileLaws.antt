@@ -5,14 +5,12 @@ use borrow.Author.Differences.{ints}
 use Rattle.std.specs.FinMap as map
 use Rattle.std.proofs.lemmas.List.{ext_get_or}
 use Rattle.pixel_core.specs.Rgba.{Rgba, clear}
-use Rattle.pixel_core.specs.Compose.{on_paper}
 use Rattle.geom_core.specs.Areas.{holds, Point, point}
 use Rattle.geom_core.specs.Grid.{key_of, same_key}
 use Rattle.geom_core.specs.Keys.{key_cmp_total}
 use Rattle.geom_core.proofs.Tests.{both_true}
 use Rattle.tile_core.specs.Pixels.{Pixels, pixel_at, pixel_or, whole_tile}
-use Rattle.tile_core.specs.Laws.{FixedByPoints, SeenAfterPut, ShownAfterPut, PaperWhereNothing}
-use Rattle.tile_core.proofs.OnPaper.{paper_shows}
+use Rattle.tile_core.specs.Laws.{FixedByPoints, SeenAfterPut}
 
 inside : (n : ℕ) → n < 64 → (int_le (pos 0) (pos n) && int_lt (pos n) (pos 0 +ℤ pos 64)) ≡ true
 inside n h = grind (arith, ints)
@@ -29,22 +27,9 @@ fixed_by_points tile other n m same = ext_get_or clear tile other (n ∙ sym m) 
     at tile ∙ same p held ∙ sym (at other))
 
 -- what stands at a point after one tile more
-after_put : (b : Bool) (tile : Pixels) (o : Option Pixels) (d : Rgba) (p : Point) → pixel_or (cond b (Some tile) o) d p ≡ cond b (pixel_at tile p) (pixel_or o d p)
+pub after_put : (b : Bool) (tile : Pixels) (o : Option Pixels) (d : Rgba) (p : Point) → pixel_or (cond b (Some tile) o) d p ≡ cond b (pixel_at tile p) (pixel_or o d p)
 after_put true tile o d p = refl
 after_put false tile o d p = refl
 
 pub seen_after_put : SeenAfterPut
 seen_after_put s k tile p = ap (λ o. pixel_or o s.default_pixel p) (map.get-insert key_cmp_total s.tiles k tile (key_of p)) ∙ after_put (same_key (key_of p) k) tile (map.get s.tiles (key_of p)) s.default_pixel p
-
-colours_after : (b : Bool) (q r paper : Rgba) → on_paper (cond b q r) paper ≡ cond b (on_paper q paper) (on_paper r paper)
-colours_after true q r paper = refl
-colours_after false q r paper = refl
-
-pub shown_after_put : ShownAfterPut
-shown_after_put s k tile p =
-    ap (λ o. on_paper (pixel_or o clear p) s.paper) (map.get-insert key_cmp_total s.tiles k tile (key_of p))
-    ∙ ap (λ q. on_paper q s.paper) (after_put (same_key (key_of p) k) tile (map.get s.tiles (key_of p)) clear p)
-    ∙ colours_after (same_key (key_of p) k) (pixel_at tile p) (pixel_or (map.get s.tiles (key_of p)) clear p) s.paper
-
-pub paper_where_nothing : PaperWhereNothing
-paper_where_nothing s p is e = ap (λ o. on_paper (pixel_or o clear p) s.paper) e ∙ sym (paper_shows s.paper is.opaque)

@@ -1,12 +1,9 @@
--- The laws of tiles, shots and frames.
-use Rattle.std.specs.Prelude.{◌≡◌, if◌then◌else◌, [], ◌∷◌, None, length}
-use Rattle.std.specs.FinMap as map
-use Rattle.pixel_core.specs.Compose.{on_paper}
+-- The laws of tiles and shots.
+use Rattle.std.specs.Prelude.{◌≡◌, if◌then◌else◌, length}
 use Rattle.geom_core.specs.Areas.{Point}
 use Rattle.geom_core.specs.Grid.{Key, key_of, same_key}
 use Rattle.tile_core.specs.Pixels.{Pixels, pixel_at, whole_tile, SameOn}
 use Rattle.tile_core.specs.Shots.{Sight, sight_at, with_seen}
-use Rattle.tile_core.specs.Frames.{Scene, IsScene, colours_at, with_put}
 
 -- two tiles with the same pixel at each point are one
 abbrev pub FixedByPoints : Type 0
@@ -15,11 +12,3 @@ FixedByPoints = (tile other : Pixels) → length tile ≡ 4096 → length other 
 -- a shot after a put, point by point
 abbrev pub SeenAfterPut : Type 0
 SeenAfterPut = (s : Sight) (k : Key) (tile : Pixels) (p : Point) → sight_at (with_seen s k tile) p ≡ (if same_key (key_of p) k then pixel_at tile p else sight_at s p)
-
--- a frame after a put, point by point
-abbrev pub ShownAfterPut : Type 0
-ShownAfterPut = (s : Scene) (k : Key) (tile : Pixels) (p : Point) → colours_at (with_put s k tile) p ≡ (if same_key (key_of p) k then on_paper (pixel_at tile p) s.paper else colours_at s p)
-
--- a point of a frame where nothing was put
-abbrev pub PaperWhereNothing : Type 0
-PaperWhereNothing = (s : Scene) (p : Point) → IsScene s → map.get s.tiles (key_of p) ≡ None → colours_at s p ≡ s.paper.r ∷ s.paper.g ∷ s.paper.b ∷ []

@@ -2,13 +2,6 @@ pub mod Pixels
 pub mod Parts
 pub mod Blocks
 pub mod Shots
-pub mod Frames
-pub mod Scenes
-pub mod Placed
 pub mod Maps
 pub mod Laws
-pub mod Marks
-pub mod Films
-pub mod Damage
-pub mod Piece
 pub mod Same

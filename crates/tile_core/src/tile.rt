@@ -18,6 +18,14 @@ use std::alloc::Global;
 use std::marker::Model;
 use std::sync::Arc;
 
+/// All columns and rows of a tile.
+const WHOLE: Part = Part {
+    left: 0,
+    top: 0,
+    w: TILE_SIDE,
+    h: TILE_SIDE,
+};
+
 /// 64 rows of 64 pixels behind a counted reference. A shared tile never changes: a write makes a new
 /// one, and whoever shares the old one keeps reading it. Only where nobody shares it may a tile be
 /// written in place.
@@ -111,6 +119,13 @@ impl Tile {
         Ok(Tile {
             pixels: Arc::try_clone(&self.pixels)?,
         })
+    }
+
+    /// Whether both tiles have the same pixels.
+    pub fn same(&self, other: &Tile) -> bool
+        ensures { IsTrue result ↔ (self.now ≡ other.now) }
+    {
+        same_part(self.pixels(), other.pixels(), WHOLE)
     }
 
     /// A new tile with the block's pixels on the block's rectangle and this tile's elsewhere.

@@ -1,5 +1,5 @@
 -- Small facts on tests.
-use Rattle.std.proofs.Common.{◌≡◌, ℕ, Bool, Option, Some, None, IsNone, ◌↔◌, is_some, sym, ◌∙◌, rules, true, false, ◌||◌, not, cond, Ok, Err, Result, OnOk, OnErr, IfErr, ap, subst, refl, arith, eqb}
+use Rattle.std.proofs.Common.{◌≡◌, ℕ, Bool, Option, Some, None, IsNone, ◌↔◌, is_some, sym, ◌∙◌, rules, true, false, ◌||◌, not, Ok, Err, Result, OnOk, OnErr, IfErr, ap, subst, refl, arith, eqb}
 use Rattle.std.proofs.lemmas.Bool.Decides.{nat_tests}
 use Rattle.doc_model.specs.Forest.{has}
 use Rattle.doc_model.specs.Changes.{answer, no_node}
@@ -7,8 +7,6 @@ use Rattle.doc_model.specs.Ids.{IsTree}
 use Rattle.doc_model.specs.declared.tree.TreeFault.TheVariants.{NoNode}
 use Rattle.doc_model.proofs.Weights.{tree_root}
 use Rattle.tree_core.specs.Nodes.{Tree}
-use Rattle.geom_core.proofs.Tests.{equal_test, same_choice}
-use Rattle.std.proofs.lemmas.Bool.{not-false}
 
 -- a test for equality, turned round
 pub turned : (a b : ℕ) → eqb a b ≡ eqb b a

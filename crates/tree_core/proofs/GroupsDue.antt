@@ -13,17 +13,17 @@ use Rattle.tree_core.specs.Around.{due}
 use Rattle.tree_core.proofs.Passes.{next_node}
 
 module _ {A : Type 0} where
-  read_there : (d : ℕ) (row : Row A) (rows : List (Row A)) → row.depth ≡ d → read d (row ∷ rows) ≡ node row.content row.id row.look (read (suc d) rows) (read d rows)
+  pub read_there : (d : ℕ) (row : Row A) (rows : List (Row A)) → row.depth ≡ d → read d (row ∷ rows) ≡ node row.content row.id row.look (read (suc d) rows) (read d rows)
   read_there d row rows e = taken (eqb row.depth d) _ _ (grind (arith, nat_tests))
 
-  read_below : (d : ℕ) (row : Row A) (rows : List (Row A)) → d < row.depth → read d (row ∷ rows) ≡ read d rows
+  pub read_below : (d : ℕ) (row : Row A) (rows : List (Row A)) → d < row.depth → read d (row ∷ rows) ≡ read d rows
   read_below d row rows h = kept (eqb row.depth d) _ _ (grind (arith, nat_tests)) ∙ taken (ltb d row.depth) _ _ (grind (arith, nat_tests))
 
-  read_above : (d : ℕ) (rows : List (Row A)) → EndsAt d rows → read d rows ≡ none
+  pub read_above : (d : ℕ) (rows : List (Row A)) → EndsAt d rows → read d rows ≡ none
   read_above d [] h = refl
   read_above d (row ∷ rows) h = kept (eqb row.depth d) _ _ (grind (arith, nat_tests)) ∙ kept (ltb d row.depth) _ _ (grind (arith, nat_tests))
 
-  ends_more : (m n : ℕ) (rows : List (Row A)) → m ≤ n → EndsAt m rows → EndsAt n rows
+  pub ends_more : (m n : ℕ) (rows : List (Row A)) → m ≤ n → EndsAt m rows → EndsAt n rows
   ends_more m n [] h e = tt
   ends_more m n (row ∷ rows) h e = omega arith
 
@@ -81,7 +81,7 @@ left_more around now new groups depth m n count is h low e counted so_far =
     few : suc depth ≤ suc (length (take n around))
     few = let k : length (take n around) ≡ n = length-take-le n around (omega arith) in omega arith
 
-content_some : (paints : Bool) → is_some (content_of paints) ≡ paints
+pub content_some : (paints : Bool) → is_some (content_of paints) ≡ paints
 content_some true = refl
 content_some false = refl
 

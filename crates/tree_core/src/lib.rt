@@ -22,12 +22,14 @@ mod exchange;
 mod groups;
 mod lookup;
 mod node;
+mod outline;
 mod refusals;
 mod stretch;
 mod tree;
 mod turn;
 
 pub use exchange::Exchange;
+pub use outline::Stage;
 pub use stretch::Stretch;
 pub use tree::Tree;
 pub use turn::{Lot, Turn};

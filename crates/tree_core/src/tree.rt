@@ -7,6 +7,7 @@ ghost use Rattle.doc_model.specs.Forest.{none, has, is_group, count, depth, heig
 ghost use Rattle.doc_model.specs.declared.tree.Change.TheVariants as change;
 ghost use Rattle.tree_core.specs.Exchanges.{Leads, led};
 ghost use Rattle.tree_core.specs.Nodes.{content_of};
+ghost use Rattle.tree_core.specs.Outline.{outline};
 ghost use Rattle.doc_model.specs.Laws.{IsDocument};
 ghost use Rattle.doc_model.specs.Readers.{order, parent};
 ghost use Rattle.doc_model.specs.Children.{look_in, child_in};
@@ -16,6 +17,7 @@ use crate::exchange::{Exchange, between, exchange_nodes};
 use crate::groups::groups_of;
 use crate::lookup::{above, child_at, children_at, find, group_at, group_in, holds, span};
 use crate::node::{Node, new_node};
+use crate::outline::{Stage, outline_of};
 use crate::refusals::{new_place, route_of};
 use arrayvec::ArrayVec;
 use doc_model::{Change, Look, TreeFault};
@@ -81,6 +83,14 @@ impl Tree {
         ensures few { length result.items ≤ 256 }
     {
         groups_of(self.nodes.as_slice())
+    }
+
+    /// The visible nodes in the order in which they are laid: what stands in a group comes between its beginning and
+    /// its end. One pass over the nodes.
+    pub fn outline(&self, alloc: Global) -> Result<Vec<Stage>, NoMemory>
+        ensures { IfOk result (λ stages. stages.items ≡ outline self.now) }
+    {
+        outline_of(alloc, self.nodes.as_slice())
     }
 
     /// Whether the root or a node has that id.

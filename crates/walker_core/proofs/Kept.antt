@@ -15,7 +15,7 @@ use Rattle.geom_core.proofs.Tiles.{key_same}
 use Rattle.tile_core.specs.Pixels.{Pixels, pixel_at, HasPixels}
 use Rattle.geom_core.specs.Place.{across, down}
 use Rattle.tile_core.specs.Blocks.{Piece, piece, piece_at, LaysBlock}
-use Rattle.tile_core.specs.Damage.{part_has}
+use Rattle.frame_core.specs.Damage.{part_has}
 use Rattle.tile_core.specs.Shots.{Sight, sight_at}
 use Rattle.doc_model.specs.Shots.{in_tile}
 use Rattle.machine_model.specs.State.{Child}
@@ -38,7 +38,7 @@ stale_next ds i k d h is =
     ap (λ xs. stale_in xs k) (drop-cons ds i d h) ∙ ap (λ (x : Damaged). cond (same_key k x.key) (Some x.part) (stale_in (drop (suc i) ds) k)) (sym is) ∙ ap (λ n. cond (same_key k d.key) (Some d.part) (stale_in (drop n ds) k)) next
 
 -- keys by their columns and rows, either way round
-keys_turned : (a b : Key) → (int_eq a.row b.row && int_eq a.col b.col) ≡ same_key b a
+pub keys_turned : (a b : Key) → (int_eq a.row b.row && int_eq a.col b.col) ≡ same_key b a
 keys_turned a b = grind (arith, ints)
 
 -- where the first of the parts that are left is of the tile, it is the tile's
@@ -91,7 +91,7 @@ pub kept_here : (r : Readings) (k : Known) (key : Key) (i : ℕ) (s : Sight) (gi
     → holds r.patch.rect p ≡ true → in_tile key p ≡ true → part_has (stale_in k.damaged.items key) p ≡ false → given_on given p ≡ value_at r.groups i p
 kept_here r k key i s given p known n few at shows h t fresh =
     let within : i < length k.shots.items = grind (arith, nat_tests) in
-    shows p t ∙ shown_at r.groups k.shots.items [] p i s (known p h (stale_at k.damaged.items key p t ∙ fresh)) (slice_get-get_or k.shots.items i s within ∙ ap Some (sym at)) n
+    shows p t ∙ shown_at r.groups k.shots.items [] p i s (known.values p h (stale_at k.damaged.items key p t ∙ fresh)) (slice_get-get_or k.shots.items i s within ∙ ap Some (sym at)) n
 
 -- a point outside the spot that the part is isn't damaged
 pub outside_spot : (o : Option Area) (part : Area) (spot : Spot) (key : Key) (p : Point) → o ≡ Some part → Catches part spot → spot.key ≡ key → in_tile key p ≡ true → holds spot.part p ≡ false → part_has o p ≡ false

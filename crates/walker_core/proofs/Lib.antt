@@ -5,3 +5,6 @@ pub mod RowLists
 pub mod WaysUp
 pub mod SameReadings
 pub mod Kept
+pub mod LowerOnes
+pub mod LaidFolds
+pub mod SpanPoints

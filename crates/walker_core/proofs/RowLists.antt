@@ -1,12 +1,12 @@
 -- The rows of a composition.
-use Rattle.std.proofs.Common.{◌≡◌, ℕ, zero, suc, ◌+◌, ◌<◌, Bool, true, false, ◌||◌, ◌&&◌, cond, List, [], ◌∷◌, ◌++◌, take, length, get_or, Option, Some, None, is_some, refl, sym, ap, subst, ◌∙◌, arith, eqb}
+use Rattle.std.proofs.Common.{◌≡◌, ℕ, ◌+◌, ◌<◌, Bool, true, false, ◌||◌, ◌&&◌, cond, List, [], ◌∷◌, ◌++◌, take, length, get_or, Option, Some, None, is_some, refl, sym, ap, subst, ◌∙◌, arith, eqb}
 use Rattle.std.specs.Prelude.{IfSome, pos}
 use Rattle.std.specs.Borrow.{Bor}
 use Rattle.std.specs.Ordering.{int_eq}
 use Rattle.std.specs.List.{list_any}
 use Rattle.std.specs.Option.{option_copied, unwrap_or}
 use Rattle.std.proofs.lemmas.List.{take_more, map-append, length-map, get_or-map}
-use Rattle.std.proofs.lemmas.List.Elements.{All-append}
+use Rattle.std.proofs.lemmas.List.Elements.{All-push}
 use Rattle.std.proofs.lemmas.List.Folds.{list_any_at}
 use borrow.Author.Differences.{ints}
 use Rattle.pixel_core.specs.Rgba.{Rgba, clear}
@@ -22,7 +22,7 @@ use Rattle.walker_core.specs.declared.row.Row.{Row}
 use Rattle.walker_core.specs.Readings.{Readings, path_in}
 use Rattle.compose_core.specs.Spots.{given_on}
 use Rattle.walker_core.specs.Rows.{given_values, found, maybe_on, IsRow, ShowsWalk}
-use Rattle.walker_core.specs.Composing.{Composition, composition, has_pair, keys_in, AreRows}
+use Rattle.walker_core.specs.Composing.{Composition, composition, has_pair, keys_in, AreRows, IsRowOf}
 use Rattle.walker_core.proofs.Given.{looked_found}
 use Rattle.geom_core.proofs.Tests.{or-false}
 
@@ -40,12 +40,8 @@ keys_more rows new row k e same = ap keys_in e ∙ map-append (λ (r : Row). r.k
 pub keys_next : (so_far new keys : List Key) (k : Key) (i : ℕ) (d : Key) → new ≡ so_far ++ k ∷ [] → so_far ≡ take i keys → i < length keys → k ≡ get_or keys i d → new ≡ take (i + 1) keys
 keys_next so_far new keys k i d e before h same = e ∙ (λ j. before j ++ same j ∷ []) ∙ sym (take_more keys i d h)
 
-lone : (r : Readings) (row : Row) → IsRow r row.key row.given.items → (k : ℕ) (d : Row) → k < 1 → IsRow r (get_or (row ∷ []) k d).key (get_or (row ∷ []) k d).given.items
-lone r row is zero d h = is
-lone r row is (suc k) d h = absurd (omega arith)
-
-pub rows_more : (r : Readings) (rows new : List Row) (row : Row) → new ≡ rows ++ row ∷ [] → AreRows r rows → IsRow r row.key row.given.items → AreRows r new
-rows_more r rows new row e are is = subst (AreRows r) (sym e) (All-append (λ (t : Row). IsRow r t.key t.given.items) rows (row ∷ []) are (λ k d h. lone r row is k d h))
+pub rows_more : (r : Readings) (rows new : List Row) (row : Row) → new ≡ rows ++ row ∷ [] → AreRows r rows → IsRowOf r row → AreRows r new
+rows_more r rows new row e are is = subst (AreRows r) (sym e) (All-push (IsRowOf r) rows row are is)
 
 -- what a row has for a group
 pub given_right : (r : Readings) (k : Key) (g : ℕ) (row : Row) (path : List ℕ) (xs : List Given) (o : Option (Bor Given)) → IsRow r row.key row.given.items → row.key ≡ k → path ≡ path_in r → xs ≡ row.given.items

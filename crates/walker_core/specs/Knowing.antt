@@ -1,9 +1,9 @@
 -- What is known of a walk's values before it is composed.
-use Rattle.std.specs.Prelude.{◌≡◌, ℕ, true, false, Bool, if◌then◌else◌, Option, Some, None, List, [], ◌∷◌, take, slice_index_or}
+use Rattle.std.specs.Prelude.{◌≡◌, ℕ, true, false, Bool, if◌then◌else◌, Option, Some, None, IfSome, List, [], ◌∷◌, take, slice_index_or}
 use Rattle.pixel_core.specs.Rgba.{Rgba, clear}
 use Rattle.geom_core.specs.Areas.{Area, holds, Point}
 use Rattle.geom_core.specs.Grid.{Key, key_of, same_key}
-use Rattle.tile_core.specs.Damage.{part_has}
+use Rattle.frame_core.specs.Damage.{part_has}
 use Rattle.tile_core.specs.Shots.{Sight, sight_at}
 use Rattle.doc_model.specs.Shots.{in_tile}
 use Rattle.machine_model.specs.State.{Child}
@@ -15,6 +15,7 @@ use Rattle.walker_core.specs.declared.known.Known.{Known}
 use Rattle.walker_core.specs.declared.known.Kept.{Kept}
 use Rattle.walker_core.specs.declared.known.Kept.TheVariants.{Nothing, Whole, Outside}
 use Rattle.walker_core.specs.Readings.{Readings}
+use Rattle.walker_core.specs.Folds.{StandsOn}
 
 -- the damaged part of a tile, if it has one
 abbrev pub stale_in : List Damaged → Key → Option Area
@@ -31,9 +32,14 @@ ShowValues [] shots values p = Unit {0}
 ShowValues (e ∷ es) [] values p = ⊥
 ShowValues (e ∷ es) (s ∷ ss) values p = (sight_at s p ≡ walk_folded values e.1 p clear) × ShowValues es ss ((e.0, walk_folded values e.1 p clear) ∷ values) p
 
--- what is known has the walk's values at the points of the patch outside the damaged parts
-abbrev pub IsKnown : Readings → Known → Type 0
-IsKnown r k = (p : Point) → holds r.patch.rect p ≡ true → is_stale k.damaged.items p ≡ false → ShowValues r.groups k.shots.items [] p
+-- the pixels have the walk's values at the points of the patch outside the damaged parts
+abbrev pub KnowsValues : Readings → Known → Type 0
+KnowsValues r k = (p : Point) → holds r.patch.rect p ≡ true → is_stale k.damaged.items p ≡ false → ShowValues r.groups k.shots.items [] p
+
+-- so it is, and the folds are those of lower children
+pub record IsKnown (r : Readings) (k : Known) : Type 0 where
+  pub values : KnowsValues r k
+  pub folds : IfSome k.footing (StandsOn r)
 
 -- the same, if anything is known
 abbrev pub IfKnown : Readings → Option Known → Type 0

@@ -17,6 +17,7 @@
 #![tactic(auto)]
 
 mod composed;
+mod folds;
 mod gathered;
 mod inputs;
 mod known;
@@ -25,11 +26,13 @@ mod paths;
 mod row;
 mod rows;
 mod same;
+mod spans;
 
 pub use composed::{Composed, compose_key, compose_keys};
+pub use folds::Fold;
 pub use gathered::Gathered;
 pub use inputs::Inputs;
-pub use known::{Damaged, Known};
+pub use known::{Damaged, Footing, Known};
 pub use paths::{Path, all_groups, plan};
 pub use rows::Rows;
 pub use same::same_values;

@@ -1,19 +1,25 @@
 //! The pictures of a walk's groups on one tile.
 
-ghost use Rattle.std.specs.Prelude.{◌≡◌, length, IfOk, OnOk};
+ghost use Rattle.std.specs.Prelude.{All, ◌≡◌, length, IfOk, IfSome, OnOk};
 ghost use Rattle.std.specs.Option.{option_copied};
-ghost use Rattle.geom_core.specs.Areas.{Point};
+ghost use Rattle.geom_core.specs.Areas.{Area, Point};
+ghost use Rattle.geom_core.specs.Grid.{Key};
 ghost use Rattle.geom_core.specs.Keys.{IsWorldKey};
 ghost use Rattle.compose_core.specs.Spots.{IsSpot};
 ghost use Rattle.compose_core.specs.Piles.{IsPile};
-ghost use Rattle.walker_core.specs.Rows.{AreComposed, HasNext, HasNextOn, IsRow, LaysChild, values_of, found, maybe_on};
+ghost use Rattle.walker_core.specs.Composing.{IsRowOf};
+ghost use Rattle.walker_core.specs.Folds.{IsFoldOn};
+ghost use Rattle.walker_core.specs.Lower.{LaysSources};
+ghost use Rattle.walker_core.specs.Readings.{Readings};
+ghost use Rattle.walker_core.specs.Rows.{AreComposed, HasNext, HasNextOn, LaysChild, values_of, found, maybe_on};
 
+use crate::folds::{Fold, lay_lower};
 use crate::gathered::Source;
 use crate::inputs::Inputs;
 use crate::known::Kept;
 use crate::overlay::{overlaid, shown_on};
 use compose_core::{Given, Pile, Spot};
-use geom_core::{NoMemory, Rect, TileKey};
+use geom_core::{NoMemory, TileKey};
 use std::alloc::Global;
 
 /// The pictures of a walk's groups on one tile, in the order of the walk.
@@ -21,6 +27,8 @@ use std::alloc::Global;
 pub(crate) struct Row {
     pub key: TileKey,
     pub given: Vec<Given>,
+    /// What is new of the folds of the groups' lower children.
+    pub folds: Vec<Fold>,
 }
 
 /// Composes all groups of a walk on one tile, each after those in it. The pile serves one group
@@ -33,26 +41,49 @@ pub(crate) fn compose_row(
 ) -> Result<Row, NoMemory>
     requires { IsWorldKey key }
     ensures key { IfOk result (λ row. row.key ≡ key) }
-    ensures values { IfOk result (λ row. IsRow inputs.now row.key row.given.items) }
+    ensures of { IfOk result (IsRowOf inputs.now) }
 {
     let path = inputs.path();
     let mut given = Vec::with_capacity(alloc, path.len())?;
+    let mut folds = Vec::new(alloc);
     for i in 0..path.len() {
         let below = Below {
             path: &path[..i],
             given: &given,
         };
-        let one = compose_next(alloc, inputs, &below, key, pile)?;
-        given.push(one)?;
+        let made = compose_next(alloc, inputs, &below, key, pile)?;
+        given.push(made.given)?;
+        push_some(&mut folds, made.fold)?;
     }
-    Ok(Row { key, given })
+    Ok(Row { key, given, folds })
+}
+
+/// Adds a fold, if there is one.
+fn push_some(folds: &mut Vec<Fold>, fold: Option<Fold>) -> Result<(), NoMemory>
+    ensures { (r : Readings) (key : Key) → All (IsFoldOn r key) folds.old.items
+        → IfSome fold (IsFoldOn r key) → OnOk result (All (IsFoldOn r key) folds.new.items) }
+{
+    match fold {
+        Some(fold) => {
+            folds.push(fold)?;
+            Ok(())
+        }
+        None => Ok(()),
+    }
+}
+
+/// What was composed of a group on a tile, and what is new of the fold of its lower children.
+#[derive(Drop)]
+struct Made {
+    given: Given,
+    fold: Option<Fold>,
 }
 
 /// The groups that a walk has composed so far, with what they have on the tile.
 #[derive(Clone, Copy)]
-struct Below<'a> {
-    path: &'a [u16],
-    given: &'a [Given],
+pub(crate) struct Below<'a> {
+    pub path: &'a [u16],
+    pub given: &'a [Given],
 }
 
 /// Composes the next group of a walk on a tile, or that part of it which isn't known.
@@ -62,20 +93,24 @@ fn compose_next(
     below: &Below<'_>,
     key: TileKey,
     pile: &mut Pile,
-) -> Result<Given, NoMemory>
+) -> Result<Made, NoMemory>
     requires key { IsWorldKey key }
     requires below { AreComposed inputs.now key below.now }
-    ensures { IfOk result (HasNext inputs.now key below.now) }
+    ensures given { IfOk result (λ m. HasNext inputs.now key below.now m.given) }
+    ensures fold { IfOk result (λ m. IfSome m.fold (IsFoldOn inputs.now key)) }
 {
     match inputs.kept(below.given.len(), key)? {
         Kept::Nothing => {
             let spot = Spot::new(&inputs.patch().rect, key);
             compose_group(alloc, inputs, below, &spot, pile)
         }
-        Kept::Whole(given) => Ok(given),
+        Kept::Whole(given) => Ok(Made { given, fold: None }),
         Kept::Outside(spot, given) => {
             let fresh = compose_group(alloc, inputs, below, &spot, pile)?;
-            overlaid(alloc, given, &fresh, &spot)
+            Ok(Made {
+                given: overlaid(alloc, given, &fresh.given, &spot)?,
+                fold: fresh.fold,
+            })
         }
     }
 }
@@ -87,22 +122,43 @@ fn compose_group(
     below: &Below<'_>,
     spot: &Spot,
     pile: &mut Pile,
-) -> Result<Given, NoMemory>
+) -> Result<Made, NoMemory>
     requires spot { IsSpot spot.now }
     requires below { AreComposed inputs.now spot.now.key below.now }
-    ensures { IfOk result (HasNextOn inputs.now spot.now below.now) }
+    ensures given { IfOk result (λ m. HasNextOn inputs.now spot.now below.now m.given) }
+    ensures fold { IfOk result (λ m. IfSome m.fold (IsFoldOn inputs.now spot.now.key)) }
 {
-    let rect = inputs.patch().rect;
-    let sources = inputs.sources();
-    let path = inputs.path();
-    let group = path[below.given.len()];
+    let group = inputs.path()[below.given.len()];
     pile.clear();
+    let sources = inputs.sources();
+    let laid = lay_lower(alloc, inputs, sources, below, spot, pile)?;
+    lay_sources(&sources[laid.end..], group, below, spot.key, pile)?;
+    Ok(Made {
+        given: pile.composed(alloc, &spot.in_tile())?,
+        fold: laid.fold,
+    })
+}
+
+/// Lays the visible children of a group that are among these on those below them.
+pub(crate) fn lay_sources(
+    sources: &[Source],
+    group: u16,
+    below: &Below<'_>,
+    key: TileKey,
+    pile: &mut Pile,
+) -> Result<(), NoMemory>
+    requires known { IsPile pile.old }
+    requires paired { length below.now.given.now ≡ length below.now.path.now }
+    ensures known { OnOk result (IsPile pile.new) }
+    ensures laid { (rect : Area) → OnOk result
+        (LaysSources rect key below.now group sources.now pile.old pile.new) }
+{
     for source in sources {
         if source.group == group && source.look.visible {
-            add_child(source, below, spot.key, &rect, pile)?;
+            add_child(source, below, key, pile)?;
         }
     }
-    pile.composed(alloc, &spot.in_tile())
+    Ok(())
 }
 
 /// Lays a visible child on those below it.
@@ -110,13 +166,13 @@ fn add_child(
     source: &Source,
     below: &Below<'_>,
     key: TileKey,
-    rect: &Rect,
     pile: &mut Pile,
 ) -> Result<(), NoMemory>
     requires known { IsPile pile.old }
     requires paired { length below.now.given.now ≡ length below.now.path.now }
     ensures known { OnOk result (IsPile pile.new) }
-    ensures laid { OnOk result (LaysChild rect.now key below.now source.now pile.old pile.new) }
+    ensures laid { (rect : Area)
+        → OnOk result (LaysChild rect key below.now source.now pile.old pile.new) }
 {
     let given = match walked(below.path, below.given, source.id) {
         Some(given) => given.share()?,

@@ -4,6 +4,7 @@ ghost use Rattle.std.specs.Prelude.{◌≡◌, ◌≤◌, ◌-◌, ◌^◌, leng
 
 use crate::screen::watch;
 use doc_model::MOST_COMMANDS;
+use frame_core::Frame;
 use geom_core::NoMemory;
 use io_edge::{Failed, NoGate};
 use live_run::{live_frame, paint_live};
@@ -15,7 +16,6 @@ use std::marker::Brand;
 use std::sync::Wait;
 use std::sync::atomic::{AtomicU64, Ordering};
 use std::thread::{Threads, join};
-use tile_core::Frame;
 
 /// How many threads paint beside the caller.
 const WORKERS: u8 = 3;

@@ -2,9 +2,10 @@
 
 ghost use Rattle.std.specs.Prelude.{◌≡◌, ◌≤ℤ◌, ◌<ℤ◌, ◌*ℤ◌, pos, true};
 ghost use Rattle.live_view.specs.Views.{IsOnCanvas};
-ghost use Rattle.tile_core.specs.Frames.{IsTileOf};
+ghost use Rattle.frame_core.specs.Frames.{IsTileOf};
 
 use crate::paint::WetError;
+use frame_core::Frame;
 use geom_core::{NoMemory, TILE_SIDE, TileKey};
 use io_edge::StdSink;
 use live_view::{LiveReader, Naming};
@@ -15,7 +16,6 @@ use std::sync::Wait;
 use std::sync::atomic::{AtomicU64, Ordering};
 use std::thread::Threads;
 use std::{io, thread};
-use tile_core::Frame;
 
 /// How many tiles the largest canvas has: 32 rows of 32.
 const TILES: u32 = 1024;

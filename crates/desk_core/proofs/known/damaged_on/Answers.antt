@@ -1,7 +1,7 @@
 use Rattle.std.proofs.Common.{◌≡◌, ◌+◌, refl, arith, sym, subst, take, cond, None, List}
 use Rattle.std.specs.List.{list_any}
 use Rattle.geom_core.specs.Grid.{Key, keys_of, same_key}
-use Rattle.tile_core.specs.Damage.{part_at}
+use Rattle.frame_core.specs.Damage.{part_at}
 use Rattle.walker_core.specs.declared.known.Damaged.{Damaged}
 use Rattle.walker_core.specs.Knowing.{stale_in}
 use Rattle.desk_core.proofs.Shots.{part_more, part_none, stale_whole}

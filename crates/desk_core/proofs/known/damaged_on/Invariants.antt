@@ -1,7 +1,7 @@
 use Rattle.std.proofs.Common.{◌≡◌, cond, None, take}
 use Rattle.std.specs.List.{list_any}
 use Rattle.geom_core.specs.Grid.{Key, keys_of, same_key}
-use Rattle.tile_core.specs.Damage.{part_at}
+use Rattle.frame_core.specs.Damage.{part_at}
 use Rattle.walker_core.specs.Knowing.{stale_in}
 use Rattle.desk_core.proofs.known.damaged_on.Given as goal
 

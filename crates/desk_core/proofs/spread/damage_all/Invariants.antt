@@ -2,8 +2,8 @@ use Rattle.std.proofs.Common.{◌≡◌, take, true, false}
 use Rattle.geom_core.specs.Areas.{Point}
 use Rattle.geom_core.specs.Grid.{key_of}
 use Rattle.geom_core.specs.Rects.{any_holds}
-use Rattle.tile_core.specs.Marks.{on_canvas}
-use Rattle.tile_core.specs.Damage.{is_damaged}
+use Rattle.frame_core.specs.Marks.{on_canvas}
+use Rattle.frame_core.specs.Damage.{is_damaged}
 use Rattle.desk_core.proofs.spread.damage_all.Given as goal
 
 -- the points of the rectangles so far are damaged, and those that were

@@ -3,12 +3,12 @@ use Rattle.std.specs.Prelude.{slice_get}
 use Rattle.std.specs.FinMap as map
 use Rattle.geom_core.specs.Areas.{Area}
 use Rattle.geom_core.specs.Grid.{keys_of}
-use Rattle.tile_core.specs.Frames.{scene}
+use Rattle.frame_core.specs.Frames.{scene}
 use Rattle.doc_model.specs.declared.canvas.Canvas.{Canvas}
 use Rattle.doc_model.specs.Canvases.{IsOfLimits}
 use Rattle.doc_model.specs.Picture.{canvas_area}
 use Rattle.machine_model.specs.State.{State}
-use Rattle.slot_work.proofs.CacheFrames.{drawn_none, drawn_more, drawn_inside, drawn_all}
+use Rattle.filmed_caches.proofs.CacheFrames.{drawn_none, drawn_more, drawn_inside, drawn_all}
 use Rattle.live_view.specs.Shown.{updates_of}
 use Rattle.live_view.specs.Views.{Feed, published, pending}
 use Rattle.live_run.specs.Showing.{ShowsRoot}

@@ -1,5 +1,5 @@
 use Rattle.std.proofs.Common.{◌≡◌}
-use Rattle.slot_work.proofs.CacheFrames.{Drawn}
+use Rattle.filmed_caches.proofs.CacheFrames.{Drawn}
 use Rattle.live_run.proofs.frames.live_frame.Given as goal
 
 -- the frame shows the cache on the tiles so far

@@ -1,7 +1,7 @@
 use Rattle.std.proofs.Common.{subst}
 use Rattle.std.proofs.lemmas.Result.{on_ok_weaker}
 use Rattle.machine_model.specs.State.{State}
-use Rattle.slot_work.proofs.CacheFrames.{tile_put, clear_put}
+use Rattle.filmed_caches.proofs.CacheFrames.{tile_put, clear_put}
 use Rattle.desk_events.specs.Shown.{IsRootTile, RootIsClear}
 use Rattle.live_run.proofs.frames.put_own.Goals as goal
 

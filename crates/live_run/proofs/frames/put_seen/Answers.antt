@@ -1,6 +1,6 @@
 use Rattle.std.proofs.Common.{sym, ◌∙◌}
 use Rattle.std.proofs.lemmas.Result.{on_ok_weaker}
-use Rattle.slot_work.proofs.CacheFrames.{tile_put}
+use Rattle.filmed_caches.proofs.CacheFrames.{tile_put}
 use Rattle.live_view.specs.Shown.{updates_of}
 use Rattle.live_view.specs.Views.{published}
 use Rattle.live_run.proofs.RootTiles.{seen_tile}

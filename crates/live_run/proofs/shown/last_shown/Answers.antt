@@ -1,6 +1,6 @@
 use Rattle.std.proofs.Common.{◌≡◌, [], ◌∷◌, ◌++◌, Some, None, sym, ap, subst, ◌∙◌, List}
-use Rattle.tile_core.specs.Films.{newest}
-use Rattle.tile_core.specs.Frames.{Scene}
+use Rattle.frame_core.specs.Films.{newest}
+use Rattle.frame_core.specs.Frames.{Scene}
 use Rattle.doc_model.specs.Canvases.{IsOfLimits}
 use Rattle.machine_model.specs.State.{State}
 use Rattle.script_text.proofs.Scripts.{script_holds}

@@ -1,5 +1,5 @@
 use Rattle.std.proofs.Common.{◌≡◌, ◌*◌, take, arith}
-use Rattle.tile_core.specs.Frames.{row_colours}
+use Rattle.frame_core.specs.Frames.{row_colours}
 use Rattle.ppm_out.proofs.Lines.{row_at_front}
 use Rattle.log_out.proofs.Sheets.{sum_more}
 use Rattle.log_out.proofs.summary.colour_sum.Goals as goal

@@ -1,9 +1,9 @@
 use Rattle.std.proofs.Common.{◌≡◌, ◌∙◌, sym, subst, arith}
 use Rattle.std.specs.Prelude.{pos}
 use Rattle.geom_core.specs.Grid.{Key, key}
-use Rattle.tile_core.specs.Frames.{Scene, with_put}
-use Rattle.tile_core.specs.Films.{Renews}
-use Rattle.tile_core.proofs.Films.{renews_put}
+use Rattle.frame_core.specs.Frames.{Scene, with_put}
+use Rattle.frame_core.specs.Films.{Renews}
+use Rattle.frame_core.proofs.Films.{renews_put}
 use Rattle.pixel_tests.proofs.tiles.push_covered.Goals as goal
 use Rattle.geom_core.proofs.Tests.{some_same}
 

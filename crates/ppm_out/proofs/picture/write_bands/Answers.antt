@@ -1,10 +1,10 @@
 use Rattle.std.proofs.Common.{◌+◌, ◌-◌, [], ◌++◌, ap, ◌∙◌, append_assoc, append-nil, refl, arith}
 use Rattle.std.specs.List.{concat}
 use Rattle.std.proofs.KnownBytes.{Appends-nil}
-use Rattle.tile_core.specs.Frames.{rows_colours}
+use Rattle.frame_core.specs.Frames.{rows_colours}
 use Rattle.io_edge.proofs.Written.{prefix_behind, appends_to, on_err_any}
 use Rattle.ppm_out.specs.Pictures.{header, frame_bytes}
-use Rattle.tile_core.specs.Scenes.{colours_of}
+use Rattle.frame_core.specs.Scenes.{colours_of}
 use Rattle.ppm_out.proofs.Bands.{band_more, bands_all, band_at}
 use Rattle.ppm_out.proofs.picture.write_bands.Goals as goal
 

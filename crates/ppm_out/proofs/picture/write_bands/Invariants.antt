@@ -1,6 +1,6 @@
 use Rattle.std.proofs.Common.{◌≤◌, ◌-◌, ◌++◌}
 use Rattle.std.specs.Io.KnownBytes.{Appends}
-use Rattle.tile_core.specs.Frames.{rows_colours}
+use Rattle.frame_core.specs.Frames.{rows_colours}
 use Rattle.ppm_out.specs.Pictures.{header}
 use Rattle.ppm_out.proofs.picture.write_bands.Given as goal
 

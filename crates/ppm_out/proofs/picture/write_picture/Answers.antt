@@ -3,7 +3,7 @@ use Rattle.std.specs.List.{concat}
 use Rattle.std.proofs.KnownBytes.{Appends-nil}
 use Rattle.io_edge.proofs.Written.{prefix_behind, on_err_any}
 use Rattle.ppm_out.specs.Pictures.{header, frame_bytes}
-use Rattle.tile_core.specs.Scenes.{colours_of}
+use Rattle.frame_core.specs.Scenes.{colours_of}
 use Rattle.ppm_out.proofs.Series.{shown_bytes, ok_behind, err_behind}
 use Rattle.ppm_out.proofs.picture.write_picture.Goals as goal
 

@@ -3,8 +3,8 @@ use Rattle.std.specs.Prelude.{pos}
 use Rattle.geom_core.specs.Areas.{point}
 use Rattle.geom_core.specs.Grid.{Key, key_of}
 use Rattle.geom_core.proofs.Tests.{or_right}
-use Rattle.tile_core.specs.Frames.{Scene}
-use Rattle.tile_core.specs.Marks.{has_mark}
+use Rattle.frame_core.specs.Frames.{Scene}
+use Rattle.frame_core.specs.Marks.{has_mark}
 use Rattle.script_tests.proofs.pictures.push_point.Goals as goal
 
 pub push-requires : goal.push-requires

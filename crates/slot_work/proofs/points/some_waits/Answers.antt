@@ -2,7 +2,7 @@ use Rattle.std.proofs.Common.{ap, sym, ◌∙◌, arith}
 use Rattle.std.specs.List.{list_any}
 use Rattle.geom_core.specs.Areas.{Point, point, holds}
 use Rattle.doc_model.specs.declared.canvas.Patch.{Patch}
-use Rattle.slot_work.proofs.Passes.{any_at, any_passed, any_ended}
+use Rattle.filmed_caches.proofs.Passes.{any_at, any_passed, any_ended}
 use Rattle.slot_work.proofs.SlotPoints.{point_read}
 use Rattle.slot_work.proofs.points.some_waits.Goals as goal
 

@@ -1,8 +1,8 @@
 use Rattle.std.proofs.Common.{sym, ◌∙◌}
 use Rattle.std.specs.List.{list_any}
 use Rattle.geom_core.specs.Grid.{Key, same_key, keys_of}
-use Rattle.slot_work.proofs.Passes.{all_passed, all_failed}
-use Rattle.slot_work.proofs.KeyLists.{key_in}
+use Rattle.filmed_caches.proofs.Passes.{all_passed, all_failed}
+use Rattle.filmed_caches.proofs.KeyLists.{key_in}
 use Rattle.slot_work.proofs.remaining.next_in.Goals as goal
 
 pub returns-then-not-has_key-clause-some : goal.returns-then-not-has_key-clause-some

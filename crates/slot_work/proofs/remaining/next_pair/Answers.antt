@@ -5,8 +5,8 @@ use Rattle.geom_core.specs.Grid.{Key, same_key, keys_of}
 use Rattle.doc_model.specs.declared.canvas.Patch.{Patch}
 use Rattle.machine_model.specs.Guards.{same_pair}
 use Rattle.walker_core.specs.Readings.{path_in}
-use Rattle.slot_work.proofs.Passes.{all_passed, all_failed}
-use Rattle.slot_work.proofs.KeyLists.{key_in}
+use Rattle.filmed_caches.proofs.Passes.{all_passed, all_failed}
+use Rattle.filmed_caches.proofs.KeyLists.{key_in}
 use Rattle.slot_work.proofs.remaining.next_pair.Goals as goal
 
 pub returns-in-Some-clause-tile : goal.returns-in-Some-clause-tile

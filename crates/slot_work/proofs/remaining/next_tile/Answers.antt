@@ -4,7 +4,7 @@ use Rattle.std.specs.List.{list_any, list_all}
 use Rattle.std.proofs.lemmas.Option.{slice_get_read}
 use Rattle.geom_core.specs.Grid.{Key, same_key, all_keys_of}
 use Rattle.doc_model.specs.Jobs.{writes}
-use Rattle.slot_work.proofs.KeyLists.{key_in_one, rect_passed, rect_failed}
+use Rattle.filmed_caches.proofs.KeyLists.{key_in_one, rect_passed, rect_failed}
 use Rattle.slot_work.proofs.remaining.next_tile.Goals as goal
 
 pub returns-in-Some-clause-some : goal.returns-in-Some-clause-some

@@ -1,7 +1,7 @@
 use Rattle.std.proofs.Common.{sym, ◌∙◌}
 use Rattle.geom_core.specs.Grid.{same_key, keys_of}
-use Rattle.slot_work.proofs.KeyLists.{key_test}
-use Rattle.slot_work.proofs.Passes.{any_at, any_passed}
+use Rattle.filmed_caches.proofs.KeyLists.{key_test}
+use Rattle.filmed_caches.proofs.Passes.{any_at, any_passed}
 use Rattle.slot_work.proofs.walking.is_tile_of.Goals as goal
 
 pub returns-then-eq-clause-value : goal.returns-then-eq-clause-value

@@ -2,7 +2,7 @@ use Rattle.std.proofs.Common.{◌≡◌, Some, ◌<◌, length, true, false, not
 use Rattle.std.specs.Prelude.{slice_get}
 use Rattle.std.proofs.lemmas.Option.{slice_get_read}
 use Rattle.geom_core.specs.Grid.{keys_of}
-use Rattle.slot_work.proofs.KeyLists.{key_test}
+use Rattle.filmed_caches.proofs.KeyLists.{key_test}
 use Rattle.slot_work.proofs.InOrder.{same_so_far, not_same, other_key, this_key}
 use Rattle.slot_work.proofs.wholes.are_all_of.Goals as goal
 

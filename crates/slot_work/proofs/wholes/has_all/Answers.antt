@@ -5,7 +5,7 @@ use Rattle.std.specs.FinSet as set
 use Rattle.std.proofs.lemmas.Option.{slice_get_read}
 use Rattle.geom_core.specs.Grid.{all_keys_of}
 use Rattle.slot_work.specs.Lacking.{is_seen}
-use Rattle.slot_work.proofs.KeyLists.{rect_passed, rect_failed}
+use Rattle.filmed_caches.proofs.KeyLists.{rect_passed, rect_failed}
 use Rattle.slot_work.proofs.wholes.has_all.Goals as goal
 
 pub returns-then-not-has_all_in : goal.returns-then-not-has_all_in

@@ -2,7 +2,7 @@ use Rattle.std.proofs.Common.{sym, ◌∙◌}
 use Rattle.std.specs.FinSet as set
 use Rattle.geom_core.specs.Grid.{keys_of}
 use Rattle.slot_work.specs.Lacking.{is_seen}
-use Rattle.slot_work.proofs.Passes.{all_passed, all_failed}
+use Rattle.filmed_caches.proofs.Passes.{all_passed, all_failed}
 use Rattle.slot_work.proofs.wholes.has_all_in.Goals as goal
 
 pub returns-then-not-is_there : goal.returns-then-not-is_there

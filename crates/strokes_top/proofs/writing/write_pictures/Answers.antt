@@ -3,7 +3,7 @@ use Rattle.std.specs.List.{All, flat_map}
 use Rattle.std.specs.Io.KnownBytes.{Appends}
 use Rattle.std.proofs.KnownBytes.{Appends-nil}
 use Rattle.io_edge.proofs.Written.{prefix_is}
-use Rattle.tile_core.specs.Frames.{Scene}
+use Rattle.frame_core.specs.Frames.{Scene}
 use Rattle.ppm_out.specs.Scenes.{scene_bytes}
 use Rattle.strokes_top.specs.Room.{Suffices}
 use Rattle.strokes_top.proofs.Outputs.{one_bytes, suffices_each, whole_is}

@@ -1,4 +1,4 @@
-use Rattle.std.proofs.Common.{◌≡◌, rules, subst, sym, []}
+use Rattle.std.proofs.Common.{rules, subst}
 use Rattle.std.specs.Map.Iter.{deref_pair}
 use Rattle.std.proofs.lemmas.Map.Iter.{btree_map_turn, rest_more, rest_all}
 use Rattle.geom_core.specs.Keys.{key_cmp_total}

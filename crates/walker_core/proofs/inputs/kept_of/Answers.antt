@@ -1,6 +1,6 @@
 use Rattle.std.proofs.Common.{◌∙◌, ap, sym, length, get_or}
 use Rattle.std.specs.Prelude.{nat_lt}
-use Rattle.tile_core.specs.Damage.{part_has}
+use Rattle.frame_core.specs.Damage.{part_has}
 use Rattle.walker_core.proofs.Kept.{kept_here, outside_spot}
 use Rattle.walker_core.proofs.inputs.kept_of.Goals as goal
 

@@ -14,7 +14,7 @@ pub exchange_all-requires-clause-prior : goal.exchange_all-requires-clause-prior
 exchange_all-requires-clause-prior c = c.requires.prior
 
 pub invariant_of-self : goal.invariant_of-self
-invariant_of-self c = then_tracks c.self-2.inside.machine c.end_job.new.self (End c.args.slot.place) c.self-2.inside.damage.value c.self-2.inside.calm refl c.end_job.ensures c.self-2.invariant
+invariant_of-self c = then_tracks c.self-2.inside.machine c.end_job.new.self (End c.args.slot.place) c.self-2.inside.damage.value c.self-2.inside.calm c.self-2.inside.folds.value refl c.end_job.ensures c.self-2.invariant
 
 pub returns-in_err-commits : goal.returns-in_err-commits
 returns-in_err-commits c = rw (← c.self.view_is) (brings_err _ _ _ _ _ c.from_residual.ensures.0 (no_tile c.args.slot.place c.args.tiles.now c.self.inside.machine))

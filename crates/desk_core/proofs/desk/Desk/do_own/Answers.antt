@@ -7,13 +7,13 @@ use Rattle.desk_core.proofs.Tracking.{then_tracks, result_tracks}
 use Rattle.desk_core.proofs.desk.Desk.do_own.Goals as goal
 
 pub invariant_of-self : goal.invariant_of-self
-invariant_of-self c = result_tracks c.paint_at.result c.self.inside.machine c.paint_at.new.self (Publish c.args.place c.in-Tile.key) c.self.inside.damage.value c.self.inside.calm refl c.paint_at.ensures.ok c.paint_at.ensures.err c.self.invariant
+invariant_of-self c = result_tracks c.paint_at.result c.self.inside.machine c.paint_at.new.self (Publish c.args.place c.in-Tile.key) c.self.inside.damage.value c.self.inside.calm c.self.inside.folds.value refl c.paint_at.ensures.ok c.paint_at.ensures.err c.self.invariant
 
 pub invariant_of-self-in-Groups : goal.invariant_of-self-in-Groups
-invariant_of-self-in-Groups c = walks_track c.self.inside.machine c.compose_at.new.self c.self.inside.damage.value c.self.inside.calm c.compose_at.ensures.walks c.self.invariant
+invariant_of-self-in-Groups c = walks_track c.self.inside.machine c.compose_at.new.self c.self.inside.damage.value c.self.inside.calm c.self.inside.folds.value c.compose_at.ensures.walks c.self.invariant
 
 pub invariant_of-self-in-JobEnd : goal.invariant_of-self-in-JobEnd
-invariant_of-self-in-JobEnd c = then_tracks c.self.inside.machine c.end_job.new.self (End c.args.place) c.self.inside.damage.value c.self.inside.calm refl c.end_job.ensures c.self.invariant
+invariant_of-self-in-JobEnd c = then_tracks c.self.inside.machine c.end_job.new.self (End c.args.place) c.self.inside.damage.value c.self.inside.calm c.self.inside.folds.value refl c.end_job.ensures c.self.invariant
 
 pub end_walk-requires : goal.end_walk-requires
 end_walk-requires c = rw (← c.self.view_is) c.in-WalkEnd.ensures

@@ -7,7 +7,7 @@ use Rattle.desk_core.proofs.desk.Desk.end.Goals as goal
 use Rattle.geom_core.proofs.Tests.{never}
 
 pub invariant_of-self : goal.invariant_of-self
-invariant_of-self c = then_tracks c.self.inside.machine c.end_job.new.self (End c.args.slot.place) c.self.inside.damage.value c.self.inside.calm refl c.end_job.ensures c.self.invariant
+invariant_of-self c = then_tracks c.self.inside.machine c.end_job.new.self (End c.args.slot.place) c.self.inside.damage.value c.self.inside.calm c.self.inside.folds.value refl c.end_job.ensures c.self.invariant
 
 pub end_job-requires : goal.end_job-requires
 end_job-requires c = (c.is_complete.ensures.0 c.if-is_complete.true).enabled

@@ -8,4 +8,4 @@ pub publish_whole-requires-clause-prior : goal.publish_whole-requires-clause-pri
 publish_whole-requires-clause-prior c n e = subst (λ s. IsPriorAt s c.args.place n c.args.whole.now) (sym c.self.view_is) (c.requires.prior n e)
 
 pub invariant_of-self : goal.invariant_of-self
-invariant_of-self c = result_tracks c.publish_whole.result c.self.inside.machine c.publish_whole.new.self (Publish c.args.place c.args.whole.now.key) c.self.inside.damage.value c.self.inside.calm refl c.publish_whole.ensures.ok c.publish_whole.ensures.err c.self.invariant
+invariant_of-self c = result_tracks c.publish_whole.result c.self.inside.machine c.publish_whole.new.self (Publish c.args.place c.args.whole.now.key) c.self.inside.damage.value c.self.inside.calm c.self.inside.folds.value refl c.publish_whole.ensures.ok c.publish_whole.ensures.err c.self.invariant

@@ -12,7 +12,7 @@ pub returns-then-not-takes-clause-refused : goal.returns-then-not-takes-clause-r
 returns-then-not-takes-clause-refused c = rw (← c.self.view_is) (λ e m. never (sym c.if-not-takes.true ∙ c.takes.ensures.1 m))
 
 pub invariant_of-self-2 : goal.invariant_of-self-2
-invariant_of-self-2 c = result_tracks c.lay.result c.self.inside.machine c.lay.new.self (Publish c.args.slot.place c.args.painted.now.key) c.self.inside.damage.value c.self.inside.calm refl c.lay.ensures.ok c.lay.ensures.err c.self.invariant
+invariant_of-self-2 c = result_tracks c.lay.result c.self.inside.machine c.lay.new.self (Publish c.args.slot.place c.args.painted.now.key) c.self.inside.damage.value c.self.inside.calm c.self.inside.folds.value refl c.lay.ensures.ok c.lay.ensures.err c.self.invariant
 
 pub returns-clause-taken : goal.returns-clause-taken
 returns-clause-taken c = rw (← c.self.view_is) (λ e. c.takes.ensures.0 c.if-not-takes.false)

@@ -1,4 +1,4 @@
-use Rattle.tile_core.proofs.DamagedPoints.{all_damaged}
+use Rattle.frame_core.proofs.DamagedPoints.{all_damaged}
 use Rattle.desk_core.proofs.spread.Spread.fill.Goals as goal
 
 pub invariant_of-self : goal.invariant_of-self

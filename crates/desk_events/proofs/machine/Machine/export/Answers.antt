@@ -6,9 +6,9 @@ use Rattle.desk_state.specs.Enabled.{Enabled}
 use Rattle.desk_state.specs.Parts.{Parts, state_of}
 use Rattle.desk_state.specs.Tied.{IsDesk}
 use Rattle.desk_state.proofs.Doing.{Does}
-use Rattle.slot_work.specs.Filmed.{Filmed, TakesFrame}
+use Rattle.filmed_caches.specs.Filmed.{Filmed, TakesFrame}
 use Rattle.desk_events.specs.Kept.{parts_of}
-use Rattle.desk_events.proofs.Exported.{export_shows}
+use Rattle.desk_events.proofs.Exported.{export_settled, export_shows, newest_sides}
 use Rattle.desk_events.proofs.machine.Machine.export.Goals as goal
 
 abbrev before : goal.After-pop → Parts
@@ -31,3 +31,9 @@ invariant_of-self-2 c = subst (λ f. IsDesk (after c f)) (sym (taken c).new_is) 
 pub returns-clause-ok : goal.returns-clause-ok
 returns-clause-ok c = subst (λ f. ActStep c.args.self.now (state_of (after c f))) (sym (taken c).new_is)
     (subst (λ s. ActStep s (state_of (after c (record { caches = c.self.inside.filmed.caches; frames = c.self.inside.filmed.frames ++ (taken c).shown ∷ [] })))) c.self.view_is (does c).step)
+
+pub take_frame-requires-clause-sides : goal.take_frame-requires-clause-sides
+take_frame-requires-clause-sides c = newest_sides (parts_of c.self.inside) c.self.invariant
+
+pub take_frame-requires-clause-settled : goal.take_frame-requires-clause-settled
+take_frame-requires-clause-settled c = export_settled (parts_of c.self.inside) c.self.invariant (subst (λ s. Enabled s Act) (sym c.self.view_is) c.requires.enabled) (ap head c.self.view_is ∙ c.requires.head)

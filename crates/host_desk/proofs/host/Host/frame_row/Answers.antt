@@ -1,6 +1,6 @@
 use Rattle.std.proofs.Common.{◌≡◌, Some, subst}
 use Rattle.std.specs.Prelude.{slice_get}
-use Rattle.tile_core.specs.Scenes.{HasSides, colours_of}
+use Rattle.frame_core.specs.Scenes.{HasSides, colours_of}
 use Rattle.machine_model.specs.State.{State}
 use Rattle.host_desk.proofs.CopiedRows.{of_frame}
 use Rattle.host_desk.proofs.host.Host.frame_row.Goals as goal

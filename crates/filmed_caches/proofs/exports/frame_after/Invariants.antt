@@ -1,0 +1,6 @@
+use Rattle.filmed_caches.proofs.CacheFrames.{Drawn}
+use Rattle.filmed_caches.proofs.exports.frame_after.Given as goal
+
+-- the frame shows the cache on the tiles so far
+abbrev pub invariant-loop-i : goal.invariant-loop-i
+invariant-loop-i l = Drawn l.scenery.caches.now l.scenery.canvas l.i l.frame

@@ -1,0 +1,13 @@
+pub mod PlacedTiles
+pub mod OnPaper
+pub mod LaidColours
+pub mod FrameRows
+pub mod PictureRows
+pub mod Bands
+pub mod DamagedParts
+pub mod DamagedPoints
+pub mod Films
+pub mod OpenedRows
+pub mod LaidPlies
+pub mod MadePixels
+pub mod FrameLaws

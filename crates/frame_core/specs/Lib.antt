@@ -1,0 +1,11 @@
+pub mod Frames
+pub mod Scenes
+pub mod Placed
+pub mod OpenRows
+pub mod Plies
+pub mod Cells
+pub mod Marks
+pub mod Films
+pub mod Damage
+pub mod Piece
+pub mod Laws

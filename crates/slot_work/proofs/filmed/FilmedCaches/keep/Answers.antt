@@ -1,8 +1,0 @@
-use Rattle.std.proofs.Common.{sym, subst}
-use Rattle.slot_work.specs.Filmed.{IsMarked}
-use Rattle.slot_work.proofs.FilmedRoot.{marked_kept}
-use Rattle.slot_work.proofs.filmed.FilmedCaches.keep.Goals as goal
-
-pub invariant_of-self : goal.invariant_of-self
-invariant_of-self c = subst (λ caches. IsMarked caches c.self.inside.film c.self.inside.laid) (sym (c.keep.ensures c.requires.of_tree.0 c.requires.of_tree.1))
-    (marked_kept c.self.inside.caches c.requires.of_tree.0 c.self.inside.film c.self.inside.laid c.self.invariant)

@@ -1,7 +1,0 @@
-use Rattle.std.proofs.Common.{sym, subst}
-use Rattle.slot_work.specs.Filmed.{IsMarked}
-use Rattle.slot_work.proofs.FilmedRoot.{none_taken}
-use Rattle.slot_work.proofs.filmed.FilmedCaches.new.Goals as goal
-
-pub invariant_of-result : goal.invariant_of-result
-invariant_of-result c = subst (λ frames. IsMarked c.in_ok-caches.caches frames c.none.result) (sym c.new-2.ensures) (none_taken c.in_ok-caches.caches c.none.result)
