@@ -30,7 +30,8 @@ pub fn blur_block(
     requires in_world { lies_in (grown part.now r) world ≡ true }
     ensures key { IfOk result (λ b. b.key ≡ key) }
     ensures rect { IfOk result (λ b. b.rect ≡ part.now) }
-    ensures pixels { IfOk result (λ b. (p : Point) → holds part.now p ≡ true → piece_at b p ≡ blurred shot.now r p) }
+    ensures pixels { IfOk result (λ b. (p : Point) → holds part.now p ≡ true → piece_at b p
+        ≡ blurred shot.now r p) }
 {
     let pixels = shot.pixels_on(alloc, &grown(part, r))?;
     let w = part.w() as usize;

@@ -90,9 +90,11 @@ fn moved_down(
 /// Adds each pixel of a row to the sums of its column.
 fn add_row(columns: &mut [Sums], row: &[Pixel])
     requires same { length columns.old ≡ length row.now }
-    requires room { (k : ℕ) → k < length columns.old → IsUpTo 1089 (slice_index_or columns.old k nothing) }
+    requires room { (k : ℕ) → k < length columns.old
+        → IsUpTo 1089 (slice_index_or columns.old k nothing) }
     ensures sums { ChangesEach plus row.now columns.old columns.new }
-    ensures bytes { (k : ℕ) → k < length columns.old → IsUpTo 1 (weigh (slice_index_or row.now k clear)) }
+    ensures bytes { (k : ℕ) → k < length columns.old
+        → IsUpTo 1 (weigh (slice_index_or row.now k clear)) }
 {
     for i in 0..row.len() {
         columns[i] = columns[i].plus(Sums::of(row[i]));
@@ -102,7 +104,8 @@ fn add_row(columns: &mut [Sums], row: &[Pixel])
 /// Takes each pixel of a row from the sums of its column, which it is part of.
 fn take_row(columns: &mut [Sums], row: &[Pixel])
     requires same { length columns.old ≡ length row.now }
-    requires each { (k : ℕ) → k < length columns.old → IsPartOf (weigh (slice_index_or row.now k clear)) (slice_index_or columns.old k nothing) }
+    requires each { (k : ℕ) → k < length columns.old
+        → IsPartOf (weigh (slice_index_or row.now k clear)) (slice_index_or columns.old k nothing) }
     ensures { ChangesEach less row.now columns.old columns.new }
 {
     for i in 0..row.len() {
@@ -116,7 +119,8 @@ fn push_means(means: &mut Vec<Pixel>, columns: &[Sums], more: usize) -> Result<(
     requires more { more ≤ 32 }
     requires long { more ≤ length columns.now }
     requires each { (k : ℕ) → IsUpTo (more + 1) (slice_index_or columns.now k nothing) }
-    ensures { OnOk result (means.new.items ≡ means.old.items ++ row_means columns.now (more + 1) (length columns.now - more)) }
+    ensures { OnOk result (means.new.items ≡ means.old.items ++ row_means columns.now (more + 1)
+        (length columns.now - more)) }
 {
     let side = more + 1;
     let count = (side * side) as u32;

@@ -29,7 +29,8 @@ pub fn jobs_of(alloc: Global, track: &Track) -> Result<Vec<Job>, NoMemory>
     requires few { length (centres track.now) ≤ 4096 }
     requires inside { list_all (λ a. lies_in a world) (squares track.now) ≡ true }
     ensures value { IfOk result (λ v. v.items ≡ jobs track.now) }
-    ensures dabs { IfOk result (λ v. (layer : Layer) → apply_all v.items layer ≡ apply_all (dabs track.now) layer) }
+    ensures dabs { IfOk result (λ v. (layer : Layer) → apply_all v.items layer
+        ≡ apply_all (dabs track.now) layer) }
     ensures apart { IfOk result (λ v. conflict (concurrent v.items) ≡ None) }
     ensures sound { IfOk result (λ v. All (λ j. (checks j && within_limits j) ≡ true) v.items) }
 {
@@ -87,7 +88,8 @@ fn add_square(
     square: &Rect,
 ) -> Result<Ends, NoMemory>
     ensures ends { IfOk result (λ e. keys_between e.first e.last ≡ keys_of square.now) }
-    ensures tiles { IfOk result (λ e. (before.now ≡ Some e × tiles.new.keys ≡ tiles.old.keys) ⊎ tiles.new.keys ≡ in_order tiles.old.keys (keys_of square.now)) }
+    ensures tiles { IfOk result (λ e. (before.now ≡ Some e × tiles.new.keys ≡ tiles.old.keys)
+        ⊎ tiles.new.keys ≡ in_order tiles.old.keys (keys_of square.now)) }
 {
     let ends = ends_of(square);
     if is_again(before, ends) {

@@ -134,7 +134,8 @@ impl CommandLog {
 
     /// Whether a stroke with that number is open, and has fewer jobs than it may have.
     fn takes_job(&self, no: u32) -> bool
-        ensures { result ≡ (list_any (is_open_stroke no) (entries self.now.items) && list_any (has_room no) (entries self.now.items)) }
+        ensures { result ≡ (list_any (is_open_stroke no) (entries self.now.items) && list_any
+            (has_room no) (entries self.now.items)) }
     {
         match self.find(no) {
             None => false,

@@ -166,7 +166,8 @@ impl Table {
     #[inline(always)]
     pub(crate) fn take(&mut self, command: &Command) -> Result<(), Refusal>
         ensures refused { Refuses result (stroke_misfit (kept self.old) command.now) }
-        ensures kept { OnOk result ((m : ℕ) → kept self.new m ≡ next_fed command.now m (kept self.old m)) }
+        ensures kept { OnOk result ((m : ℕ) → kept self.new m ≡ next_fed command.now m
+            (kept self.old m)) }
         ensures same { OnErr result ((m : ℕ) → kept self.new m ≡ kept self.old m) }
         ensures full { result ≡ Err refusal.NoMemory → is_some self.old.newest ≡ true }
     {
@@ -199,7 +200,8 @@ impl Table {
     /// Starts a stroke.
     fn start(&mut self, no: u32) -> Result<(), Refusal>
         ensures refused { Refuses result (start_misfit (kept self.old no)) }
-        ensures kept { OnOk result ((m : ℕ) → kept self.new m ≡ (if no == m then Some just_started else kept self.old m)) }
+        ensures kept { OnOk result ((m : ℕ) → kept self.new m
+            ≡ (if no == m then Some just_started else kept self.old m)) }
         ensures same { OnErr result ((m : ℕ) → kept self.new m ≡ kept self.old m) }
         ensures full { result ≡ Err refusal.NoMemory → is_some self.old.newest ≡ true }
     {
@@ -219,7 +221,8 @@ impl Table {
     #[inline(always)]
     fn feed(&mut self, no: u32) -> Result<(), Misfit>
         ensures refused { result_err result ≡ job_misfit (kept self.old no) }
-        ensures kept { OnOk result ((m : ℕ) → kept self.new m ≡ (if no == m then one_more (kept self.old m) else kept self.old m)) }
+        ensures kept { OnOk result ((m : ℕ) → kept self.new m
+            ≡ (if no == m then one_more (kept self.old m) else kept self.old m)) }
         ensures same { OnErr result ((m : ℕ) → kept self.new m ≡ kept self.old m) }
     {
         match &mut self.newest {
@@ -231,7 +234,8 @@ impl Table {
     /// Closes a stroke.
     fn close(&mut self, no: u32) -> Result<(), Misfit>
         ensures refused { result_err result ≡ close_misfit (kept self.old no) }
-        ensures kept { OnOk result ((m : ℕ) → kept self.new m ≡ (if no == m then shut (kept self.old m) else kept self.old m)) }
+        ensures kept { OnOk result ((m : ℕ) → kept self.new m
+            ≡ (if no == m then shut (kept self.old m) else kept self.old m)) }
         ensures same { OnErr result ((m : ℕ) → kept self.new m ≡ kept self.old m) }
     {
         match &mut self.newest {
@@ -245,7 +249,8 @@ impl Table {
 #[inline(never)]
 fn feed(older: &mut BTreeMap<u32, Fed>, no: u32) -> Result<(), Misfit>
     ensures refused { result_err result ≡ job_misfit (found nat_cmp older.old no) }
-    ensures kept { OnOk result ((m : ℕ) → found nat_cmp older.new m ≡ (if no == m then one_more (found nat_cmp older.old m) else found nat_cmp older.old m)) }
+    ensures kept { OnOk result ((m : ℕ) → found nat_cmp older.new m
+        ≡ (if no == m then one_more (found nat_cmp older.old m) else found nat_cmp older.old m)) }
     ensures same { OnErr result ((m : ℕ) → found nat_cmp older.new m ≡ found nat_cmp older.old m) }
 {
     match older.get_mut(&no) {
@@ -257,7 +262,8 @@ fn feed(older: &mut BTreeMap<u32, Fed>, no: u32) -> Result<(), Misfit>
 /// Closes a stroke of the map.
 fn close(older: &mut BTreeMap<u32, Fed>, no: u32) -> Result<(), Misfit>
     ensures refused { result_err result ≡ close_misfit (found nat_cmp older.old no) }
-    ensures kept { OnOk result ((m : ℕ) → found nat_cmp older.new m ≡ (if no == m then shut (found nat_cmp older.old m) else found nat_cmp older.old m)) }
+    ensures kept { OnOk result ((m : ℕ) → found nat_cmp older.new m
+        ≡ (if no == m then shut (found nat_cmp older.old m) else found nat_cmp older.old m)) }
     ensures same { OnErr result ((m : ℕ) → found nat_cmp older.new m ≡ found nat_cmp older.old m) }
 {
     match older.get_mut(&no) {

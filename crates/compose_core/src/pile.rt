@@ -57,7 +57,8 @@ impl Pile {
     pub fn add(&mut self, look: Look, given: Given) -> Result<(), NoMemory>
         requires known { IsPile self.old }
         ensures known { OnOk result (IsPile self.new) }
-        ensures laid { OnOk result ((p : Point) → pile_at self.new p ≡ with_look look (given_on given p) (pile_at self.old p)) }
+        ensures laid { OnOk result ((p : Point) → pile_at self.new p ≡ with_look look
+            (given_on given p) (pile_at self.old p)) }
     {
         given.tell_clean();
         if given.is_clear() {
@@ -83,7 +84,8 @@ impl Pile {
         requires known { IsPile self.old }
         requires clean { IsClean given.now }
         ensures known { IsPile self.new }
-        ensures same { (p : Point) → with_look look (given_on given.now p) (pile_at self.new p) ≡ with_look look (given_on given.now p) (pile_at self.old p) }
+        ensures same { (p : Point) → with_look look (given_on given.now p) (pile_at self.new p)
+            ≡ with_look look (given_on given.now p) (pile_at self.old p) }
     {
         if covers(look) && is_opaque(given) {
             self.clear();
@@ -95,7 +97,8 @@ impl Pile {
         requires known { IsPile self.old }
         requires clean { IsClean given }
         ensures known { OnOk result (IsPile self.new) }
-        ensures laid { OnOk result ((p : Point) → pile_at self.new p ≡ with_look look (given_on given p) (pile_at self.old p)) }
+        ensures laid { OnOk result ((p : Point) → pile_at self.new p ≡ with_look look
+            (given_on given p) (pile_at self.old p)) }
     {
         self.looks.push(look)?;
         self.tiles.push(given)?;
@@ -134,7 +137,8 @@ fn is_opaque(given: &Given) -> bool
 
 /// Whether all pixels are opaque. It looks no further than the first that isn't.
 fn is_all_opaque(pixels: &[Pixel]) -> bool
-    ensures { result ≡ true → (k : ℕ) → k < length pixels.now → (slice_index_or pixels.now k clear).a ≡ 255 }
+    ensures { result ≡ true → (k : ℕ) → k < length pixels.now
+        → (slice_index_or pixels.now k clear).a ≡ 255 }
 {
     for pixel in pixels {
         if alpha_of(*pixel) != 255 {

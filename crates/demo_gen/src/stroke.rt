@@ -79,7 +79,8 @@ fn dab(state: &mut u64, no: u32, place: u32) -> Command
 
 /// Adds the dabs of the stroke.
 fn add_dabs(commands: &mut Vec<Command>, state: &mut u64, no: u32) -> Result<(), NoMemory>
-    ensures commands { OnOk result (commands.new.items ≡ commands.old.items ++ dabs no 24 state.old) }
+    ensures commands { OnOk result (commands.new.items ≡ commands.old.items ++ dabs no 24
+        state.old) }
     ensures state { OnOk result (state.new ≡ after_dabs 24 state.old) }
 {
     for place in 0..DABS {
@@ -141,7 +142,8 @@ fn closing(no: u32) -> Command
 /// Adds the stroke, and tells its layer.
 fn add_stroke(commands: &mut Vec<Command>, state: &mut u64, no: u32) -> Result<u16, NoMemory>
     ensures layer { IfOk result (λ id. id ≡ layer state.old) }
-    ensures commands { OnOk result (commands.new.items ≡ commands.old.items ++ stroke no state.old) }
+    ensures commands { OnOk result (commands.new.items ≡ commands.old.items ++ stroke no
+        state.old) }
     ensures state { OnOk result (state.new ≡ after_stroke state.old) }
 {
     let layer = 3 + draw(state, 6) as u16;
@@ -187,8 +189,10 @@ fn look(state: &mut u64, id: u16) -> Command
 
 /// Adds a look of the layer with each fifth stroke.
 fn add_look(commands: &mut Vec<Command>, state: &mut u64, no: u32, id: u16) -> Result<(), NoMemory>
-    ensures commands { OnOk result (commands.new.items ≡ commands.old.items ++ only_if ((no % 5) == 0) (said_look id state.old)) }
-    ensures state { OnOk result (state.new ≡ (if (no % 5) == 0 then later 2 state.old else state.old)) }
+    ensures commands { OnOk result (commands.new.items ≡ commands.old.items ++ only_if
+        ((no % 5) == 0) (said_look id state.old)) }
+    ensures state { OnOk result (state.new ≡ (if (no % 5) == 0 then later 2 state.old else
+        state.old)) }
 {
     if no % 5 == 0 {
         let command = look(state, id);

@@ -32,8 +32,10 @@ pub struct Arrangement {
 /// stands first, as it is the first to be given back. No memory.
 pub fn exchange_devices(devices: &mut BTreeMap<u16, Option<Device>>, slots: &mut [SlotDevice])
     requires { AllHave (has_slot devices.old) slots.old }
-    ensures new { (q : ℕ) → device_in devices.new q ≡ once_filled (λ o. o) (device_in devices.old) slots.old q }
-    ensures back { (q : ℕ) → once_filled (λ o. o) (device_in devices.new) slots.new q ≡ device_in devices.old q }
+    ensures new { (q : ℕ) → device_in devices.new q ≡ once_filled (λ o. o) (device_in devices.old)
+        slots.old q }
+    ensures back { (q : ℕ) → once_filled (λ o. o) (device_in devices.new) slots.new q
+        ≡ device_in devices.old q }
     ensures slots { (q : ℕ) → has_slot devices.new q ≡ has_slot devices.old q }
     ensures there { AllHave (has_slot devices.new) slots.new }
 {
@@ -46,7 +48,8 @@ pub fn exchange_devices(devices: &mut BTreeMap<u16, Option<Device>>, slots: &mut
 /// Exchanges the device with the one in the slot of its id, which is there.
 fn exchange_device(devices: &mut BTreeMap<u16, Option<Device>>, slot: &mut SlotDevice)
     requires { has_slot devices.old slot.old.id ≡ true }
-    ensures new { (q : ℕ) → device_in devices.new q ≡ cond (slot.old.id == q) slot.old.device (device_in devices.old q) }
+    ensures new { (q : ℕ) → device_in devices.new q ≡ cond (slot.old.id == q) slot.old.device
+        (device_in devices.old q) }
     ensures id { slot.new.id ≡ slot.old.id }
     ensures back { slot.new.device ≡ device_in devices.old slot.old.id }
     ensures slots { (q : ℕ) → has_slot devices.new q ≡ has_slot devices.old q }
@@ -65,7 +68,8 @@ pub fn slots_of(
     tree: &Tree,
     change: &Change,
 ) -> Result<Vec<SlotDevice>, NoMemory>
-    ensures ok { IfOk result (λ v. (q : ℕ) → once_filled (λ o. o) (device_in devices.old) v.items q ≡ devices_after change.now tree.now (device_in devices.old) q) }
+    ensures ok { IfOk result (λ v. (q : ℕ) → once_filled (λ o. o) (device_in devices.old) v.items q
+        ≡ devices_after change.now tree.now (device_in devices.old) q) }
     ensures there { IfOk result (λ v. AllHave (has_slot devices.new) v.items) }
     ensures same { (q : ℕ) → device_in devices.new q ≡ device_in devices.old q }
     ensures more { (q : ℕ) → has_slot devices.old q ≡ true → has_slot devices.new q ≡ true }
@@ -103,7 +107,8 @@ fn emptied(
     devices: &BTreeMap<u16, Option<Device>>,
     tree: &Tree,
 ) -> Result<Vec<SlotDevice>, NoMemory>
-    ensures ok { IfOk result (λ v. (q : ℕ) → once_filled (λ o. o) (device_in devices.now) v.items q ≡ cond (is_some (content q tree.now)) (device_in devices.now q) None) }
+    ensures ok { IfOk result (λ v. (q : ℕ) → once_filled (λ o. o) (device_in devices.now) v.items q
+        ≡ cond (is_some (content q tree.now)) (device_in devices.now q) None) }
     ensures there { IfOk result (λ v. AllHave (has_slot devices.now) v.items) }
 {
     let mut slots = Vec::new(alloc);

@@ -95,7 +95,8 @@ impl Document {
 
         // No key goes away, so it can be exchanged again.
         ensures stand { StandIn found.new (device_in self.new.slots id) }
-        ensures kept { standing self.old.tree self.old.slots ≡ standing self.new.tree self.new.slots }
+        ensures kept { standing self.old.tree self.old.slots ≡ standing self.new.tree
+            self.new.slots }
         ensures counts { steps.new ≡ steps.old + set.len (keys_in found.old) }
     {
         match device_mut(&mut self.slots, id) {
@@ -116,8 +117,10 @@ impl Document {
         requires there { StandIn found.old (device_in self.old.slots id) }
 
         // The tile is changed, and what was noted still gives back the document from before the stroke.
-        ensures ok { (w : Paint) → Makes w made.now → OnOk result (doc_in self.new ≡ adjusted id (published w.job (paints.layer_of w.shot) w.key) (doc_in self.old)) }
-        ensures keys { OnOk result (keys_in found.new ≡ set.insert (keys_in found.old) made.now.key) }
+        ensures ok { (w : Paint) → Makes w made.now → OnOk result (doc_in self.new
+            ≡ adjusted id (published w.job (paints.layer_of w.shot) w.key) (doc_in self.old)) }
+        ensures keys { OnOk result (keys_in found.new ≡ set.insert (keys_in found.old)
+            made.now.key) }
         ensures back { Regains id found.old found.new self.old self.new }
 
         // Without memory no pixel has changed, and nothing was noted.
@@ -146,8 +149,11 @@ impl Document {
         requires known { base ≡ Known → HasBaseIn whole.now (device_in self.old.slots id) }
 
         // The tile is changed, and what was noted still gives back the document from before the stroke.
-        ensures ok { (shot : Layer) → Shows whole.now.needs whole.now.base shot → OnOk result (doc_in self.new ≡ adjusted id (published whole.now.job shot whole.now.key) (doc_in self.old)) }
-        ensures keys { OnOk result (keys_in found.new ≡ set.insert (keys_in found.old) whole.now.key) }
+        ensures ok { (shot : Layer) → Shows whole.now.needs whole.now.base shot
+            → OnOk result (doc_in self.new ≡ adjusted id (published whole.now.job shot
+            whole.now.key) (doc_in self.old)) }
+        ensures keys { OnOk result (keys_in found.new ≡ set.insert (keys_in found.old)
+            whole.now.key) }
         ensures back { Regains id found.old found.new self.old self.new }
 
         // Without memory no pixel has changed, and nothing was noted.
@@ -173,8 +179,10 @@ impl Document {
         requires there { StandIn found.old (device_in self.old.slots id) }
 
         // The tile is changed, and what was noted still gives back the document from before the stroke.
-        ensures ok { OnOk result (doc_in self.new ≡ adjusted id (all_painted_in work.now.jobs work.now.key) (doc_in self.old)) }
-        ensures keys { OnOk result (keys_in found.new ≡ set.insert (keys_in found.old) work.now.key) }
+        ensures ok { OnOk result (doc_in self.new
+            ≡ adjusted id (all_painted_in work.now.jobs work.now.key) (doc_in self.old)) }
+        ensures keys { OnOk result (keys_in found.new ≡ set.insert (keys_in found.old)
+            work.now.key) }
         ensures back { Regains id found.old found.new self.old self.new }
 
         // Without memory no pixel has changed, and nothing was noted.
@@ -193,11 +201,14 @@ impl Document {
     /// # Errors
     /// `Tree` with the first refusal, exactly where there is one.
     pub fn changed(&mut self, alloc: Global, change: &Change) -> Result<Arrangement, TreeRefusal>
-        ensures ok { IfOk result (λ a. changed plain change.now (doc_in self.old) ≡ Ok (arranged a (doc_in self.old))) }
+        ensures ok { IfOk result (λ a. changed plain change.now (doc_in self.old)
+            ≡ Ok (arranged a (doc_in self.old))) }
         ensures fits { IfOk result (λ a. Fits a (standing self.new.tree self.new.slots)) }
-        ensures tree { (fault : TreeFault) → result ≡ Err (refusal.Tree fault) → changed plain change.now (doc_in self.old) ≡ Err fault }
+        ensures tree { (fault : TreeFault) → result ≡ Err (refusal.Tree fault)
+            → changed plain change.now (doc_in self.old) ≡ Err fault }
         ensures same { doc_in self.new ≡ doc_in self.old }
-        ensures grows { Grows (standing self.old.tree self.old.slots) (standing self.new.tree self.new.slots) }
+        ensures grows { Grows (standing self.old.tree self.old.slots)
+            (standing self.new.tree self.new.slots) }
     {
         let _count = self.tree.node_count();
         let mut tree = self.tree.copy();
@@ -217,8 +228,10 @@ impl Document {
         requires { Fits other.old (standing self.old.tree self.old.slots) }
         ensures new { doc_in self.new ≡ arranged other.old (doc_in self.old) }
         ensures back { arranged other.new (doc_in self.new) ≡ doc_in self.old }
-        ensures stands { arranged_standing other.old (standing self.old.tree self.old.slots) ≡ standing self.new.tree self.new.slots }
-        ensures stood { arranged_standing other.new (standing self.new.tree self.new.slots) ≡ standing self.old.tree self.old.slots }
+        ensures stands { arranged_standing other.old (standing self.old.tree self.old.slots)
+            ≡ standing self.new.tree self.new.slots }
+        ensures stood { arranged_standing other.new (standing self.new.tree self.new.slots)
+            ≡ standing self.old.tree self.old.slots }
         ensures fits { Fits other.new (standing self.new.tree self.new.slots) }
     {
         self.tree.exchange(&mut other.tree);

@@ -41,7 +41,8 @@ impl HistoryEntry {
         ensures doc { doc_in doc.new ≡ doc_of (doc_in doc.old) self.old }
         ensures back { doc_of (doc_in doc.new) self.new ≡ doc_in doc.old }
         ensures same { reach_in self.new ≡ reach_in self.old }
-        ensures keys { Trades (standing doc.old.tree doc.old.slots) (standing doc.new.tree doc.new.slots) self.old self.new }
+        ensures keys { Trades (standing doc.old.tree doc.old.slots)
+            (standing doc.new.tree doc.new.slots) self.old self.new }
 
         // What is told of it.
         ensures reach { TellsReach (reach_in self.old) (doc_in doc.new) result }

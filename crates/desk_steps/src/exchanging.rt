@@ -46,7 +46,9 @@ pub fn put_whole(
     requires known { base ≡ Known → HasBase whole.now device.old }
 
     // The tile is changed, and what was noted still gives back the layer from before the stroke.
-    ensures ok { (shot : Layer) → Shows whole.now.needs whole.now.base shot → OnOk result (layer_of device.new ≡ published whole.now.job shot whole.now.key (layer_of device.old)) }
+    ensures ok { (shot : Layer) → Shows whole.now.needs whole.now.base shot
+        → OnOk result (layer_of device.new ≡ published whole.now.job shot whole.now.key
+        (layer_of device.old)) }
     ensures keys { OnOk result (keys_in found.new ≡ set.insert (keys_in found.old) whole.now.key) }
     ensures back { GivesBack found.old found.new device.old device.new }
 
@@ -88,7 +90,8 @@ fn has_base(device: &Device, whole: &Whole, base: Base) -> bool
 /// Whether the device has the base's pixels in the tile, as far as it is seen at once.
 fn stands_as(device: &Device, base: &Shot, key: TileKey) -> bool
     requires { IsWorldKey key }
-    ensures { result ≡ true → (p : Point) → in_tile key p ≡ true → sheet_at device.now p ≡ sight_at base.now p }
+    ensures { result ≡ true → (p : Point) → in_tile key p ≡ true → sheet_at device.now p
+        ≡ sight_at base.now p }
 {
     match (device.tile(key), base.tile(key)) {
         (Some(now), Some(before)) => now.same_in(before, key, &key.rect()),
@@ -111,7 +114,8 @@ fn merged(alloc: Global, device: &Device, whole: &Whole) -> Result<Tile, NoMemor
 
 /// A tile with the new tile's pixels on what it has of a rectangle.
 fn with_part(alloc: Global, tile: Tile, whole: &Whole, rect: &Rect) -> Result<Tile, NoMemory>
-    ensures { IfOk result (λ t. (p : Point) → in_tile whole.now.key p ≡ true → pixel_at t p ≡ cond (holds rect.now p) (pixel_at whole.now.tile p) (pixel_at tile p)) }
+    ensures { IfOk result (λ t. (p : Point) → in_tile whole.now.key p ≡ true → pixel_at t p
+        ≡ cond (holds rect.now p) (pixel_at whole.now.tile p) (pixel_at tile p)) }
 {
     let key = whole.key();
     match rect.clip(&key.rect()) {

@@ -33,7 +33,8 @@ pub fn lay(
     made: &Made,
 ) -> Result<(), NoMemory>
     requires { StandIn found.old (Some device.old) }
-    ensures ok { (w : Paint) → Makes w made.now → OnOk result (layer_of device.new ≡ published w.job (paints.layer_of w.shot) w.key (layer_of device.old)) }
+    ensures ok { (w : Paint) → Makes w made.now → OnOk result (layer_of device.new ≡ published w.job
+        (paints.layer_of w.shot) w.key (layer_of device.old)) }
     ensures keys { OnOk result (keys_in found.new ≡ set.insert (keys_in found.old) made.now.key) }
     ensures back { GivesBack found.old found.new device.old device.new }
     ensures err { OnErr result (layer_of device.new ≡ layer_of device.old) }
@@ -50,7 +51,8 @@ pub fn lay(
 /// whether it did; else nothing changes. No memory.
 fn laid_in_place(device: &mut Device, found: &Revision<Tile>, made: &Made) -> bool
     requires { StandIn found.now (Some device.old) }
-    ensures laid { (w : Paint) → Makes w made.now → result ≡ true → layer_of device.new ≡ published w.job (paints.layer_of w.shot) w.key (layer_of device.old) }
+    ensures laid { (w : Paint) → Makes w made.now → result ≡ true → layer_of device.new
+        ≡ published w.job (paints.layer_of w.shot) w.key (layer_of device.old) }
     ensures among { result ≡ true → map.contains_key found.now made.now.key ≡ true }
     ensures back { GivesBack found.now found.now device.old device.new }
     ensures kept { result ≡ false → device.new ≡ device.old }
@@ -97,7 +99,8 @@ pub fn show_under(
     requires there { StandIn found.old (Some device.old) }
 
     // The tile is shown, and what was noted still gives back the layer from before the stroke.
-    ensures ok { OnOk result (layer_of device.new ≡ layer_of (with_under device.old key (Some tile))) }
+    ensures ok { OnOk result (layer_of device.new
+        ≡ layer_of (with_under device.old key (Some tile))) }
     ensures keys { OnOk result (keys_in found.new ≡ set.insert (keys_in found.old) key) }
     ensures back { GivesBack found.old found.new device.old device.new }
 
@@ -114,7 +117,8 @@ pub fn show_under(
 
 /// Whether no tile stands under the key, and this one has nothing but the ground.
 fn adds_nothing(device: &Device, key: TileKey, tile: &Tile) -> bool
-    ensures { result ≡ true → layer_of (with_under device.now key (Some tile.now)) ≡ layer_of device.now }
+    ensures { result ≡ true → layer_of (with_under device.now key (Some tile.now))
+        ≡ layer_of device.now }
 {
     match device.tile(key) {
         Some(_) => false,
@@ -152,7 +156,8 @@ fn note_under(device: &mut Device, found: &mut Revision<Tile>, key: TileKey) -> 
     requires world { IsWorldKey key }
     requires there { StandIn found.old (Some device.old) }
     ensures ok { OnOk result (device.new ≡ readied device.old key) }
-    ensures noted { OnOk result (found.new ≡ noted_under found.old key (tile_under device.old.tiles key)) }
+    ensures noted { OnOk result (found.new ≡ noted_under found.old key (tile_under device.old.tiles
+        key)) }
     ensures keys { OnOk result (keys_in found.new ≡ set.insert (keys_in found.old) key) }
     ensures back { GivesBack found.old found.new device.old device.new }
     ensures same { layer_of device.new ≡ layer_of device.old }
@@ -189,7 +194,8 @@ fn laid(alloc: Global, device: &Device, made: &Made) -> Result<Tile, NoMemory>
 
 /// The tile under the key, or one of the default pixel. What is there is shared, not copied.
 pub fn tile_under(alloc: Global, device: &Device, key: TileKey) -> Result<Tile, NoMemory>
-    ensures { IfOk result (λ t. (p : Point) → in_tile key p ≡ true → pixel_at t p ≡ sheet_at device.now p) }
+    ensures { IfOk result (λ t. (p : Point) → in_tile key p ≡ true → pixel_at t p
+        ≡ sheet_at device.now p) }
 {
     match device.tile(key) {
         Some(tile) => tile.share(),

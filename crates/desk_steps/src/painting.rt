@@ -30,7 +30,8 @@ pub fn paint(
     work: &PointWork<'_>,
 ) -> Result<(), NoMemory>
     requires { StandIn found.old (Some device.old) }
-    ensures ok { OnOk result (layer_of device.new ≡ all_painted_in work.now.jobs work.now.key (layer_of device.old)) }
+    ensures ok { OnOk result (layer_of device.new ≡ all_painted_in work.now.jobs work.now.key
+        (layer_of device.old)) }
     ensures keys { OnOk result (keys_in found.new ≡ set.insert (keys_in found.old) work.now.key) }
     ensures back { GivesBack found.old found.new device.old device.new }
     ensures err { OnErr result (layer_of device.new ≡ layer_of device.old) }
@@ -56,7 +57,9 @@ fn painted(alloc: Global, device: &Device, work: &PointWork<'_>) -> Result<Tile,
 
 /// The one pixel that the point operations leave at all points of their tile. None where it finds none.
 fn plain_left(device: &Device, work: &PointWork<'_>) -> Option<Pixel>
-    ensures { IfSome result (λ c. LaysPoints work.now (tile_or (tile_under device.now.tiles work.now.key) device.now.default_pixel) (replicate 4096 c)) }
+    ensures { IfSome result (λ c. LaysPoints work.now
+        (tile_or (tile_under device.now.tiles work.now.key) device.now.default_pixel)
+        (replicate 4096 c)) }
 {
     match device.tile(work.key()) {
         Some(tile) => work.plain_on(tile),
@@ -106,7 +109,8 @@ fn painted_copy(alloc: Global, device: &Device, work: &PointWork<'_>) -> Result<
 /// A copy of the 4,096 pixels under the key.
 fn pixels_under(alloc: Global, device: &Device, key: TileKey) -> Result<Vec<Pixel>, NoMemory>
     ensures all { IfOk result (λ v. vec_len v ≡ 4096) }
-    ensures value { IfOk result (λ v. v.items ≡ tile_or (tile_under device.now.tiles key) device.now.default_pixel) }
+    ensures value { IfOk result (λ v. v.items ≡ tile_or (tile_under device.now.tiles key)
+        device.now.default_pixel) }
 {
     match device.tile(key) {
         Some(tile) => Ok(Vec::from_slice(alloc, tile.pixels())?),

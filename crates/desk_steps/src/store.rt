@@ -97,9 +97,12 @@ impl Store {
     /// however many tiles the layer has.
     pub fn begin(&mut self, layer: u16) -> Result<Begun, NoMemory>
         requires { self.old.way ≡ None }
-        ensures ready { result ≡ Ok Ready → (is_some (content layer self.old.present) ≡ true) × (self.new ≡ record self.old { way = Some (layer, set.empty) }) }
-        ensures no_layer { result ≡ Ok NoLayer → (there layer self.old.present ≡ false) × (self.new ≡ self.old) }
-        ensures not_paint { result ≡ Ok NotPaint → ((there layer self.old.present ≡ true) × (content layer self.old.present ≡ None)) × (self.new ≡ self.old) }
+        ensures ready { result ≡ Ok Ready → (is_some (content layer self.old.present) ≡ true)
+            × (self.new ≡ record self.old { way = Some (layer, set.empty) }) }
+        ensures no_layer { result ≡ Ok NoLayer → (there layer self.old.present ≡ false)
+            × (self.new ≡ self.old) }
+        ensures not_paint { result ≡ Ok NotPaint → ((there layer self.old.present ≡ true)
+            × (content layer self.old.present ≡ None)) × (self.new ≡ self.old) }
         ensures err { OnErr result (self.new ≡ self.old) }
     {
         match self.doc.layer(layer) {
@@ -144,7 +147,8 @@ impl Store {
     /// their tile before and nobody shares it, one block is laid in place, and takes no memory.
     pub fn put_made(&mut self, alloc: Global, made: &Made) -> Result<(), NoMemory>
         requires { is_some self.old.way ≡ true }
-        ensures ok { (w : Paint) → Makes w made.now → OnOk result (self.new ≡ with_put self.old.way w self.old) }
+        ensures ok { (w : Paint) → Makes w made.now → OnOk result (self.new ≡ with_put self.old.way
+            w self.old) }
         ensures err { OnErr result (self.new ≡ self.old) }
         ensures known { IsMade made.now }
     {
@@ -161,7 +165,8 @@ impl Store {
     pub fn put_whole(&mut self, alloc: Global, whole: &Whole, base: Base) -> Result<(), NoMemory>
         requires under_way { is_some self.old.way ≡ true }
         requires known { base ≡ Known → IsMadeFrom whole.now (layer_now self.old) }
-        ensures ok { (w : Paint) → IsOf w whole.now → OnOk result (self.new ≡ with_put self.old.way w self.old) }
+        ensures ok { (w : Paint) → IsOf w whole.now → OnOk result (self.new ≡ with_put self.old.way
+            w self.old) }
         ensures err { OnErr result (self.new ≡ self.old) }
         ensures known { IsEntire whole.now }
     {
@@ -208,7 +213,8 @@ impl Store {
     pub fn revert<L: Ledger>(&mut self, steps: &mut Steps<L>) -> Touched
         requires { is_some self.old.way ≡ true }
         ensures new { self.new ≡ reverted self.old }
-        ensures touched { (layer : ℕ) (keys : set.FinSet _) → self.old.way ≡ Some (layer, keys) → HasTouched keys result }
+        ensures touched { (layer : ℕ) (keys : set.FinSet _) → self.old.way ≡ Some (layer, keys)
+            → HasTouched keys result }
         ensures counts { steps.new ≡ steps.old + result.count }
     {
         match self.way.take() {
@@ -228,7 +234,8 @@ impl Store {
         requires { self.old.way ≡ None }
         ensures whole { IfOk result (λ r. r ≡ tells.Whole) }
         ensures ok { OnOk result (Changes change.now self.old self.new) }
-        ensures tree { (fault : TreeFault) → result ≡ Err (refusal.Tree fault) → changed plain change.now self.old.base ≡ Err fault }
+        ensures tree { (fault : TreeFault) → result ≡ Err (refusal.Tree fault)
+            → changed plain change.now self.old.base ≡ Err fault }
         ensures err { OnErr result (self.new ≡ self.old) }
     {
         let mut other = self.doc.changed(alloc, change)?;
@@ -287,7 +294,8 @@ impl Store {
 
     /// The device of a paint layer, which tells its tiles. None exactly where the id is no paint layer.
     pub fn layer(&self, id: u16) -> Option<&Device>
-        ensures some { IfSome result (λ d. content id self.now.present ≡ Some (seen.layer_of d.now)) }
+        ensures some { IfSome result (λ d. content id self.now.present
+            ≡ Some (seen.layer_of d.now)) }
         ensures none { IfNone result (content id self.now.present ≡ None) }
     {
         self.doc.layer(id)
@@ -298,8 +306,11 @@ impl Store {
     /// tells whether a tile stands there.
     pub fn tile(&self, layer: u16, key: TileKey) -> Option<&Tile>
         ensures some { IfSome result (λ t. is_some (content layer self.now.present) ≡ true) }
-        ensures held { IfSome result (λ t. (p : Point) → same_key (key_of p) key ≡ true → at (layer_in layer self.now.present) p ≡ pixel_at t.now p) }
-        ensures plain { IfNone result ((p : Point) → same_key (key_of p) key ≡ true → is_some (content layer self.now.present) ≡ true → at (layer_in layer self.now.present) p ≡ (layer_in layer self.now.present).default_pixel) }
+        ensures held { IfSome result (λ t. (p : Point) → same_key (key_of p) key ≡ true
+            → at (layer_in layer self.now.present) p ≡ pixel_at t.now p) }
+        ensures plain { IfNone result ((p : Point) → same_key (key_of p) key ≡ true
+            → is_some (content layer self.now.present) ≡ true → at (layer_in layer self.now.present)
+            p ≡ (layer_in layer self.now.present).default_pixel) }
     {
         self.doc.layer(layer)?.tile(key)
     }

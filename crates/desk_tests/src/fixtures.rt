@@ -78,7 +78,8 @@ pub(crate) fn feed(desk: &mut Desk, script: &Script, count: usize) -> Result<(),
 /// Whether all of a script was fed to a desk.
 #[tactic(auto, using(crate::proofs::Following::closed_of))]
 fn is_fed(alloc: Global, desk: &Desk, script: &Script) -> Result<bool, NoMemory>
-    ensures { IfOk result (λ all. all ≡ true → list_all is_closed_entry (entries desk.now.fed) ≡ true) }
+    ensures { IfOk result (λ all. all ≡ true → list_all is_closed_entry (entries desk.now.fed)
+        ≡ true) }
 {
     let fed = Vec::from_slice(alloc, desk.commands())?;
     match made(alloc, script.canvas(), fed)? {

@@ -262,7 +262,8 @@ fn shows_all(rects: &[Rect], shot: &Shot) -> bool
 fn can_paint(job: &Job, shot: &Shot, key: TileKey) -> bool
     ensures checked { result ≡ true → checks job.now ≡ true }
     ensures limits { result ≡ true → within_limits job.now ≡ true }
-    ensures seen { result ≡ true → list_all (λ a. list_any (lies_in a) shot.now.rects) (reads job.now) ≡ true }
+    ensures seen { result ≡ true → list_all (λ a. list_any (lies_in a) shot.now.rects)
+        (reads job.now) ≡ true }
     ensures met { result ≡ true → list_any (same_key key) (all_keys_of (writes job.now)) ≡ true }
 {
     if job.check().is_err() || !job.is_within_limits() {

@@ -72,9 +72,12 @@ impl Queue {
     /// `NoMemory`; all is as it was.
     pub fn push(&mut self, command: &Command) -> Result<(), NoMemory>
         requires { takes self.old.left command.now ≡ true }
-        ensures ok { OnOk result (self.new ≡ record self.old { left = pushed self.old.left command.now }) }
+        ensures ok { OnOk result (self.new ≡ record self.old { left = pushed self.old.left
+            command.now }) }
         ensures err { OnErr result (self.new ≡ self.old) }
-        ensures stands { (before : List Command) → lawful (before ++ command.now ∷ []) ≡ true → StandsFor before self.old → OnOk result (StandsFor (before ++ command.now ∷ []) self.new) }
+        ensures stands { (before : List Command) → lawful (before ++ command.now ∷ []) ≡ true
+            → StandsFor before self.old → OnOk result (StandsFor (before ++ command.now ∷ [])
+            self.new) }
     {
         match command {
             Command::Stroke {
@@ -117,7 +120,8 @@ impl Queue {
         requires { may_leave self.old.left ≡ true }
         ensures left { self.new.left ≡ drop 1 self.old.left }
         ensures outcomes { self.new.outcomes ≡ self.old.outcomes ++ outcome ∷ [] }
-        ensures stands { (before : List Command) → StandsFor before self.old → StandsFor before self.new }
+        ensures stands { (before : List Command) → StandsFor before self.old → StandsFor before
+            self.new }
     {
         let Some(key) = self.keys.pop_front() else {
             unreachable!()
@@ -147,7 +151,8 @@ impl Queue {
     /// A new waiting stroke.
     fn open(&mut self, no: u32, layer: u16, exclusive: bool) -> Result<(), NoMemory>
         requires { list_any (is_numbered no) self.old.left ≡ false }
-        ensures ok { OnOk result (self.new ≡ record self.old { left = self.old.left ++ Waiting (begun no layer exclusive) ∷ [] }) }
+        ensures ok { OnOk result (self.new ≡ record self.old { left = self.old.left ++ Waiting
+            (begun no layer exclusive) ∷ [] }) }
         ensures err { OnErr result (self.new ≡ self.old) }
     {
         let stroke = OpenStroke::new(self.alloc, no, layer, exclusive);
@@ -159,7 +164,8 @@ impl Queue {
 
     /// A new entry that is no stroke.
     fn append(&mut self, command: Command) -> Result<(), NoMemory>
-        ensures ok { OnOk result (self.new ≡ record self.old { left = self.old.left ++ Other command ∷ [] }) }
+        ensures ok { OnOk result (self.new ≡ record self.old { left = self.old.left ++ Other command
+            ∷ [] }) }
         ensures err { OnErr result (self.new ≡ self.old) }
     {
         take_room(&mut self.entries, &mut self.keys, &mut self.outcomes)?;
@@ -171,7 +177,8 @@ impl Queue {
     fn add(&mut self, no: u32, kind: Kind, job: &Job) -> Result<(), NoMemory>
         requires checked { checks job.now ≡ true }
         requires room { list_any (has_room no) self.old.left ≡ true }
-        ensures ok { OnOk result (self.new ≡ record self.old { left = map (with_job no (kind, job.now)) self.old.left }) }
+        ensures ok { OnOk result (self.new ≡ record self.old
+            { left = map (with_job no (kind, job.now)) self.old.left }) }
         ensures err { OnErr result (self.new ≡ self.old) }
     {
         let Some(key) = self.waiting.get(no) else {
@@ -217,7 +224,8 @@ fn is_shut_at(entries: &Slab<Entry>, key: usize) -> bool
 fn feed(entries: &mut Slab<Entry>, key: usize, kind: Kind, job: &Job) -> Result<(), NoMemory>
     requires checked { checks job.now ≡ true }
     requires room { IsSomeAnd (get entries.old key) TakesJob }
-    ensures ok { OnOk result (Updates entries.old entries.new key (option_map (after_job (kind, job.now)) (get entries.old key))) }
+    ensures ok { OnOk result (Updates entries.old entries.new key
+        (option_map (after_job (kind, job.now)) (get entries.old key))) }
     ensures err { OnErr result (SameValues entries.old entries.new) }
 {
     match entries.get_mut(key) {
@@ -289,7 +297,8 @@ fn take_room(
     ensures room { vec_len outcomes.new + length keys.new.items ≤ vec_capacity outcomes.new }
     ensures one_entry { OnOk result (HasRoomFor entries.new 1) }
     ensures one_key { OnOk result (deque_len keys.new < deque_capacity keys.new) }
-    ensures one_outcome { OnOk result (vec_len outcomes.new + length keys.new.items + 1 ≤ vec_capacity outcomes.new) }
+    ensures one_outcome { OnOk result (vec_len outcomes.new + length keys.new.items + 1 ≤
+        vec_capacity outcomes.new) }
 {
     outcomes.reserve(keys.len() + 1)?;
     keys.reserve(1)?;

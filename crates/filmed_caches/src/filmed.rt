@@ -101,7 +101,8 @@ impl FilmedCaches {
         given: &Given,
     ) -> Result<(), NoMemory>
         requires { IsWorldKey key }
-        ensures ok { OnOk result ((f : Point → Rgba) → SameThere rect.now key (given_on given.now) f → self.new.caches ≡ with_picture self.old.caches group rect.now key f) }
+        ensures ok { OnOk result ((f : Point → Rgba) → SameThere rect.now key (given_on given.now) f
+            → self.new.caches ≡ with_picture self.old.caches group rect.now key f) }
         ensures err { OnErr result (self.new.caches ≡ self.old.caches) }
         ensures frames { self.new.frames ≡ self.old.frames }
     {
@@ -116,7 +117,8 @@ impl FilmedCaches {
         requires few { length groups.now ≤ 257 }
         requires once { IsDistinct nat_eq groups.now }
         requires of_tree { (doc : Doc) × (groups.now ≡ order doc ++ 0 ∷ []) }
-        ensures caches { (doc : Doc) → groups.now ≡ order doc ++ 0 ∷ [] → self.new.caches ≡ caches_for self.old.caches doc }
+        ensures caches { (doc : Doc) → groups.now ≡ order doc ++ 0 ∷ [] → self.new.caches
+            ≡ caches_for self.old.caches doc }
         ensures frames { self.new.frames ≡ self.old.frames }
     {
         self.caches.keep(groups);
@@ -173,7 +175,8 @@ impl FilmedCaches {
 
 /// Marks the tile, where it is one of the root.
 fn mark_laid(laid: &mut Marks, group: u16, key: TileKey)
-    ensures { (k : Key) → has_mark laid.new k ≡ (has_mark laid.old k || ((group == 0) && (same_key k key && on_canvas k))) }
+    ensures { (k : Key) → has_mark laid.new k
+        ≡ (has_mark laid.old k || ((group == 0) && (same_key k key && on_canvas k))) }
 {
     if group == ROOT {
         laid.mark(key);

@@ -99,7 +99,8 @@ impl OpenRows {
     /// Closes the innermost group, and lays it on the group round it.
     pub(crate) fn end(&mut self, op: Op, opacity: u8)
         requires { 2 ≤ length self.old }
-        ensures ended { (k : ℕ) → k < 64 → column k self.new ≡ ended op opacity (column k self.old) }
+        ensures ended { (k : ℕ) → k < 64 → column k self.new ≡ ended op opacity
+            (column k self.old) }
         ensures many { length self.new + 1 ≡ length self.old }
     {
         let sources = self.innermost();

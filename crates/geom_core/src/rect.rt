@@ -185,7 +185,8 @@ impl Rect {
     pub fn clip(&self, other: &Rect) -> Option<Rect>
         ensures value { result ≡ clipped self.now other.now }
         ensures shared { IfSome result (IsShared self.now other.now) }
-        ensures apart { IfNone result ((p : Point) → holds self.now p ≡ true → holds other.now p ≡ false) }
+        ensures apart { IfNone result ((p : Point) → holds self.now p ≡ true → holds other.now p
+            ≡ false) }
     {
         if self.meets(other) {
             Some(self.common_part(other))
@@ -359,7 +360,8 @@ fn crosses(a: u32, n: u32, b: u32, m: u32) -> bool
 fn spanned(a: u32, n: u32, b: u32, m: u32) -> bool
     requires first { a + n ≤ 32768 }
     requires second { b + m ≤ 32768 }
-    ensures { result ≡ (int_le (pos b -ℤ pos 16384) (pos a -ℤ pos 16384) && int_le ((pos a -ℤ pos 16384) +ℤ pos n) ((pos b -ℤ pos 16384) +ℤ pos m)) }
+    ensures { result ≡ (int_le (pos b -ℤ pos 16384) (pos a -ℤ pos 16384) && int_le
+        ((pos a -ℤ pos 16384) +ℤ pos n) ((pos b -ℤ pos 16384) +ℤ pos m)) }
 {
     b <= a && a + n <= b + m
 }
@@ -369,7 +371,8 @@ fn spanned(a: u32, n: u32, b: u32, m: u32) -> bool
 fn shifted(a: u32, n: u32, d: i32) -> Option<u32>
     requires inside { a + n ≤ 32768 }
     requires d { negsuc 32766 ≤ℤ d × d ≤ℤ pos 32767 }
-    ensures { MatchOption result ((pos a +ℤ d) <ℤ pos 0 ⊎ pos (32768 - n) <ℤ (pos a +ℤ d)) (λ b. (pos b ≡ pos a +ℤ d) × (b + n ≤ 32768)) }
+    ensures { MatchOption result ((pos a +ℤ d) <ℤ pos 0 ⊎ pos (32768 - n) <ℤ (pos a +ℤ d))
+        (λ b. (pos b ≡ pos a +ℤ d) × (b + n ≤ 32768)) }
 {
     let b = a as i32 + d;
     if b < 0 || b > 32768 - n as i32 {
@@ -381,7 +384,8 @@ fn shifted(a: u32, n: u32, d: i32) -> Option<u32>
 /// How far x lies behind a, which counts from the world's edge.
 fn behind(a: u32, n: u32, x: i32) -> u32
     requires inside { a + n ≤ 32768 }
-    requires held { (int_le (pos a -ℤ pos 16384) x && int_lt x ((pos a -ℤ pos 16384) +ℤ pos n)) ≡ true }
+    requires held { (int_le (pos a -ℤ pos 16384) x && int_lt x ((pos a -ℤ pos 16384) +ℤ pos n))
+        ≡ true }
     ensures value { result ≡ nat_abs (x -ℤ (pos a -ℤ pos 16384)) }
     ensures small { result < n }
 {

@@ -88,7 +88,8 @@ impl Caches {
         given: &Given,
     ) -> Result<(), NoMemory>
         requires { IsWorldKey key }
-        ensures ok { OnOk result ((f : Point → Rgba) → SameThere rect.now key (given_on given.now) f → self.new ≡ with_picture self.old group rect.now key f) }
+        ensures ok { OnOk result ((f : Point → Rgba) → SameThere rect.now key (given_on given.now) f
+            → self.new ≡ with_picture self.old group rect.now key f) }
         ensures err { OnErr result (self.new ≡ self.old) }
     {
         let alloc = self.alloc;
@@ -103,7 +104,8 @@ impl Caches {
     pub fn keep(&mut self, groups: &[u16])
         requires few { length groups.now ≤ 257 }
         requires once { IsDistinct nat_eq groups.now }
-        ensures { (doc : Doc) → groups.now ≡ order doc ++ 0 ∷ [] → self.new ≡ caches_for self.old doc }
+        ensures { (doc : Doc) → groups.now ≡ order doc ++ 0 ∷ [] → self.new ≡ caches_for self.old
+            doc }
     {
         bring(self.alloc, &mut self.places, &mut self.spare, groups);
         mem::swap(&mut self.places, &mut self.spare);
@@ -123,8 +125,10 @@ impl Caches {
 
     /// The tile of a group's cache under a key. Where there is none, the cache is clear on that tile.
     pub fn tile(&self, group: u16, key: TileKey) -> Option<&Tile>
-        ensures some { IfSome result (λ t. (p : Point) → in_tile key p ≡ true → pixel_at t.now p ≡ at (cache self.now group) p) }
-        ensures none { IfNone result ((p : Point) → in_tile key p ≡ true → at (cache self.now group) p ≡ clear) }
+        ensures some { IfSome result (λ t. (p : Point) → in_tile key p ≡ true → pixel_at t.now p
+            ≡ at (cache self.now group) p) }
+        ensures none { IfNone result ((p : Point) → in_tile key p ≡ true → at (cache self.now group)
+            p ≡ clear) }
     {
         match place_of(&self.places, group) {
             Some(i) => self.places[i].device.tile(key),
@@ -167,7 +171,9 @@ fn lay_first(
     requires lacks { LacksBelow group places.old.items (length places.old.items) }
     requires key { IsWorldKey key }
     requires clear { All IsClear places.old.items }
-    ensures ok { OnOk result ((f : Point → Rgba) → SameThere rect.now key (given_on given.now) f → caches_of places.new.items ≡ with_picture (caches_of places.old.items) group rect.now key f) }
+    ensures ok { OnOk result ((f : Point → Rgba) → SameThere rect.now key (given_on given.now) f
+        → caches_of places.new.items ≡ with_picture (caches_of places.old.items) group rect.now key
+        f) }
     ensures clear { All IsClear places.new.items }
     ensures room { vec_capacity places.old ≤ vec_capacity places.new }
     ensures err { OnErr result (places.new.items ≡ places.old.items) }
@@ -203,7 +209,8 @@ fn taken(alloc: Global, places: &mut Vec<Place>, group: u16) -> Place
     ensures layer { layer_of result.device ≡ cache (caches_of places.old.items) group }
     ensures clear { IsClear result }
     ensures still { All IsClear places.new.items }
-    ensures others { (q : ℕ) → (q == group) ≡ false → map.get (caches_of places.new.items) q ≡ map.get (caches_of places.old.items) q }
+    ensures others { (q : ℕ) → (q == group) ≡ false → map.get (caches_of places.new.items) q
+        ≡ map.get (caches_of places.old.items) q }
     ensures room { vec_capacity places.new ≡ vec_capacity places.old }
 {
     let clear = clear_place(alloc, group);

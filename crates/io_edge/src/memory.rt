@@ -44,7 +44,8 @@ impl MemSource {
     /// whose numbers, counted from 1, stand in `failing`.
     pub fn new(bytes: Vec<u8>, most: usize, failing: Vec<u32>) -> MemSource
         requires { 0 < most }
-        ensures { result ≡ record { left = bytes.items; most = most; failing = failing.items; calls = 0; faults = 0 } }
+        ensures { result ≡ record { left = bytes.items; most = most; failing = failing.items; calls
+            = 0; faults = 0 } }
     {
         MemSource {
             bytes,
@@ -81,7 +82,8 @@ impl Source for MemSource {
 
         // Which calls fail, and how much the others pass.
         ensures fails { is_err result ≡ fails_at self.old.failing (one_more self.old.calls) }
-        ensures passed { IfOk result (λ n. n ≡ min (min (length buf.old) self.old.most) (length self.old.left)) }
+        ensures passed { IfOk result (λ n. n ≡ min (min (length buf.old) self.old.most)
+            (length self.old.left)) }
 
         // What is counted.
         ensures counted { self.new.calls ≡ one_more self.old.calls }
@@ -132,7 +134,8 @@ impl MemSink {
     /// at the calls whose numbers, counted from 1, stand in `failing`, and where the room is full.
     pub fn new(room: Vec<u8>, most: usize, failing: Vec<u32>) -> MemSink
         requires { 0 < most }
-        ensures { result ≡ record { taken = []; free = length room.items; most = most; failing = failing.items; calls = 0; faults = 0; full_writes = 0 } }
+        ensures { result ≡ record { taken = []; free = length room.items; most = most; failing =
+            failing.items; calls = 0; faults = 0; full_writes = 0 } }
     {
         MemSink {
             room,
@@ -177,8 +180,10 @@ impl Sink for MemSink {
         ensures cause { HasCause self.old.faults self.new.faults result }
 
         // Which calls fail, and how much the others take.
-        ensures fails { is_err result ≡ ((self.old.free == 0) || fails_at self.old.failing (one_more self.old.calls)) }
-        ensures passed { IfOk result (λ n. n ≡ min (min (length piece.now) self.old.most) self.old.free) }
+        ensures fails { is_err result ≡ ((self.old.free == 0) || fails_at self.old.failing
+            (one_more self.old.calls)) }
+        ensures passed { IfOk result (λ n. n ≡ min (min (length piece.now) self.old.most)
+            self.old.free) }
 
         // What is left of the room.
         ensures room { IfOk result (λ n. self.new.free + n ≡ self.old.free) }

@@ -44,7 +44,8 @@ impl<R: Read> Source for StdSource<R> {
     fn read(&mut self, buf: &mut [u8]) -> Result<usize, Failed>
         requires { 0 < length buf.old }
         ensures bound { ReadsAtMost result buf.new }
-        ensures bytes { ReadConsumes (R.remaining self.old.inner) (R.remaining self.new.inner) result buf.new }
+        ensures bytes { ReadConsumes (R.remaining self.old.inner) (R.remaining self.new.inner)
+            result buf.new }
         ensures cause { HasCause self.old.faults self.new.faults result }
         ensures one_fault { OnErr result (self.new.faults ≡ one_more self.old.faults) }
         ensures no_fault { OnOk result (self.new.faults ≡ self.old.faults) }
@@ -95,7 +96,8 @@ impl<W: Write> Sink for StdSink<W> {
         // As of every sink.
         ensures some { IfOk result (λ n. 0 < n) }
         ensures bound { IfOk result (λ n. n ≤ length piece.now) }
-        ensures bytes { WriteAppends (W.contents self.old.inner) (W.contents self.new.inner) result piece.now }
+        ensures bytes { WriteAppends (W.contents self.old.inner) (W.contents self.new.inner) result
+            piece.now }
         ensures cause { HasCause self.old.faults self.new.faults result }
 
         // What is counted.

@@ -31,7 +31,8 @@ pub fn write_all<K: Sink>(out: &mut K, bytes: &[u8]) -> Result<(), Failed>
 /// `Failed` only where the sink's count of faults rose. The sink then took the first of the bytes.
 pub fn write_pieces<K: Sink>(out: &mut K, pieces: &[&[u8]]) -> Result<(), Failed>
     ensures ok { OnOk result (Appends (K.taken out.old) (K.taken out.new) (joined pieces.now)) }
-    ensures err { OnErr result (AppendsPrefix (K.taken out.old) (K.taken out.new) (joined pieces.now)) }
+    ensures err { OnErr result (AppendsPrefix (K.taken out.old) (K.taken out.new)
+        (joined pieces.now)) }
     ensures cause { HasCause (K.faults out.old) (K.faults out.new) result }
 {
     for piece in pieces {

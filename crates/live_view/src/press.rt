@@ -50,7 +50,8 @@ impl<K: Naming> Press<K> {
             (drop self.new.writer.behind self.new.writer.log.items) self.new.stage self.new.count }
         ensures ok { OnOk result (updates_in (drop self.new.writer.behind self.new.writer.log.items)
             ≡ updates_in (drop self.old.writer.behind self.old.writer.log.items) ++ update ∷ []) }
-        ensures err { OnErr result (updates_in (drop self.new.writer.behind self.new.writer.log.items)
+        ensures err { OnErr result (updates_in (drop self.new.writer.behind
+            self.new.writer.log.items)
             ≡ updates_in (drop self.old.writer.behind self.old.writer.log.items)) }
     {
         match self.stage {
@@ -100,7 +101,8 @@ impl<K: Naming> Press<K> {
 
     // The pending row stands in the list.
     fn list<N: Row>(&mut self) -> Result<(), NoMemory>
-        requires row { N.updates ≡ updates_in (drop self.old.writer.behind self.old.writer.log.items) }
+        requires row { N.updates ≡ updates_in (drop self.old.writer.behind
+            self.old.writer.log.items) }
         requires some { 0 < length (drop self.old.writer.behind self.old.writer.log.items) }
         requires stands { Stands K.book self.old.writer.desk.shown.value self.old.line
             (drop self.old.writer.behind self.old.writer.log.items) self.old.stage self.old.count }

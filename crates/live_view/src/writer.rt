@@ -106,7 +106,8 @@ impl<K: Naming> LiveWriter<K> {
 
     /// Whether so many updates are published as were told of this name. Then the published rows begin with those.
     pub fn has(&self, told: &Told<K>) -> bool
-        ensures number { IsTrue result ↔ (length (updates_of told.now) ≤ length (updates_of (published self.now))) }
+        ensures number { IsTrue result ↔ (length (updates_of told.now) ≤ length
+            (updates_of (published self.now))) }
         ensures rows { result ≡ true → StartsWith (published self.now) told.now }
     {
         self.tell().begins_with(told)
@@ -144,7 +145,8 @@ impl<K: Naming> LiveWriter<K> {
     pub fn put(&mut self, key: TileKey, tile: &Tile) -> Result<(), NoMemory>
         requires { total self.old < 2 ^ 63 }
         ensures published { published self.new ≡ published self.old }
-        ensures ok { OnOk result (pending self.new ≡ pending self.old ++ (record { key = key; tile = tile.now }) ∷ []) }
+        ensures ok { OnOk result (pending self.new ≡ pending self.old ++
+            (record { key = key; tile = tile.now }) ∷ []) }
         ensures err { OnErr result (pending self.new ≡ pending self.old) }
     {
         let tile = tile.share()?;
@@ -159,7 +161,8 @@ impl<K: Naming> LiveWriter<K> {
     /// # Errors
     /// `NoMemory`, also where a tile has as many owners as can be counted; all is as it was.
     pub fn publish<R: Wait>(&mut self, rt: &R) -> Result<(), NoMemory>
-        ensures published { OnOk result (published self.new ≡ with_row (published self.old) (pending self.old)) }
+        ensures published { OnOk result (published self.new ≡ with_row (published self.old)
+            (pending self.old)) }
         ensures pending { OnOk result (pending self.new ≡ []) }
         ensures err { OnErr result (self.new ≡ self.old) }
     {

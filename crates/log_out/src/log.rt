@@ -21,8 +21,10 @@ use script_text::Script;
 /// `Failed` only where the sink's count of faults rose. The sink then took the first of the bytes.
 pub fn write_log<K: Sink>(script: &Script, outcomes: &[Outcome], out: &mut K) -> Result<(), Failed>
     requires each { length outcomes.now ≡ length (entries script.now.commands) }
-    ensures ok { OnOk result (Appends (K.taken out.old) (K.taken out.new) (log_text (entries script.now.commands) outcomes.now)) }
-    ensures err { OnErr result (AppendsPrefix (K.taken out.old) (K.taken out.new) (log_text (entries script.now.commands) outcomes.now)) }
+    ensures ok { OnOk result (Appends (K.taken out.old) (K.taken out.new)
+        (log_text (entries script.now.commands) outcomes.now)) }
+    ensures err { OnErr result (AppendsPrefix (K.taken out.old) (K.taken out.new)
+        (log_text (entries script.now.commands) outcomes.now)) }
     ensures cause { HasCause (K.faults out.old) (K.faults out.new) result }
 {
     let mut done = 0;
@@ -44,8 +46,10 @@ fn write_line<K: Sink>(
     ending: &Phrase,
     out: &mut K,
 ) -> Result<(), Failed>
-    ensures ok { OnOk result (Appends (K.taken out.old) (K.taken out.new) (line number (phrase_text name.now) (phrase_text ending.now))) }
-    ensures err { OnErr result (AppendsPrefix (K.taken out.old) (K.taken out.new) (line number (phrase_text name.now) (phrase_text ending.now))) }
+    ensures ok { OnOk result (Appends (K.taken out.old) (K.taken out.new)
+        (line number (phrase_text name.now) (phrase_text ending.now))) }
+    ensures err { OnErr result (AppendsPrefix (K.taken out.old) (K.taken out.new)
+        (line number (phrase_text name.now) (phrase_text ending.now))) }
     ensures cause { HasCause (K.faults out.old) (K.faults out.new) result }
 {
     let [mut a, mut b, mut c, mut d, mut e] = [Buffer::new(); 5];

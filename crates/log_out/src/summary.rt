@@ -25,8 +25,10 @@ const ROW: usize = 3 * 2048;
 /// # Errors
 /// `Failed` only where the sink's count of faults rose. The sink then took the first of the bytes.
 pub fn write_sum<K: Sink>(frames: &[Frame], outcomes: &[Outcome], out: &mut K) -> Result<(), Failed>
-    ensures ok { OnOk result (Appends (K.taken out.old) (K.taken out.new) (sum_text (map sheet_of frames.now) outcomes.now)) }
-    ensures err { OnErr result (AppendsPrefix (K.taken out.old) (K.taken out.new) (sum_text (map sheet_of frames.now) outcomes.now)) }
+    ensures ok { OnOk result (Appends (K.taken out.old) (K.taken out.new)
+        (sum_text (map sheet_of frames.now) outcomes.now)) }
+    ensures err { OnErr result (AppendsPrefix (K.taken out.old) (K.taken out.new)
+        (sum_text (map sheet_of frames.now) outcomes.now)) }
     ensures cause { HasCause (K.faults out.old) (K.faults out.new) result }
 {
     write_counts(outcomes, out)?;
@@ -39,7 +41,8 @@ pub fn write_sum<K: Sink>(frames: &[Frame], outcomes: &[Outcome], out: &mut K) -
 /// Writes the line on the entries.
 fn write_counts<K: Sink>(outcomes: &[Outcome], out: &mut K) -> Result<(), Failed>
     ensures ok { OnOk result (Appends (K.taken out.old) (K.taken out.new) (counts outcomes.now)) }
-    ensures err { OnErr result (AppendsPrefix (K.taken out.old) (K.taken out.new) (counts outcomes.now)) }
+    ensures err { OnErr result (AppendsPrefix (K.taken out.old) (K.taken out.new)
+        (counts outcomes.now)) }
     ensures cause { HasCause (K.faults out.old) (K.faults out.new) result }
 {
     let [mut a, mut b, mut c, mut d] = [Buffer::new(); 4];
@@ -96,8 +99,10 @@ fn is_cancelled(outcome: &Outcome) -> bool
 
 /// Writes the line of a frame.
 fn write_frame_line<K: Sink>(number: usize, frame: &Frame, out: &mut K) -> Result<(), Failed>
-    ensures ok { OnOk result (Appends (K.taken out.old) (K.taken out.new) (frame_line number (sheet_of frame.now))) }
-    ensures err { OnErr result (AppendsPrefix (K.taken out.old) (K.taken out.new) (frame_line number (sheet_of frame.now))) }
+    ensures ok { OnOk result (Appends (K.taken out.old) (K.taken out.new)
+        (frame_line number (sheet_of frame.now))) }
+    ensures err { OnErr result (AppendsPrefix (K.taken out.old) (K.taken out.new)
+        (frame_line number (sheet_of frame.now))) }
     ensures cause { HasCause (K.faults out.old) (K.faults out.new) result }
 {
     let [mut a, mut b, mut c, mut d] = [Buffer::new(); 4];

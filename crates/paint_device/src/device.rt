@@ -133,7 +133,8 @@ impl Device {
 
     /// What stands under the block's key, with the block's pixels.
     fn laid(&self, alloc: Global, block: &Block) -> Result<Tile, NoMemory>
-        ensures { IfOk result (λ t. LaysBlock (tile_or (tile_under self.now.tiles block.now.key) self.now.default_pixel) t block.now) }
+        ensures { IfOk result (λ t. LaysBlock (tile_or (tile_under self.now.tiles block.now.key)
+            self.now.default_pixel) t block.now) }
     {
         match self.tile(block.key()) {
             Some(tile) => tile.with_region(alloc, block),
@@ -183,7 +184,8 @@ impl Device {
     pub fn grab(&self, alloc: Global, rects: &[Rect]) -> Result<Shot, NoMemory>
         ensures default_pixel { IfOk result (λ s. s.default_pixel ≡ self.now.default_pixel) }
         ensures rects { IfOk result (λ s. s.rects ≡ rects.now) }
-        ensures pixels { IfOk result (λ s. (p : Point) → any_holds rects.now p ≡ true → sight_at s p ≡ sheet_at self.now p) }
+        ensures pixels { IfOk result (λ s. (p : Point) → any_holds rects.now p ≡ true → sight_at s p
+            ≡ sheet_at self.now p) }
         ensures tiles { IfOk result (SharesTiles self.now (all_keys_of rects.now)) }
     {
         let default_pixel = self.ground();

@@ -55,7 +55,8 @@ pub fn lay_alone_under<L: Lays>(
     change: &L,
 ) -> bool
     ensures laid { result ≡ true → LaidUnder (L.laid change.now) tiles.old tiles.new key }
-    ensures kept { result ≡ false → (q : Key) → tree.get key_cmp tiles.new q ≡ tree.get key_cmp tiles.old q }
+    ensures kept { result ≡ false → (q : Key) → tree.get key_cmp tiles.new q ≡ tree.get key_cmp
+        tiles.old q }
 {
     match tiles.get_mut(&key) {
         Some(place) => lay_alone(place, change),
@@ -88,7 +89,8 @@ pub fn tile_in(tiles: &BTreeMap<TileKey, Option<Tile>>, key: TileKey) -> Option<
 pub fn extent_of(tiles: &BTreeMap<TileKey, Option<Tile>>) -> Option<Rect>
     requires { (k : Key) → is_some (tree.get key_cmp tiles.now k) ≡ true → IsWorldKey k }
     ensures some { IfSome result (IsExtent (map.from_entries tiles.now.entries)) }
-    ensures none { IfNone result ((k : Key) → tile_under (map.from_entries tiles.now.entries) k ≡ None) }
+    ensures none { IfNone result ((k : Key) → tile_under (map.from_entries tiles.now.entries) k
+        ≡ None) }
 {
     let mut extent = None;
     for (key, tile) in tiles {

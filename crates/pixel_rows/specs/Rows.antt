@@ -28,3 +28,7 @@ pub record CoversWithin (least most : ℕ) (p : Rgba) : Type 0 where
   pub canonical : IsCanonical p
   pub not_below : least ≤ p.a
   pub not_above : p.a ≤ most
+
+-- the alphas of these pixels lie between these
+abbrev pub AllCoverWithin : ℕ → ℕ → List Rgba → Type 0
+AllCoverWithin least most pixels = (k : ℕ) → k < length pixels → CoversWithin least most (slice_index_or pixels k clear)

@@ -13,7 +13,8 @@ use pixel_core::{Op, Pixel, compose};
 pub fn compose_row(op: Op, src: &[Pixel], dst: &mut [Pixel], strength: &[u8])
     requires sources { length src.now ≡ length dst.old }
     requires strengths { length strength.now ≡ length dst.old }
-    ensures { LaysRow op (λ k. slice_index_or src.now k clear) (λ k. slice_index_or strength.now k 0) dst.old dst.new }
+    ensures { LaysRow op (λ k. slice_index_or src.now k clear) (λ k. slice_index_or strength.now k
+        0) dst.old dst.new }
 {
     let whole = dst.len() / BLOCK;
     for i in 0..whole {
@@ -29,7 +30,9 @@ pub fn compose_row(op: Op, src: &[Pixel], dst: &mut [Pixel], strength: &[u8])
 fn dimmed_each(src: &[Pixel], strength: &[u8], i: usize) -> [Pixel; BLOCK]
     requires sources { BLOCK * i + BLOCK ≤ length src.now }
     requires strengths { BLOCK * i + BLOCK ≤ length strength.now }
-    ensures { (k : ℕ) → k < BLOCK → Dims (slice_index_or result k clear) (slice_index_or src.now (BLOCK * i + k) clear) (slice_index_or strength.now (BLOCK * i + k) 0) }
+    ensures { (k : ℕ) → k < BLOCK → Dims (slice_index_or result k clear)
+        (slice_index_or src.now (BLOCK * i + k) clear) (slice_index_or strength.now (BLOCK * i + k)
+        0) }
 {
     let mut block = [Pixel::CLEAR; BLOCK];
     for k in 0..BLOCK {
@@ -44,7 +47,8 @@ fn compose_last(op: Op, src: &[Pixel], dst: &mut [Pixel], strength: &[u8], start
     requires strengths { length strength.now ≡ length dst.old }
     requires within { start ≤ length dst.old }
     requires last { length dst.old ≤ start + BLOCK }
-    ensures { LaysPart op (λ k. slice_index_or src.now k clear) (λ k. slice_index_or strength.now k 0) start (length dst.old) dst.old dst.new }
+    ensures { LaysPart op (λ k. slice_index_or src.now k clear) (λ k. slice_index_or strength.now k
+        0) start (length dst.old) dst.old dst.new }
 {
     if dst.len() - start < FEW {
         compose_few(op, src, dst, strength, start);
@@ -59,7 +63,8 @@ fn compose_few(op: Op, src: &[Pixel], dst: &mut [Pixel], strength: &[u8], start:
     requires sources { length src.now ≡ length dst.old }
     requires strengths { length strength.now ≡ length dst.old }
     requires within { start ≤ length dst.old }
-    ensures { LaysPart op (λ k. slice_index_or src.now k clear) (λ k. slice_index_or strength.now k 0) start (length dst.old) dst.old dst.new }
+    ensures { LaysPart op (λ k. slice_index_or src.now k clear) (λ k. slice_index_or strength.now k
+        0) start (length dst.old) dst.old dst.new }
 {
     for i in start..dst.len() {
         dst[i] = compose(op, src[i], dst[i], strength[i]);
@@ -71,7 +76,8 @@ fn dimmed_last(src: &[Pixel], strength: &[u8]) -> [Pixel; BLOCK]
     requires some { 0 < length src.now }
     requires most { length src.now ≤ BLOCK }
     requires strengths { length strength.now ≡ length src.now }
-    ensures { (k : ℕ) → k < length src.now → Dims (slice_index_or result k clear) (slice_index_or src.now k clear) (slice_index_or strength.now k 0) }
+    ensures { (k : ℕ) → k < length src.now → Dims (slice_index_or result k clear)
+        (slice_index_or src.now k clear) (slice_index_or strength.now k 0) }
 {
     let mut block = [dimmed(src[0], strength[0]); BLOCK];
     for k in 0..src.len() {

@@ -6,9 +6,10 @@
 //!   once; of the kit's vectors (`std::simd`) most functions say nothing of their result, so no proof could
 //!   rest on them. A source under a strength has the effect of a dimmer source at full strength, so colours,
 //!   masks and layers are one case.
-//! - Blocks of clear sources, and of clear or opaque backdrops, take shorter ways. Sources that are one pixel
-//!   all along a row are laid as a colour, and a colour on a backdrop that is one pixel is composed once:
-//!   fills, backgrounds and plain layers are most of what there is to compose.
+//! - Blocks of clear sources, and of clear or opaque backdrops, take shorter ways. Under a colour or a mask the
+//!   backdrop's alphas are looked at once for a row: a look at each block costs more than it saves. Sources that
+//!   are one pixel all along a row are laid as a colour, and a colour on a backdrop that is one pixel is composed
+//!   once: fills, backgrounds and plain layers are most of what there is to compose.
 //! - A quotient is one division of floats, and it is exact: both numbers are whole and below 2^24, and what
 //!   lies below a whole number lies further below it than the rounding can bridge (`mean`, `mean_of_three`,
 //!   proved from std's statements of binary32). A division of whole numbers can't be done for several pixels at

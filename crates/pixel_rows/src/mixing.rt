@@ -84,7 +84,8 @@ impl Parts {
     /// The mean of two colours by these weights, to the nearest whole number.
     #[inline]
     fn mixed(self, s: u8, d: u8) -> u8
-        ensures { 0 < self.source + self.backdrop → result ≡ nearest (self.source * s + self.backdrop * d) (self.source + self.backdrop) }
+        ensures { 0 < self.source + self.backdrop → result
+            ≡ nearest (self.source * s + self.backdrop * d) (self.source + self.backdrop) }
     {
         mean(self.source, s, self.backdrop, d, self.sum)
     }

@@ -12,7 +12,8 @@ use pixel_core::Pixel;
 pub fn lay_on_paper(sources: &[Pixel], paper: Pixel, laid: &mut [Pixel])
     requires opaque { paper.a ≡ 255 }
     requires each { length sources.now ≡ length laid.old }
-    ensures { (k : ℕ) → k < length laid.old → slice_index_or laid.new k clear ≡ composed Over (slice_index_or sources.now k clear) paper 255 }
+    ensures { (k : ℕ) → k < length laid.old → slice_index_or laid.new k clear
+        ≡ composed Over (slice_index_or sources.now k clear) paper 255 }
 {
     for k in 0..sources.len() {
         laid[k] = over_opaque(sources[k], paper);

@@ -21,7 +21,8 @@ pub fn all_are(pixels: &[Pixel], p: Pixel) -> bool
 /// first and the last one differ, it looks no further.
 #[inline]
 pub(crate) fn plain_pixel(pixels: &[Pixel]) -> Option<Pixel>
-    ensures { IfSome result (λ p. (k : ℕ) → k < length pixels.now → slice_index_or pixels.now k clear ≡ p) }
+    ensures { IfSome result (λ p. (k : ℕ) → k < length pixels.now → slice_index_or pixels.now k
+        clear ≡ p) }
 {
     if pixels.len() < BLOCK {
         return None;

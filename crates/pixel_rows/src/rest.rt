@@ -28,7 +28,8 @@ pub(crate) fn lay_rest(op: Op, sources: &[Pixel; BLOCK], row: &mut [Pixel])
 pub(crate) fn dimmed_rest(sources: &[Pixel], opacity: u8) -> [Pixel; BLOCK]
     requires some { 0 < length sources.now }
     requires most { length sources.now ≤ BLOCK }
-    ensures { (k : ℕ) → k < length sources.now → Dims (slice_index_or result k clear) (slice_index_or sources.now k clear) opacity }
+    ensures { (k : ℕ) → k < length sources.now → Dims (slice_index_or result k clear)
+        (slice_index_or sources.now k clear) opacity }
 {
     let mut block = [dimmed(sources[0], opacity); BLOCK];
     for k in 0..sources.len() {
@@ -41,7 +42,8 @@ pub(crate) fn dimmed_rest(sources: &[Pixel], opacity: u8) -> [Pixel; BLOCK]
 pub(crate) fn masked_rest(colour: Pixel, mask: &[u8]) -> [Pixel; BLOCK]
     requires some { 0 < length mask.now }
     requires most { length mask.now ≤ BLOCK }
-    ensures { (k : ℕ) → k < length mask.now → Dims (slice_index_or result k clear) colour (slice_index_or mask.now k 0) }
+    ensures { (k : ℕ) → k < length mask.now → Dims (slice_index_or result k clear) colour
+        (slice_index_or mask.now k 0) }
 {
     let mut block = [dimmed(colour, mask[0]); BLOCK];
     for k in 0..mask.len() {

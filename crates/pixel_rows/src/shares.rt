@@ -12,7 +12,8 @@ use pixel_core::Pixel;
 /// `s` laid on `d` at full strength by an operation of which these are the colours where both cover.
 #[inline(always)]
 pub(crate) fn blended(s: Pixel, d: Pixel, r: u8, g: u8, b: u8) -> Pixel
-    ensures { (op : Op) → op ≢ Erase → r ≡ blend op s.r d.r → g ≡ blend op s.g d.g → b ≡ blend op s.b d.b → result ≡ composed op s d 255 }
+    ensures { (op : Op) → op ≢ Erase → r ≡ blend op s.r d.r → g ≡ blend op s.g d.g → b
+        ≡ blend op s.b d.b → result ≡ composed op s d 255 }
 {
     let [sr, sg, sb, sa] = s.bytes();
     let [dr, dg, db, da] = d.bytes();
@@ -67,7 +68,9 @@ impl Shares {
     /// The mean of three colours by these weights, to the nearest whole number.
     #[inline(always)]
     fn mixed(self, s: u8, d: u8, f: u8) -> u8
-        ensures { 0 < self.source + self.backdrop + self.both → result ≡ nearest (self.backdrop * d + self.source * s + self.both * f) (self.source + self.backdrop + self.both) }
+        ensures { 0 < self.source + self.backdrop + self.both → result
+            ≡ nearest (self.backdrop * d + self.source * s + self.both * f)
+            (self.source + self.backdrop + self.both) }
     {
         mean_of_three(self.source, s, self.backdrop, d, self.both, f, self.sum)
     }

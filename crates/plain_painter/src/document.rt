@@ -107,7 +107,8 @@ impl Document {
     ) -> Result<Document, NoMemory>
         requires there { is_some (content layer self.now) ≡ true }
         requires sound { list_all job_sound (jobs_only jobs.now) ≡ true }
-        ensures { IfOk result (λ d. d ≡ with_content layer (apply_all (jobs_only jobs.now) (layer_in layer self.now)) self.now) }
+        ensures { IfOk result (λ d. d ≡ with_content layer (apply_all (jobs_only jobs.now)
+            (layer_in layer self.now)) self.now) }
     {
         let steps = with_jobs(alloc, &self.steps, layer, jobs)?;
         Ok(Document {
@@ -121,7 +122,8 @@ impl Document {
 fn steps_after(alloc: Global, steps: &[Step], change: &Change) -> Result<Vec<Step>, NoMemory>
     requires { list_all is_sound steps.now ≡ true }
     ensures sound { IfOk result (λ v. list_all is_sound v.items ≡ true) }
-    ensures value { IfOk result (λ v. (q : ℕ) → layer_after q v.items ≡ with_fresh change.now (λ p. layer_after p steps.now) q) }
+    ensures value { IfOk result (λ v. (q : ℕ) → layer_after q v.items ≡ with_fresh change.now
+        (λ p. layer_after p steps.now) q) }
 {
     match *change {
         Change::Layer { id, ground, .. } => {

@@ -189,7 +189,8 @@ fn pixel_moved(
 ) -> Result<Pixel, NoMemory>
     requires sound { list_all is_sound older.now ≡ true }
     requires job_sound { job_sound (Move rect dx dy) ≡ true }
-    ensures { IfOk result (λ p. p ≡ value (Move rect dx dy) (layer_after id older.now) (point_of spot)) }
+    ensures { IfOk result (λ p. p ≡ value (Move rect dx dy) (layer_after id older.now)
+        (point_of spot)) }
 {
     if is_reached(rect, dx, dy, spot) {
         pixel_after(alloc, older, id, source_of(rect, dx, dy, spot))
@@ -232,7 +233,8 @@ fn pixel_blurred(
     requires sound { list_all is_sound older.now ≡ true }
     requires job_sound { job_sound (Blur rect r) ≡ true }
     requires held { holds rect (point_of spot) ≡ true }
-    ensures { IfOk result (λ p. p ≡ value (Blur rect r) (layer_after id older.now) (point_of spot)) }
+    ensures { IfOk result (λ p. p ≡ value (Blur rect r) (layer_after id older.now)
+        (point_of spot)) }
 {
     let spots = spots_round(alloc, rect, r, spot)?;
     let mut pixels = Vec::new(alloc);
@@ -282,7 +284,8 @@ pub(crate) fn with_jobs(
     requires sound { list_all is_sound steps.now ≡ true }
     requires jobs_sound { list_all job_sound (jobs_only jobs.now) ≡ true }
     ensures sound { IfOk result (λ v. list_all is_sound v.items ≡ true) }
-    ensures value { IfOk result (λ v. (q : ℕ) → layer_after q v.items ≡ cond (layer == q) (apply_all (jobs_only jobs.now) (layer_after q steps.now)) (layer_after q steps.now)) }
+    ensures value { IfOk result (λ v. (q : ℕ) → layer_after q v.items ≡ cond (layer == q)
+        (apply_all (jobs_only jobs.now) (layer_after q steps.now)) (layer_after q steps.now)) }
 {
     let mut all = Vec::from_slice(alloc, steps)?;
     for entry in jobs {

@@ -55,7 +55,8 @@ fn sums_over(pixels: &[Pixel]) -> Sums
 /// The sums with those of one more pixel.
 fn with_pixel(sums: Sums, pixel: Pixel) -> Sums
     requires { IsUpTo 1089 sums }
-    ensures value { (before : List Rgba) → sums ≡ sums_of before → result ≡ sums_of (before ++ pixel ∷ []) }
+    ensures value { (before : List Rgba) → sums ≡ sums_of before → result
+        ≡ sums_of (before ++ pixel ∷ []) }
     ensures small { (n : ℕ) → IsUpTo n sums → IsUpTo (n + 1) result }
 {
     let [r, g, b, a] = pixel.bytes();

@@ -42,7 +42,8 @@ fn colours_of(
     spots: &[Spot],
 ) -> Result<Vec<[u8; 3]>, NoMemory>
     requires { paper.a ≡ 255 }
-    ensures { IfOk result (λ v. v.items ≡ map (λ p. on_paper_of (picture doc.now p) paper) (map point_of spots.now)) }
+    ensures { IfOk result (λ v. v.items ≡ map (λ p. on_paper_of (picture doc.now p) paper)
+        (map point_of spots.now)) }
 {
     let mut colours = Vec::new(alloc);
     for spot in spots {
@@ -125,7 +126,8 @@ fn with_child(
 ) -> Result<Pixel, NoMemory>
     requires limits { IsDocument doc.now }
     requires low { height (nodes_in group doc.now) ≤ levels }
-    ensures { IfOk result (λ p. laid (upper place (nodes_in group doc.now)) (point_of spot) below ≡ laid (upper (suc place) (nodes_in group doc.now)) (point_of spot) p) }
+    ensures { IfOk result (λ p. laid (upper place (nodes_in group doc.now)) (point_of spot) below
+        ≡ laid (upper (suc place) (nodes_in group doc.now)) (point_of spot) p) }
 {
     let tree = doc.tree();
     let Some(id) = tree.child(group, place) else {

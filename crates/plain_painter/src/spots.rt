@@ -30,7 +30,8 @@ fn add_row(spots: &mut Vec<Spot>, x: i32, y: i32, n: u32) -> Result<(), NoMemory
     requires low { world.x ≤ℤ x }
     requires high { x ≤ℤ pos 16383 }
     requires few { n ≤ 32768 }
-    ensures { OnOk result (map point_of spots.new.items ≡ map point_of spots.old.items ++ row x y n) }
+    ensures { OnOk result (map point_of spots.new.items ≡ map point_of spots.old.items ++ row x y
+        n) }
 {
     for i in 0..n {
         spots.push(Spot { x: x + i as i32, y })?;

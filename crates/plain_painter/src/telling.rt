@@ -72,7 +72,8 @@ impl Telling {
     /// Paints a closed stroke. One whose jobs conflict or that was cancelled leaves nothing.
     fn paint(&mut self, stroke: &ClosedStroke) -> Result<Outcome, NoMemory>
         requires ready { IsReady (Whole stroke.now) }
-        ensures { (e : doc.Entry) → queued e ≡ Whole stroke.now → IfOk result (Ends e self.old self.new) }
+        ensures { (e : doc.Entry) → queued e ≡ Whole stroke.now
+            → IfOk result (Ends e self.old self.new) }
     {
         if let Some((first, second)) = stroke.overlap() {
             return Ok(Outcome::Overlap { first, second });
@@ -87,7 +88,9 @@ impl Telling {
     fn lay(&mut self, layer: u16, jobs: &[(Kind, Job)]) -> Result<Outcome, NoMemory>
         requires checked { All (λ job. checks job.1 ≡ true) jobs.now }
         requires limits { All (λ job. within_limits job.1 ≡ true) jobs.now }
-        ensures { (s : doc.Stroke) → s.layer ≡ layer → s.jobs ≡ jobs.now → IfOk result (GoesOn (λ story. laid_stroke story s (content s.layer story.document)) self.old self.new) }
+        ensures { (s : doc.Stroke) → s.layer ≡ layer → s.jobs ≡ jobs.now
+            → IfOk result (GoesOn (λ story. laid_stroke story s (content s.layer story.document))
+            self.old self.new) }
     {
         if self.document.paints(layer) {
             let next = self.document.painted(self.alloc, layer, jobs)?;
@@ -104,7 +107,8 @@ impl Telling {
     fn obey(&mut self, command: &Command) -> Result<Outcome, NoMemory>
         requires canvas { IsOfLimits self.old.canvas }
         requires ready { IsReady (Other command.now) }
-        ensures { (e : doc.Entry) → queued e ≡ Other command.now → IfOk result (Ends e self.old self.new) }
+        ensures { (e : doc.Entry) → queued e ≡ Other command.now
+            → IfOk result (Ends e self.old self.new) }
     {
         match command {
             Command::Change(change) => self.change(change),

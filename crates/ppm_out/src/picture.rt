@@ -25,8 +25,10 @@ use std::thread::Threads;
 /// `Failed` only where the sink's count of faults rose. The sink then took the first of the bytes.
 pub fn write_frame<K: Sink>(frame: &Frame, row: &mut [u8], out: &mut K) -> Result<(), Failed>
     requires room { 3 * frame.now.width ≤ length row.old }
-    ensures ok { OnOk result (Appends (K.taken out.old) (K.taken out.new) (frame_bytes frame.now.width frame.now.height (colours_of frame.now))) }
-    ensures err { OnErr result (AppendsPrefix (K.taken out.old) (K.taken out.new) (frame_bytes frame.now.width frame.now.height (colours_of frame.now))) }
+    ensures ok { OnOk result (Appends (K.taken out.old) (K.taken out.new)
+        (frame_bytes frame.now.width frame.now.height (colours_of frame.now))) }
+    ensures err { OnErr result (AppendsPrefix (K.taken out.old) (K.taken out.new)
+        (frame_bytes frame.now.width frame.now.height (colours_of frame.now))) }
     ensures cause { HasCause (K.faults out.old) (K.faults out.new) result }
 {
     write_bands(&Alone, frame, row, out)
@@ -45,8 +47,10 @@ pub fn write_frame_by<R: Threads + Sync, K: Sink>(
     out: &mut K,
 ) -> Result<(), Failed>
     requires room { 3 * frame.now.width ≤ length room.old }
-    ensures ok { OnOk result (Appends (K.taken out.old) (K.taken out.new) (frame_bytes frame.now.width frame.now.height (colours_of frame.now))) }
-    ensures err { OnErr result (AppendsPrefix (K.taken out.old) (K.taken out.new) (frame_bytes frame.now.width frame.now.height (colours_of frame.now))) }
+    ensures ok { OnOk result (Appends (K.taken out.old) (K.taken out.new)
+        (frame_bytes frame.now.width frame.now.height (colours_of frame.now))) }
+    ensures err { OnErr result (AppendsPrefix (K.taken out.old) (K.taken out.new)
+        (frame_bytes frame.now.width frame.now.height (colours_of frame.now))) }
     ensures cause { HasCause (K.faults out.old) (K.faults out.new) result }
 {
     let hands = Threaded { rt, threads };
@@ -62,8 +66,10 @@ fn write_bands<L: LaysRows, K: Sink>(
 ) -> Result<(), Failed>
     requires can { L.can }
     requires room { 3 * frame.now.width ≤ length room.old }
-    ensures ok { OnOk result (Appends (K.taken out.old) (K.taken out.new) (frame_bytes frame.now.width frame.now.height (colours_of frame.now))) }
-    ensures err { OnErr result (AppendsPrefix (K.taken out.old) (K.taken out.new) (frame_bytes frame.now.width frame.now.height (colours_of frame.now))) }
+    ensures ok { OnOk result (Appends (K.taken out.old) (K.taken out.new)
+        (frame_bytes frame.now.width frame.now.height (colours_of frame.now))) }
+    ensures err { OnErr result (AppendsPrefix (K.taken out.old) (K.taken out.new)
+        (frame_bytes frame.now.width frame.now.height (colours_of frame.now))) }
     ensures cause { HasCause (K.faults out.old) (K.faults out.new) result }
 {
     let columns = frame.width();
@@ -93,8 +99,10 @@ fn write_band<L: LaysRows, K: Sink>(
     requires can { L.can }
     requires inside { top + n ≤ frame.now.height }
     requires whole { length band.old ≡ 3 * (frame.now.width * n) }
-    ensures ok { OnOk result (Appends (K.taken out.old) (K.taken out.new) (rows_colours frame.now top n)) }
-    ensures err { OnErr result (AppendsPrefix (K.taken out.old) (K.taken out.new) (rows_colours frame.now top n)) }
+    ensures ok { OnOk result (Appends (K.taken out.old) (K.taken out.new)
+        (rows_colours frame.now top n)) }
+    ensures err { OnErr result (AppendsPrefix (K.taken out.old) (K.taken out.new)
+        (rows_colours frame.now top n)) }
     ensures cause { HasCause (K.faults out.old) (K.faults out.new) result }
 {
     hands.lay(frame, top, n, band);
@@ -115,8 +123,10 @@ pub fn write_frames_by<R: Threads + Sync, K: Sink>(
     out: &mut K,
 ) -> Result<(), Failed>
     requires room { All (λ (f : Scene). 3 * (f.width * f.height) ≤ length picture.old) film.now }
-    ensures ok { OnOk result (Appends (K.taken out.old) (K.taken out.new) (flat_map scene_bytes film.now)) }
-    ensures err { OnErr result (AppendsPrefix (K.taken out.old) (K.taken out.new) (flat_map scene_bytes film.now)) }
+    ensures ok { OnOk result (Appends (K.taken out.old) (K.taken out.new)
+        (flat_map scene_bytes film.now)) }
+    ensures err { OnErr result (AppendsPrefix (K.taken out.old) (K.taken out.new)
+        (flat_map scene_bytes film.now)) }
     ensures cause { HasCause (K.faults out.old) (K.faults out.new) result }
 {
     let frames = film.frames();
@@ -133,7 +143,8 @@ fn rows_of(film: &Film, i: usize) -> Rows<'_>
     requires { i < length film.now }
     ensures there { IsThere result }
     ensures of { slice_get film.now i ≡ Some (scene_of result) }
-    ensures after { (picture : List ℕ) → ShowsFrameBefore film.now i picture → PictureBefore result picture }
+    ensures after { (picture : List ℕ) → ShowsFrameBefore film.now i picture → PictureBefore result
+        picture }
 {
     if film.follows(i) {
         Rows::After(film, i)
@@ -169,7 +180,8 @@ fn write_picture<K: Sink>(frame: &Frame, picture: &[u8], out: &mut K) -> Result<
     requires room { 3 * (frame.now.width * frame.now.height) ≤ length picture.now }
     requires shown { Shows frame.now picture.now }
     ensures ok { OnOk result (Appends (K.taken out.old) (K.taken out.new) (scene_bytes frame.now)) }
-    ensures err { OnErr result (AppendsPrefix (K.taken out.old) (K.taken out.new) (scene_bytes frame.now)) }
+    ensures err { OnErr result (AppendsPrefix (K.taken out.old) (K.taken out.new)
+        (scene_bytes frame.now)) }
     ensures cause { HasCause (K.faults out.old) (K.faults out.new) result }
 {
     let columns = frame.width();

@@ -164,11 +164,15 @@ fn lay_both<R: Threads + Sync>(
     join_mut(
         rt,
         &mut ||
-            requires { IsSync R.row × IsThere rows × (top + high ≤ (scene_of rows).height) × (length above.now ≡ 3 * ((scene_of rows).width * high)) × StandsBefore rows top high above.now }
+            requires { IsSync R.row × IsThere rows × (top + high ≤ (scene_of rows).height)
+                × (length above.now ≡ 3 * ((scene_of rows).width * high)) × StandsBefore rows top
+                high above.now }
             ensures { above.exit.now ≡ rows_colours (scene_of rows.entry) top high }
         { lay_rows(rt, some, rows, top, high, above) },
         &mut ||
-            requires { IsSync R.row × IsThere rows × (next + low ≤ (scene_of rows).height) × (length below.now ≡ 3 * ((scene_of rows).width * low)) × StandsBefore rows next low below.now }
+            requires { IsSync R.row × IsThere rows × (next + low ≤ (scene_of rows).height)
+                × (length below.now ≡ 3 * ((scene_of rows).width * low)) × StandsBefore rows next
+                low below.now }
             ensures { below.exit.now ≡ rows_colours (scene_of rows.entry) next low }
         { lay_rows(rt, others, rows, next, low, below) },
     );

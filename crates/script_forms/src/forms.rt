@@ -86,7 +86,8 @@ fn clear_layer(id: &[u8], parent: &[u8], place: &[u8]) -> Result<Command, Cause>
 
 #[tactic(auto, unfolding(crate::specs::Forms::command_of))]
 fn coloured_layer(id: &[u8], parent: &[u8], place: &[u8], colour: &[u8]) -> Result<Command, Cause>
-    ensures value { result ≡ told_command Word.Layer (id.now ∷ parent.now ∷ place.now ∷ colour.now ∷ []) }
+    ensures value { result ≡ told_command Word.Layer (id.now ∷ parent.now ∷ place.now ∷ colour.now ∷
+        []) }
     ensures ranges { IfOk result (λ c. in_range c ≡ true) }
     ensures sound { IfOk result (λ c. is_sound c ≡ true) }
 {
@@ -161,7 +162,8 @@ fn place(fields: &[&[u8]]) -> Result<Command, Cause>
 
 #[tactic(auto, unfolding(crate::specs::Forms::command_of))]
 fn look_of(id: &[u8], opacity: &[u8], operation: &[u8], seen: &[u8]) -> Result<Command, Cause>
-    ensures value { result ≡ told_command Word.Look (id.now ∷ opacity.now ∷ operation.now ∷ seen.now ∷ []) }
+    ensures value { result ≡ told_command Word.Look (id.now ∷ opacity.now ∷ operation.now ∷ seen.now
+        ∷ []) }
     ensures ranges { IfOk result (λ c. in_range c ≡ true) }
     ensures sound { IfOk result (λ c. is_sound c ≡ true) }
 {

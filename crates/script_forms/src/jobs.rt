@@ -237,7 +237,8 @@ fn fill_fields(
     operation: &[u8],
     strength: &[u8],
 ) -> Result<Job, Cause>
-    ensures value { result ≡ told_job JobWord.Fill (left.now ∷ top.now ∷ width.now ∷ height.now ∷ colour.now ∷ operation.now ∷ strength.now ∷ []) }
+    ensures value { result ≡ told_job JobWord.Fill (left.now ∷ top.now ∷ width.now ∷ height.now ∷
+        colour.now ∷ operation.now ∷ strength.now ∷ []) }
     ensures ranges { IfOk result (λ j. job_in_range j ≡ true) }
     ensures sound { IfOk result (λ j. (checks j && within_limits j) ≡ true) }
 {
@@ -270,7 +271,8 @@ fn dab_fields(
     operation: &[u8],
     strength: &[u8],
 ) -> Result<Job, Cause>
-    ensures value { result ≡ told_job JobWord.Dab (left.now ∷ top.now ∷ radius.now ∷ edge.now ∷ colour.now ∷ operation.now ∷ strength.now ∷ []) }
+    ensures value { result ≡ told_job JobWord.Dab (left.now ∷ top.now ∷ radius.now ∷ edge.now ∷
+        colour.now ∷ operation.now ∷ strength.now ∷ []) }
     ensures ranges { IfOk result (λ j. job_in_range j ≡ true) }
     ensures sound { IfOk result (λ j. (checks j && within_limits j) ≡ true) }
 {
@@ -302,7 +304,8 @@ fn move_fields(
     columns: &[u8],
     rows: &[u8],
 ) -> Result<Job, Cause>
-    ensures value { result ≡ told_job JobWord.Move (left.now ∷ top.now ∷ width.now ∷ height.now ∷ columns.now ∷ rows.now ∷ []) }
+    ensures value { result ≡ told_job JobWord.Move (left.now ∷ top.now ∷ width.now ∷ height.now ∷
+        columns.now ∷ rows.now ∷ []) }
     ensures ranges { IfOk result (λ j. job_in_range j ≡ true) }
     ensures sound { IfOk result (λ j. (checks j && within_limits j) ≡ true) }
 {
@@ -334,7 +337,8 @@ fn blur_fields(
     height: &[u8],
     radius: &[u8],
 ) -> Result<Job, Cause>
-    ensures value { result ≡ told_job JobWord.Blur (left.now ∷ top.now ∷ width.now ∷ height.now ∷ radius.now ∷ []) }
+    ensures value { result ≡ told_job JobWord.Blur (left.now ∷ top.now ∷ width.now ∷ height.now ∷
+        radius.now ∷ []) }
     ensures ranges { IfOk result (λ j. job_in_range j ≡ true) }
     ensures sound { IfOk result (λ j. (checks j && within_limits j) ≡ true) }
 {

@@ -41,7 +41,8 @@ fn hex_byte(high: u8, low: u8) -> u32
 /// The pixel of four numbers, where they are bytes.
 #[inline]
 fn pixel_of(red: u32, green: u32, blue: u32, alpha: u32) -> Result<Pixel, Cause>
-    ensures value { result ≡ pixel_by (below 256 red) (below 256 green) (below 256 blue) (below 256 alpha) }
+    ensures value { result ≡ pixel_by (below 256 red) (below 256 green) (below 256 blue)
+        (below 256 alpha) }
     ensures pixel { IfOk result (λ p. is_pixel p ≡ true) }
 {
     if red < 256 && green < 256 && blue < 256 && alpha < 256 {

@@ -17,7 +17,8 @@ fn ends_piece(b: u8) -> bool
 
 /// Adds a piece between blanks, if it is a field.
 fn add_piece<'a>(piece: &'a [u8], fields: &mut Vec<&'a [u8]>) -> Result<(), AllocError>
-    ensures { OnOk result (pointed fields.new.items ≡ pointed fields.old.items ++ filter is_some_field (piece.now ∷ [])) }
+    ensures { OnOk result (pointed fields.new.items ≡ pointed fields.old.items ++ filter
+        is_some_field (piece.now ∷ [])) }
 {
     if !piece.is_empty() {
         fields.push(piece)?;
@@ -31,7 +32,8 @@ pub fn next_fields<'a>(
     bytes: &'a [u8],
     fields: &mut Vec<&'a [u8]>,
 ) -> Result<Option<&'a [u8]>, AllocError>
-    ensures { IfOk result (λ behind. lines bytes.now ≡ pointed fields.new.items ∷ lines_behind behind) }
+    ensures { IfOk result (λ behind. lines bytes.now ≡ pointed fields.new.items ∷ lines_behind
+        behind) }
 {
     fields.clear();
     let mut start = 0;

@@ -105,7 +105,8 @@ fn canvas_fits(canvas: &Canvas) -> bool
 fn gather(alloc: Global, canvas: Canvas, commands: &[Command]) -> Result<Reading, MakeRefusal>
     requires { in_limits canvas ≡ true }
     ensures ok { IfOk result (λ r. IsGathered r canvas commands.now) }
-    ensures refused { result ≡ Err NotScript → (list_all in_range commands.now && lawful commands.now) ≡ false }
+    ensures refused { result ≡ Err NotScript → (list_all in_range commands.now && lawful
+        commands.now) ≡ false }
 {
     let Ok(mut reading) = Reading::new(alloc, Some(canvas), commands.len()) else {
         return Err(MakeRefusal::NoMemory);
@@ -138,7 +139,8 @@ impl Script {
     ) -> Result<Script, MakeRefusal>
         ensures made { IfOk result (λ s. s ≡ contents canvas commands.items) }
         ensures script { IfOk result (λ s. is_script s ≡ true) }
-        ensures refused { result ≡ Err NotScript → is_script (contents canvas commands.items) ≡ false }
+        ensures refused { result ≡ Err NotScript → is_script (contents canvas commands.items)
+            ≡ false }
     {
         if !canvas_fits(&canvas) {
             return Err(MakeRefusal::NotScript);

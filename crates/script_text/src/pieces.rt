@@ -51,8 +51,10 @@ impl Reader {
     /// it goes on; else `NoMemory`.
     pub fn feed(self, text: &[u8]) -> Result<Reader, ReadRefusal>
         requires { HasRoom self (lines text.now) }
-        ensures ok { (ls : List Fields) → HasRead self ls → IfOk result (λ r. HasRead r (ls ++ lines text.now)) }
-        ensures fault { (ls more : List Fields) (f : ScriptFault) → HasRead self ls → result ≡ Err (Fault f) → fault_in ((ls ++ lines text.now) ++ more) ≡ Some f }
+        ensures ok { (ls : List Fields) → HasRead self ls
+            → IfOk result (λ r. HasRead r (ls ++ lines text.now)) }
+        ensures fault { (ls more : List Fields) (f : ScriptFault) → HasRead self ls → result
+            ≡ Err (Fault f) → fault_in ((ls ++ lines text.now) ++ more) ≡ Some f }
     {
         let Reader {
             alloc,
@@ -83,7 +85,8 @@ impl Reader {
 
     /// The script that the lines are, or what is wrong with their end.
     pub fn finish(self) -> Result<Script, ReadRefusal>
-        ensures { (ls : List Fields) → HasRead self ls → Answers result (fault_in ls) (script_in ls) }
+        ensures { (ls : List Fields) → HasRead self ls → Answers result (fault_in ls)
+            (script_in ls) }
     {
         self.reading.finish()
     }

@@ -147,7 +147,8 @@ pub fn add_area(out: &mut Vec<u8>, rect: &Rect) -> Result<(), NoMemory>
 }
 
 fn add_ink(out: &mut Vec<u8>, colour: Pixel, op: Op, strength: u8) -> Result<(), NoMemory>
-    ensures { OnOk result (out.new.items ≡ out.old.items ++ spaced (ink_fields colour op strength)) }
+    ensures { OnOk result (out.new.items ≡ out.old.items ++ spaced
+        (ink_fields colour op strength)) }
 {
     add_rgba(out, colour)?;
     add_field(out, op_text(op))?;
@@ -177,7 +178,8 @@ fn add_mark(out: &mut Vec<u8>, exclusive: bool) -> Result<(), NoMemory>
 }
 
 fn add_tip(out: &mut Vec<u8>, x: i32, y: i32, r: u8, soft: bool) -> Result<(), NoMemory>
-    ensures { OnOk result (out.new.items ≡ out.old.items ++ spaced (signed_decimal x ∷ signed_decimal y ∷ decimal r ∷ said_edge soft ∷ [])) }
+    ensures { OnOk result (out.new.items ≡ out.old.items ++ spaced
+        (signed_decimal x ∷ signed_decimal y ∷ decimal r ∷ said_edge soft ∷ [])) }
 {
     add_signed(out, x)?;
     add_signed(out, y)?;
@@ -192,14 +194,16 @@ fn add_fill(
     op: Op,
     strength: u8,
 ) -> Result<(), NoMemory>
-    ensures { OnOk result (out.new.items ≡ out.old.items ++ spaced (job_text_fields (Fill rect.now colour op strength))) }
+    ensures { OnOk result (out.new.items ≡ out.old.items ++ spaced
+        (job_text_fields (Fill rect.now colour op strength))) }
 {
     add_area(out, rect)?;
     add_ink(out, colour, op, strength)
 }
 
 fn add_move(out: &mut Vec<u8>, rect: &Rect, dx: i32, dy: i32) -> Result<(), NoMemory>
-    ensures { OnOk result (out.new.items ≡ out.old.items ++ spaced (job_text_fields (Move rect.now dx dy))) }
+    ensures { OnOk result (out.new.items ≡ out.old.items ++ spaced
+        (job_text_fields (Move rect.now dx dy))) }
 {
     add_area(out, rect)?;
     add_signed(out, dx)?;
@@ -207,7 +211,8 @@ fn add_move(out: &mut Vec<u8>, rect: &Rect, dx: i32, dy: i32) -> Result<(), NoMe
 }
 
 fn add_blur(out: &mut Vec<u8>, rect: &Rect, r: u8) -> Result<(), NoMemory>
-    ensures { OnOk result (out.new.items ≡ out.old.items ++ spaced (job_text_fields (Blur rect.now r))) }
+    ensures { OnOk result (out.new.items ≡ out.old.items ++ spaced
+        (job_text_fields (Blur rect.now r))) }
 {
     add_area(out, rect)?;
     add_number(out, r as u32)
@@ -224,7 +229,8 @@ fn add_dab(
     op: Op,
     strength: u8,
 ) -> Result<(), NoMemory>
-    ensures { OnOk result (out.new.items ≡ out.old.items ++ spaced (job_text_fields (Dab x y r soft colour op strength))) }
+    ensures { OnOk result (out.new.items ≡ out.old.items ++ spaced
+        (job_text_fields (Dab x y r soft colour op strength))) }
 {
     add_tip(out, x, y, r, soft)?;
     add_ink(out, colour, op, strength)
@@ -232,7 +238,9 @@ fn add_dab(
 
 /// Adds the fields of what each dab of a track paints.
 fn add_stamp(out: &mut Vec<u8>, stamp: &Stamp) -> Result<(), NoMemory>
-    ensures { OnOk result (out.new.items ≡ out.old.items ++ spaced ((decimal stamp.now.r ∷ said_edge stamp.now.soft ∷ []) ++ ink_fields stamp.now.colour stamp.now.op stamp.now.strength)) }
+    ensures { OnOk result (out.new.items ≡ out.old.items ++ spaced
+        ((decimal stamp.now.r ∷ said_edge stamp.now.soft ∷ []) ++ ink_fields stamp.now.colour
+        stamp.now.op stamp.now.strength)) }
 {
     add_number(out, stamp.r as u32)?;
     add_field(out, edge_text(stamp.soft))?;
@@ -241,7 +249,8 @@ fn add_stamp(out: &mut Vec<u8>, stamp: &Stamp) -> Result<(), NoMemory>
 
 /// Adds the fields of a polyline's points.
 fn add_points(out: &mut Vec<u8>, points: &[(i16, i16)]) -> Result<(), NoMemory>
-    ensures { OnOk result (out.new.items ≡ out.old.items ++ spaced (points_fields (map point_of points.now))) }
+    ensures { OnOk result (out.new.items ≡ out.old.items ++ spaced
+        (points_fields (map point_of points.now))) }
 {
     for i in 0..points.len() {
         let (x, y) = points[i];
@@ -261,7 +270,8 @@ fn add_trail(out: &mut Vec<u8>, track: &Track) -> Result<(), NoMemory>
 }
 
 fn add_track(out: &mut Vec<u8>, track: &Track, cell: TileKey) -> Result<(), NoMemory>
-    ensures { OnOk result (out.new.items ≡ out.old.items ++ spaced (job_text_fields (TrackJob track.now cell))) }
+    ensures { OnOk result (out.new.items ≡ out.old.items ++ spaced
+        (job_text_fields (TrackJob track.now cell))) }
 {
     add_signed(out, i32::from(cell.col))?;
     add_signed(out, i32::from(cell.row))?;
@@ -323,7 +333,8 @@ fn add_placed(
     parent: u16,
     place: u8,
 ) -> Result<(), NoMemory>
-    ensures { OnOk result (out.new.items ≡ out.old.items ++ line word.now (spot_fields id parent place)) }
+    ensures { OnOk result (out.new.items ≡ out.old.items ++ line word.now
+        (spot_fields id parent place)) }
 {
     add(out, word)?;
     add_spot(out, id, parent, place)?;
@@ -337,7 +348,8 @@ fn add_layer(
     place: u8,
     ground: Pixel,
 ) -> Result<(), NoMemory>
-    ensures { OnOk result (out.new.items ≡ out.old.items ++ change_text (Layer id parent place ground)) }
+    ensures { OnOk result (out.new.items ≡ out.old.items ++ change_text
+        (Layer id parent place ground)) }
 {
     add(out, b"layer")?;
     add_spot(out, id, parent, place)?;
@@ -374,7 +386,8 @@ fn add_change(out: &mut Vec<u8>, change: &Change) -> Result<(), NoMemory>
 }
 
 fn add_stroke(out: &mut Vec<u8>, no: u32, layer: u16, exclusive: bool) -> Result<(), NoMemory>
-    ensures { OnOk result (out.new.items ≡ out.old.items ++ command_text (Stroke no layer exclusive)) }
+    ensures { OnOk result (out.new.items ≡ out.old.items ++ command_text
+        (Stroke no layer exclusive)) }
 {
     add(out, b"stroke")?;
     add_number(out, no)?;

@@ -76,8 +76,10 @@ impl Reading {
     /// A canvas line, behind its word.
     fn take_canvas(&mut self, number: u32, others: &[&[u8]]) -> Result<(), ReadRefusal>
         requires { Fits self.old.canvas }
-        ensures refused { IsRefused result number (canvas_cause self.old.canvas (pointed others.now)) }
-        ensures canvas { OnOk result (self.new.canvas ≡ result_ok (said_canvas (pointed others.now))) }
+        ensures refused { IsRefused result number (canvas_cause self.old.canvas
+            (pointed others.now)) }
+        ensures canvas { OnOk result (self.new.canvas
+            ≡ result_ok (said_canvas (pointed others.now))) }
         ensures draft { OnOk result (self.new.draft ≡ self.old.draft) }
         ensures starts { OnOk result (self.new.starts ≡ self.old.starts) }
         ensures cells { OnOk result (self.new.cells ≡ self.old.cells) }
@@ -131,8 +133,10 @@ impl Reading {
         word: Option<Word>,
         others: &[&[u8]],
     ) -> Result<(), ReadRefusal>
-        ensures refused { IsRefused result number (word_cause self.old.canvas self.old.draft word (pointed others.now)) }
-        ensures taken { OnOk result (TakesCommand self.old self.new number (command_by word (pointed others.now))) }
+        ensures refused { IsRefused result number (word_cause self.old.canvas self.old.draft word
+            (pointed others.now)) }
+        ensures taken { OnOk result (TakesCommand self.old self.new number
+            (command_by word (pointed others.now))) }
     {
         let Some(word) = word else {
             return Err(at(number, Cause::UnknownWord));
@@ -148,8 +152,10 @@ impl Reading {
 
     /// A path, behind its word.
     fn take_path(&mut self, alloc: Global, number: u32, others: &[&[u8]]) -> Result<(), ReadRefusal>
-        ensures refused { IsRefused result number (path_cause self.old.canvas self.old.cells self.old.draft (pointed others.now)) }
-        ensures taken { OnOk result (TakesPath self.old self.new (result_ok (said_path (pointed others.now)))) }
+        ensures refused { IsRefused result number (path_cause self.old.canvas self.old.cells
+            self.old.draft (pointed others.now)) }
+        ensures taken { OnOk result (TakesPath self.old self.new
+            (result_ok (said_path (pointed others.now)))) }
     {
         if self.canvas.is_none() {
             return Err(at(number, Cause::CanvasMissing));
@@ -172,7 +178,9 @@ impl Reading {
         requires ranges { trail_in_range track.now ≡ true }
         requires few { length (centres track.now) ≤ 4096 }
         requires inside { list_all (λ a. lies_in a world) (squares track.now) ≡ true }
-        ensures refused { IsRefused result number (option_map said_cause (path_misfit (entries self.old.draft) self.old.cells no track.now)) }
+        ensures refused { IsRefused result number
+            (option_map said_cause (path_misfit (entries self.old.draft) self.old.cells no
+            track.now)) }
         ensures taken { OnOk result (TakesPath self.old self.new (Some (no, track.now))) }
     {
         let jobs = jobs_of(alloc, track)?;
@@ -196,7 +204,8 @@ impl Reading {
         fields: &[&[u8]],
     ) -> Result<(), ReadRefusal>
         requires { Fits self.old.canvas }
-        ensures refused { IsRefused result number (cause_by self.old.canvas self.old.cells self.old.draft (pointed fields.now)) }
+        ensures refused { IsRefused result number (cause_by self.old.canvas self.old.cells
+            self.old.draft (pointed fields.now)) }
         ensures taken { OnOk result (Takes self.old self.new number (pointed fields.now)) }
         ensures fits { OnOk result (Fits self.new.canvas) }
     {
@@ -233,7 +242,8 @@ impl Reading {
     pub(crate) fn finish(self) -> Result<Script, ReadRefusal>
         requires fits { Fits self.canvas }
         requires starts { StartsAre self.starts.items self.draft }
-        ensures { Answers result (end_by self.canvas self.draft self.starts.items) (contents_by self.canvas self.draft) }
+        ensures { Answers result (end_by self.canvas self.draft self.starts.items)
+            (contents_by self.canvas self.draft) }
     {
         let left = self.left_open();
         let Reading { canvas, draft, .. } = self;

@@ -23,7 +23,8 @@ pub fn widen_all(updates: &mut Updates, group: u16, job: &Job)
 /// Whether a job has published all its tiles.
 pub fn is_painted(painter: &Painter) -> bool
     requires { checks painter.now.job ≡ true }
-    ensures { result ≡ list_all (λ k. list_any (same_key k) painter.now.published) (all_keys_of (writes painter.now.job)) }
+    ensures { result ≡ list_all (λ k. list_any (same_key k) painter.now.published)
+        (all_keys_of (writes painter.now.job)) }
 {
     next_tile(painter).is_none()
 }

@@ -40,7 +40,8 @@ pub fn takes_painted(painter: &Painter, painted: &Painted<'_>) -> bool
 fn reads_same(job: &Job, shot: &Shot, kept: &Shot) -> bool
     requires checked { checks job.now ≡ true }
     requires kept { kept.now.rects ≡ reads job.now }
-    ensures { IsTrue result ↔ ((list_all (λ a. list_any (lies_in a) shot.now.rects) (reads job.now) ≡ true) × SameOn (reads job.now) (layer_of shot.now) (layer_of kept.now)) }
+    ensures { IsTrue result ↔ ((list_all (λ a. list_any (lies_in a) shot.now.rects) (reads job.now)
+        ≡ true) × SameOn (reads job.now) (layer_of shot.now) (layer_of kept.now)) }
 {
     let reads = job.reads();
     covers_all(shot, reads.as_slice()) && shot.same_on(kept, reads.as_slice())

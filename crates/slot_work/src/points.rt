@@ -43,7 +43,8 @@ pub fn some_works(slots: &Slots<Work>, x: i32, y: i32) -> bool
 /// Whether the work in a slot changes or composes the point.
 fn is_worked(slots: &Slots<Work>, place: u8, x: i32, y: i32) -> bool
     requires { AllByRecursion IsKept slots.now }
-    ensures { (slot : Slot) → slice_get (map slot_of slots.now) place ≡ Some slot → result ≡ works_on (point x y) slot }
+    ensures { (slot : Slot) → slice_get (map slot_of slots.now) place ≡ Some slot → result
+        ≡ works_on (point x y) slot }
 {
     match slots.work(place) {
         Some(Work::Paint(painter)) => is_painted_by(painter, x, y),

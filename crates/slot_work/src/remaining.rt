@@ -50,10 +50,13 @@ fn next_in(painter: &Painter, rect: &Rect) -> Option<TileKey>
 /// A group and a tile of the walk that aren't published. None exactly where all are.
 pub fn next_pair(walker: &Walker) -> Option<(u16, TileKey)>
     ensures group { IfSome result (λ pair. on pair.0 (path_in walker.now.inputs) ≡ true) }
-    ensures tile { IfSome result (λ pair. list_any (same_key pair.1) (keys_of walker.now.inputs.patch.rect) ≡ true) }
+    ensures tile { IfSome result (λ pair. list_any (same_key pair.1)
+        (keys_of walker.now.inputs.patch.rect) ≡ true) }
     ensures world { IfSome result (λ pair. IsWorldKey pair.1) }
-    ensures fresh { IfSome result (λ pair. list_any (same_pair pair.0 pair.1) walker.now.published ≡ false) }
-    ensures none { is_none result ≡ list_all (λ key. list_all (λ g. list_any (same_pair g key) walker.now.published) (path_in walker.now.inputs)) (keys_of walker.now.inputs.patch.rect) }
+    ensures fresh { IfSome result (λ pair. list_any (same_pair pair.0 pair.1) walker.now.published
+        ≡ false) }
+    ensures none { is_none result ≡ list_all (λ key. list_all (λ g. list_any (same_pair g key)
+        walker.now.published) (path_in walker.now.inputs)) (keys_of walker.now.inputs.patch.rect) }
 {
     let rect = walker.inputs.patch().rect;
     for i in 0..rect.tile_count() {
@@ -68,8 +71,10 @@ pub fn next_pair(walker: &Walker) -> Option<(u16, TileKey)>
 
 /// A group of which that tile isn't published. None exactly where there is none.
 fn next_group(walker: &Walker, key: TileKey) -> Option<u16>
-    ensures some { IfSome result (λ group. (on group (path_in walker.now.inputs) ≡ true) × (list_any (same_pair group key) walker.now.published ≡ false)) }
-    ensures none { is_none result ≡ list_all (λ g. list_any (same_pair g key) walker.now.published) (path_in walker.now.inputs) }
+    ensures some { IfSome result (λ group. (on group (path_in walker.now.inputs) ≡ true)
+        × (list_any (same_pair group key) walker.now.published ≡ false)) }
+    ensures none { is_none result ≡ list_all (λ g. list_any (same_pair g key) walker.now.published)
+        (path_in walker.now.inputs) }
 {
     for group in walker.inputs.path() {
         if !has_pair(&walker.published, *group, key) {

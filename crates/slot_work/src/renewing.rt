@@ -24,9 +24,11 @@ pub fn move_by(
 )
     requires limits { IsOfLimits canvas }
     requires area { updates.old.canvas ≡ canvas_area canvas }
-    ensures caches { (r : machine.Reach) → TellsReach r store.now.present reach → filmed.new.caches ≡ moved_caches filmed.old.caches store.now.present r }
+    ensures caches { (r : machine.Reach) → TellsReach r store.now.present reach → filmed.new.caches
+        ≡ moved_caches filmed.old.caches store.now.present r }
     ensures frames { filmed.new.frames ≡ filmed.old.frames }
-    ensures updates { (r : machine.Reach) → TellsReach r store.now.present reach → updates.new ≡ moved_updates updates.old store.now.present r }
+    ensures updates { (r : machine.Reach) → TellsReach r store.now.present reach → updates.new
+        ≡ moved_updates updates.old store.now.present r }
 {
     match reach {
         Reach::Whole => renew(store, filmed, updates, canvas),
@@ -38,7 +40,8 @@ pub fn move_by(
 pub fn renew(store: &Store, filmed: &mut FilmedCaches, updates: &mut Updates, canvas: Canvas)
     requires limits { IsOfLimits canvas }
     requires area { updates.old.canvas ≡ canvas_area canvas }
-    ensures caches { filmed.new.caches ≡ moved_caches filmed.old.caches store.now.present machine.Whole }
+    ensures caches { filmed.new.caches ≡ moved_caches filmed.old.caches store.now.present
+        machine.Whole }
     ensures frames { filmed.new.frames ≡ filmed.old.frames }
     ensures updates { updates.new ≡ moved_updates updates.old store.now.present machine.Whole }
 {

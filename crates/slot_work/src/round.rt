@@ -29,7 +29,8 @@ pub fn round_unsettled(updates: &Updates, slots: &Slots<Work>, bounds: &Rect) ->
 
 /// What was found so far, widened by the points that patches that wait hold.
 fn widen_by_patches(so_far: Option<Rect>, bounds: &Rect, updates: &Updates) -> Option<Rect>
-    ensures { Widens bounds.now (λ p. list_any (λ q. holds q.rect p) updates.now.patches) so_far result }
+    ensures { Widens bounds.now (λ p. list_any (λ q. holds q.rect p) updates.now.patches) so_far
+        result }
 {
     let mut round = so_far;
     for i in 0..updates.len() {

@@ -51,7 +51,8 @@ pub fn is_blocked(slots: &Slots<Work>, jobs: &[(Kind, Job)], kind: Kind) -> bool
 /// Whether a job of this kind may not run beside the one at work in the slot.
 fn is_blocked_at(slots: &Slots<Work>, place: u8, jobs: &[(Kind, Job)], kind: Kind) -> bool
     requires { place < length slots.now }
-    ensures { (slot : Slot) → slice_get (map slot_of slots.now) place ≡ Some slot → result ≡ blocks jobs.now kind slot }
+    ensures { (slot : Slot) → slice_get (map slot_of slots.now) place ≡ Some slot → result
+        ≡ blocks jobs.now kind slot }
 {
     match slots.work(place) {
         Some(Work::Paint(painter)) => match jobs.get(painter.index as usize) {
@@ -65,7 +66,8 @@ fn is_blocked_at(slots: &Slots<Work>, place: u8, jobs: &[(Kind, Job)], kind: Kin
 
 /// Whether a job is at work in the slot.
 fn is_painter_at(slots: &Slots<Work>, place: u8) -> bool
-    ensures { (slot : Slot) → slice_get (map slot_of slots.now) place ≡ Some slot → result ≡ is_painter slot }
+    ensures { (slot : Slot) → slice_get (map slot_of slots.now) place ≡ Some slot → result
+        ≡ is_painter slot }
 {
     match slots.work(place) {
         Some(Work::Paint(_)) => true,
@@ -76,7 +78,8 @@ fn is_painter_at(slots: &Slots<Work>, place: u8) -> bool
 
 /// Whether a walk is at work in the slot.
 fn is_walker_at(slots: &Slots<Work>, place: u8) -> bool
-    ensures { (slot : Slot) → slice_get (map slot_of slots.now) place ≡ Some slot → result ≡ is_walker slot }
+    ensures { (slot : Slot) → slice_get (map slot_of slots.now) place ≡ Some slot → result
+        ≡ is_walker slot }
 {
     match slots.work(place) {
         Some(Work::Walk(_)) => true,

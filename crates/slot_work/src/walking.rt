@@ -82,7 +82,8 @@ pub fn is_tile_of(rect: &Rect, key: TileKey) -> bool
 
 /// Whether a walk has published all its pairs.
 pub fn is_composed(walker: &Walker) -> bool
-    ensures { result ≡ list_all (λ key. list_all (λ g. list_any (same_pair g key) walker.now.published) (path_in walker.now.inputs)) (keys_of walker.now.inputs.patch.rect) }
+    ensures { result ≡ list_all (λ key. list_all (λ g. list_any (same_pair g key)
+        walker.now.published) (path_in walker.now.inputs)) (keys_of walker.now.inputs.patch.rect) }
 {
     next_pair(walker).is_none()
 }

@@ -50,10 +50,12 @@ fn paints(
     requires closed { book.old.index ≡ None }
     requires key { block.now.key ≡ key (pos 0) (pos 0) }
     ensures open { OnOk result (is_some book.new.index ≡ true) }
-    ensures stand { OnOk result ((r : Keyed Pixels) → book.new.index ≡ Some r → AllStand r device.new.tiles) }
+    ensures stand { OnOk result ((r : Keyed Pixels) → book.new.index ≡ Some r
+        → AllStand r device.new.tiles) }
     ensures past { OnOk result (book.new.past ≡ book.old.past) }
     ensures redo { OnOk result (book.new.redo ≡ book.old.redo) }
-    ensures keys { OnOk result ((q : Key) → map.contains_key device.old.tiles q ≡ true → map.contains_key device.new.tiles q ≡ true) }
+    ensures keys { OnOk result ((q : Key) → map.contains_key device.old.tiles q ≡ true
+        → map.contains_key device.new.tiles q ≡ true) }
 {
     book.begin()?;
     book.note(ORIGIN, None)?;

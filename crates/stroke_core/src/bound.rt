@@ -81,7 +81,8 @@ pub(crate) fn next_near(bounds: &[Bound], from: usize, bound: Bound) -> usize
     requires { from ≤ length bounds.now }
     ensures later { from ≤ result }
     ensures inside { result ≤ length bounds.now }
-    ensures passed { (k : ℕ) (b : Bound) → from ≤ k → k < result → slice_get bounds.now k ≡ Some b → near b bound ≡ false }
+    ensures passed { (k : ℕ) (b : Bound) → from ≤ k → k < result → slice_get bounds.now k ≡ Some b
+        → near b bound ≡ false }
 {
     for i in from..bounds.len() {
         if bounds[i].is_near(bound) {
@@ -107,7 +108,8 @@ pub(crate) fn any_near(
     requires rights { to ≤ length rights.now }
     requires tops { to ≤ length tops.now }
     requires bottoms { to ≤ length bottoms.now }
-    ensures { result ≡ false → (k : ℕ) → from ≤ k → k < to → near (bound_at lefts.now rights.now tops.now bottoms.now k) bound ≡ false }
+    ensures { result ≡ false → (k : ℕ) → from ≤ k → k < to
+        → near (bound_at lefts.now rights.now tops.now bottoms.now k) bound ≡ false }
 {
     let mut found = false;
     for i in from..to {

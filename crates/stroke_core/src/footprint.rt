@@ -58,7 +58,8 @@ impl Footprint {
     /// Whether one of the jobs writes what the other reads. Where each writes all that it reads, one
     /// way tells of the other.
     fn disturbs(&self, other: &Footprint) -> bool
-        ensures { result ≡ (any_meet self.now.writes other.now.reads || any_meet other.now.writes self.now.reads) }
+        ensures { result ≡ (any_meet self.now.writes other.now.reads || any_meet other.now.writes
+            self.now.reads) }
     {
         let there = any_meet(self.writes(), other.reads.as_slice());
         if self.writes_all() && other.writes_all() {
@@ -263,7 +264,8 @@ impl Footprints {
     fn first_in_block(&self, i: usize, new: &Footprint, bound: Bound) -> Option<usize>
         requires inside { BLOCK * i < length self.now }
         requires bound { Encloses bound new.now }
-        ensures { result ≡ plus (BLOCK * i) (position (λ f. marks_clash f new.now) (take BLOCK (drop (BLOCK * i) self.now))) }
+        ensures { result ≡ plus (BLOCK * i) (position (λ f. marks_clash f new.now)
+            (take BLOCK (drop (BLOCK * i) self.now))) }
     {
         let len = self.exact.len();
         let from = i * BLOCK;
@@ -276,7 +278,8 @@ impl Footprints {
         requires ascending { from ≤ to }
         requires inside { to ≤ length self.now }
         requires bound { Encloses bound new.now }
-        ensures { result ≡ plus from (position (λ f. marks_clash f new.now) (take (to - from) (drop from self.now))) }
+        ensures { result ≡ plus from (position (λ f. marks_clash f new.now)
+            (take (to - from) (drop from self.now))) }
     {
         let lefts = if new.unique {
             &self.lefts_for_unique
@@ -305,7 +308,9 @@ fn add_to_blocks(blocks: &mut Vec<Bound>, len: usize, bound: Bound)
     requires room { vec_len blocks.old < vec_capacity blocks.old }
     requires enough { len ≤ BLOCK * length blocks.old.items }
     requires needed { BLOCK * length blocks.old.items < len + BLOCK }
-    ensures { (unique_out : Bool) (marks : List Marks) (m : Marks) → length marks ≡ len → AreBlocks unique_out marks blocks.old.items → ((unique_out && m.unique) ≡ false → Encloses bound m) → AreBlocks unique_out (marks ++ m ∷ []) blocks.new.items }
+    ensures { (unique_out : Bool) (marks : List Marks) (m : Marks) → length marks ≡ len
+        → AreBlocks unique_out marks blocks.old.items → ((unique_out && m.unique) ≡ false
+        → Encloses bound m) → AreBlocks unique_out (marks ++ m ∷ []) blocks.new.items }
 {
     if len % BLOCK == 0 {
         push_reserved(blocks, bound);

@@ -81,7 +81,8 @@ impl Model for OpenStroke {
 impl OpenStroke {
     /// A stroke with that number on that layer, with no job yet.
     pub fn new(alloc: Global, no: u32, layer: u16, exclusive: bool) -> OpenStroke
-        ensures value { result ≡ record { no = no; layer = layer; exclusive = exclusive; jobs = []; overlap = None } }
+        ensures value { result ≡ record { no = no; layer = layer; exclusive = exclusive; jobs = [];
+            overlap = None } }
         ensures stands { StandsFor [] result }
     {
         OpenStroke {
@@ -106,13 +107,17 @@ impl OpenStroke {
         requires room { length self.old.jobs < 4096 }
 
         ensures clear { OnOk result (found self.old (kind, job) ≡ None) }
-        ensures added { OnOk result (self.new ≡ record self.old { jobs = self.old.jobs ++ (kind, job) ∷ [] }) }
+        ensures added { OnOk result (self.new ≡ record self.old
+            { jobs = self.old.jobs ++ (kind, job) ∷ [] }) }
 
-        ensures pair { (first second : ℕ) → result ≡ Err (AddFault.Overlap first second) → found self.old (kind, job) ≡ Some (first, second) }
-        ensures refused { (first second : ℕ) → result ≡ Err (AddFault.Overlap first second) → self.new ≡ record self.old { overlap = Some (first, second) } }
+        ensures pair { (first second : ℕ) → result ≡ Err (AddFault.Overlap first second)
+            → found self.old (kind, job) ≡ Some (first, second) }
+        ensures refused { (first second : ℕ) → result ≡ Err (AddFault.Overlap first second)
+            → self.new ≡ record self.old { overlap = Some (first, second) } }
 
         ensures no_memory { result ≡ Err AddFault.NoMemory → self.new ≡ self.old }
-        ensures stands { (fed : Jobs) → StandsFor fed self.old → result ≢ Err AddFault.NoMemory → StandsFor (fed ++ (kind, job) ∷ []) self.new }
+        ensures stands { (fed : Jobs) → StandsFor fed self.old → result ≢ Err AddFault.NoMemory
+            → StandsFor (fed ++ (kind, job) ∷ []) self.new }
     {
         if let Some((first, second)) = self.overlap {
             return Err(AddFault::Overlap { first, second });
@@ -130,7 +135,9 @@ impl OpenStroke {
     /// The number of the first kept job that conflicts with a new one, whose footprint this is if it
     /// may stand in a run.
     fn first_conflict(&self, footprint: &Option<Footprint>) -> Option<u32>
-        ensures { (kind : Kind) (job : Job) → footprint.now ≡ marks_in_run (kind, job) → result ≡ plus 1 (first_conflicting (self.now.jobs ++ (kind, job) ∷ []) (length self.now.jobs)) }
+        ensures { (kind : Kind) (job : Job) → footprint.now ≡ marks_in_run (kind, job) → result
+            ≡ plus 1 (first_conflicting (self.now.jobs ++ (kind, job) ∷ [])
+            (length self.now.jobs)) }
     {
         let Some(footprint) = footprint else {
             return None;
@@ -144,8 +151,10 @@ impl OpenStroke {
         requires checked { checks job ≡ true }
         requires room { length self.old.jobs < 4096 }
         requires marks { footprint ≡ marks_in_run (kind, job) }
-        requires clear { first_conflicting (self.old.jobs ++ (kind, job) ∷ []) (length self.old.jobs) ≡ None }
-        ensures ok { OnOk result (self.new ≡ record self.old { jobs = self.old.jobs ++ (kind, job) ∷ [] }) }
+        requires clear { first_conflicting (self.old.jobs ++ (kind, job) ∷ [])
+            (length self.old.jobs) ≡ None }
+        ensures ok { OnOk result (self.new ≡ record self.old { jobs = self.old.jobs ++ (kind, job) ∷
+            [] }) }
         ensures err { OnErr result (self.new ≡ self.old) }
     {
         self.jobs.reserve(1)?;

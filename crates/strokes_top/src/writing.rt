@@ -82,7 +82,8 @@ pub(crate) fn room_for(
     painting: &Painting,
     threads: u8,
 ) -> Result<Vec<u8>, AllocError>
-    ensures { IfOk result (λ v. HasRoom (said_rows_of painting.now.output painting.now.script.canvas.h)
+    ensures { IfOk result (λ v. HasRoom (said_rows_of painting.now.output
+        painting.now.script.canvas.h)
         painting.now.script.canvas v.items) }
 {
     let canvas = painting.script.canvas();

@@ -22,7 +22,8 @@ fn feed(desk: &mut Desk, command: &Command) -> Result<bool, NoMemory>
     requires few { length desk.old.fed < 2 ^ 32 - 1 }
     ensures canvas { desk.new.canvas ≡ desk.old.canvas }
     ensures told { IfOk result (λ may. may ≡ may_follow (entries desk.old.fed) command.now) }
-    ensures fed { IfOk result (λ may. desk.new.fed ≡ cond may (desk.old.fed ++ command.now ∷ []) desk.old.fed) }
+    ensures fed { IfOk result (λ may. desk.new.fed ≡ cond may (desk.old.fed ++ command.now ∷ [])
+        desk.old.fed) }
     ensures err { OnErr result (desk.new.fed ≡ desk.old.fed) }
 {
     let may = desk.lawful(command);

@@ -97,8 +97,10 @@ impl Studio {
     ) -> Result<Sent, NoMemory>
         requires studio { pass.old.lock ≡ self.now.id }
         requires few { pass.old.calls < 1048576 }
-        ensures turn { HasTurn signer may_be_next pass.old.numbers pass.old.made pass.old.seen (signed (own pass.old) command.now) result pass.new.seen }
-        ensures pass { pass.new ≡ called pass.old (added (signed (own pass.old) command.now) result) pass.new.seen }
+        ensures turn { HasTurn signer may_be_next pass.old.numbers pass.old.made pass.old.seen
+            (signed (own pass.old) command.now) result pass.new.seen }
+        ensures pass { pass.new ≡ called pass.old (added (signed (own pass.old) command.now) result)
+            pass.new.seen }
         ensures lawful { lawful (commands_of pass.new.seen) ≡ true }
     {
         let entry = Signed {

@@ -39,7 +39,8 @@ impl OutlinedMachine {
 
     /// Changes the tree, or refuses to.
     fn change(&mut self, change: &Change) -> Result<(), NoMemory>
-        ensures { OnOk result (parts self.new ≡ after_change (parts self.old) (changed (λ _. tt) change.now self.old.history.tree)) }
+        ensures { OnOk result (parts self.new ≡ after_change (parts self.old)
+            (changed (λ _. tt) change.now self.old.history.tree)) }
     {
         let reach = self.history.change(self.alloc, change)?;
         self.reached(reach);
@@ -57,7 +58,8 @@ impl OutlinedMachine {
 
     /// Takes the newest undo back.
     fn redo(&mut self) -> Result<(), NoMemory>
-        ensures { OnOk result (parts self.new ≡ after_redo (parts self.old) self.old.history.future) }
+        ensures { OnOk result (parts self.new ≡ after_redo (parts self.old)
+            self.old.history.future) }
     {
         let reach = self.history.redo()?;
         self.reached(reach);

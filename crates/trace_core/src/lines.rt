@@ -18,7 +18,8 @@ impl OutlinedMachine {
     /// What the line says happens. False where it may not.
     fn take(&mut self, line: &Line) -> Result<bool, NoMemory>
         requires { Fits line.now }
-        ensures { Follows result (happens (parts self.old) line.now) (parts self.old) (parts self.new) }
+        ensures { Follows result (happens (parts self.old) line.now) (parts self.old)
+            (parts self.new) }
     {
         match line {
             Line::Feed(command) => self.intake.feed(command),
@@ -34,7 +35,8 @@ impl OutlinedMachine {
 
     /// Follows the line of that number.
     fn follow_line(&mut self, number: u32, fields: &[&[u8]]) -> Result<(), ReplayRefusal>
-        ensures { LeadsTo result (line_follows number (parts self.old) (pointed fields.now)) (parts self.new) }
+        ensures { LeadsTo result (line_follows number (parts self.old) (pointed fields.now))
+            (parts self.new) }
     {
         let Ok(line) = line_of(fields) else {
             return Err(fault(number, TraceCause::BadLine));
@@ -53,7 +55,8 @@ impl OutlinedMachine {
         behind: Option<&[u8]>,
     ) -> Result<u32, ReplayRefusal>
         requires { length (lines_behind behind) + 2 < 4294967296 }
-        ensures leads { LeadsTo result (follow 3 (parts self.old) (lines_behind behind.entry)) (parts self.new) }
+        ensures leads { LeadsTo result (follow 3 (parts self.old) (lines_behind behind.entry))
+            (parts self.new) }
         ensures count { Counts result (lines_behind behind.entry) }
     {
         let mut fields = Vec::new(alloc);

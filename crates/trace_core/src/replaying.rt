@@ -75,7 +75,8 @@ fn text_of(bytes: &[u8]) -> Option<&[u8]>
 /// The machine of the first two lines.
 #[tactic(auto, unfolding(trace_lines::specs::Replay::replayed))]
 fn begin(alloc: Global, text: Option<&[u8]>) -> Result<Beginning<'_>, ReplayRefusal>
-    ensures ok { IfOk result (λ b. IsBegun (parts b.machine) b.canvas (lines_behind b.behind) (lines_behind text.entry)) }
+    ensures ok { IfOk result (λ b. IsBegun (parts b.machine) b.canvas (lines_behind b.behind)
+        (lines_behind text.entry)) }
     ensures err { IfErr result (λ e. IsRefused e (replayed (lines_behind text.entry))) }
 {
     let mut fields = Vec::new(alloc);

@@ -131,7 +131,8 @@ impl OutlinedMachine {
 
     /// The stroke at the head leaves nothing.
     pub(crate) fn cancel(&mut self) -> bool
-        ensures { Follows (Ok result) (cancelled (parts self.old)) (parts self.old) (parts self.new) }
+        ensures { Follows (Ok result) (cancelled (parts self.old)) (parts self.old)
+            (parts self.new) }
     {
         let Some(head) = self.intake.head() else {
             return false;

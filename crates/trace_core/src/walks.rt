@@ -31,7 +31,8 @@ fn same_patch(a: &Patch, b: &Patch) -> bool
 fn place_of(updates: &Updates, patch: &Patch) -> Option<usize>
     ensures some { IfSome result (λ i. i ≡ place_of patch.now updates.now.patches) }
     ensures within { IfSome result (λ i. i < length updates.now.patches) }
-    ensures none { IfNone result (place_of patch.now updates.now.patches ≡ length updates.now.patches) }
+    ensures none { IfNone result (place_of patch.now updates.now.patches
+        ≡ length updates.now.patches) }
 {
     for i in 0..updates.len() {
         if same_patch(patch, &updates.patch(i)) {
@@ -61,7 +62,8 @@ impl OutlinedMachine {
 
     /// A walk of the patch starts in the slot.
     pub(crate) fn walk(&mut self, place: u8, patch: &Patch) -> Result<bool, NoMemory>
-        ensures { Follows result (walk_started (parts self.old) place patch.now) (parts self.old) (parts self.new) }
+        ensures { Follows result (walk_started (parts self.old) place patch.now) (parts self.old)
+            (parts self.new) }
     {
         if !self.is_free(place) {
             return Ok(false);
@@ -83,7 +85,8 @@ impl OutlinedMachine {
     /// A tile of a group is composed by the walk in the slot.
     pub(crate) fn put(&mut self, place: u8, group: u16, key: TileKey) -> Result<bool, NoMemory>
         requires { IsWorldKey key }
-        ensures { Follows result (composed (parts self.old) place group key) (parts self.old) (parts self.new) }
+        ensures { Follows result (composed (parts self.old) place group key) (parts self.old)
+            (parts self.new) }
     {
         let i = place as usize;
         if i >= self.slots.len() {

@@ -30,14 +30,16 @@ impl OutlinedMachine {
 
     /// Whether a barrier may start.
     fn lets_bar(&self, head: &HeadStroke) -> bool
-        ensures { result ≡ (head.now.exclusive || (no_walker (parts self.now) && is_clean (parts self.now))) }
+        ensures { result ≡ (head.now.exclusive || (no_walker (parts self.now) && is_clean
+            (parts self.now))) }
     {
         head.exclusive || (self.no_walker() && self.is_clean())
     }
 
     /// The next job of the stroke at the head starts in the slot.
     pub(crate) fn start(&mut self, place: u8) -> bool
-        ensures { Follows (Ok result) (started (parts self.old) place) (parts self.old) (parts self.new) }
+        ensures { Follows (Ok result) (started (parts self.old) place) (parts self.old)
+            (parts self.new) }
     {
         if !self.is_free(place) {
             return false;
@@ -63,7 +65,8 @@ impl OutlinedMachine {
     /// A tile of the job in the slot is published.
     pub(crate) fn publish(&mut self, place: u8, key: TileKey) -> Result<bool, NoMemory>
         requires { IsWorldKey key }
-        ensures { Follows result (published (parts self.old) place key) (parts self.old) (parts self.new) }
+        ensures { Follows result (published (parts self.old) place key) (parts self.old)
+            (parts self.new) }
     {
         let i = place as usize;
         if i >= self.slots.len() || self.intake.head().is_none() {
@@ -74,7 +77,8 @@ impl OutlinedMachine {
 
     /// The job in the slot ends.
     fn end_job(&mut self, place: u8) -> bool
-        ensures { Follows (Ok result) (ended (parts self.old) place) (parts self.old) (parts self.new) }
+        ensures { Follows (Ok result) (ended (parts self.old) place) (parts self.old)
+            (parts self.new) }
     {
         let Some(head) = self.intake.head() else {
             return false;
@@ -91,7 +95,8 @@ impl OutlinedMachine {
 
     /// The walk in the slot ends.
     fn end_walk(&mut self, place: u8) -> bool
-        ensures { Follows (Ok result) (walk_ended (parts self.old) place) (parts self.old) (parts self.new) }
+        ensures { Follows (Ok result) (walk_ended (parts self.old) place) (parts self.old)
+            (parts self.new) }
     {
         match self.slots.get(place as usize) {
             Some(Slot::Walks(walker)) if walker.is_composed() => {}
@@ -103,7 +108,8 @@ impl OutlinedMachine {
 
     /// The job or the walk in the slot ends.
     pub(crate) fn end(&mut self, place: u8) -> bool
-        ensures { Follows (Ok result) (work_ended (parts self.old) place) (parts self.old) (parts self.new) }
+        ensures { Follows (Ok result) (work_ended (parts self.old) place) (parts self.old)
+            (parts self.new) }
     {
         if self.end_job(place) {
             return true;

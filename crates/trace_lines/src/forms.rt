@@ -140,7 +140,8 @@ fn walk_up(
     width: &[u8],
     height: &[u8],
 ) -> Result<Line, Cause>
-    ensures value { result ≡ told_up at.now mode.now group.now left.now top.now width.now height.now }
+    ensures value { result ≡ told_up at.now mode.now group.now left.now top.now width.now
+        height.now }
     ensures fits { IfOk result Fits }
 {
     let at = place(at)?;

@@ -56,7 +56,8 @@ impl Scribe {
         requires ranges { in_range command.now ≡ true }
         requires tied { IsTied self.old.held self.old.desk }
         ensures fed { OnOk result (self.new.desk.fed ≡ self.old.desk.fed ++ command.now ∷ []) }
-        ensures writes { OnOk result (Writes self.old.desk self.old.out.items self.new.desk self.new.out.items) }
+        ensures writes { OnOk result (Writes self.old.desk self.old.out.items self.new.desk
+            self.new.out.items) }
         ensures tied { OnOk result (IsTied self.new.held self.new.desk) }
     {
         self.desk.feed(command)?;
@@ -67,7 +68,8 @@ impl Scribe {
     /// A place at which something is at work, the given one if that is. None exactly where all are free.
     pub(crate) fn busy_place(&self, place: u8) -> Option<u8>
         requires { IsTied self.now.held self.now.desk }
-        ensures some { IfSome result (λ p. IsSomeAnd (slice_get self.now.desk.slots p) (λ slot. is_free slot ≡ false)) }
+        ensures some { IfSome result (λ p. IsSomeAnd (slice_get self.now.desk.slots p)
+            (λ slot. is_free slot ≡ false)) }
         ensures none { IfNone result (list_all is_free self.now.desk.slots ≡ true) }
     {
         if self.held.work(place).is_some() {

@@ -58,9 +58,11 @@ impl Scribe {
     /// Takes what may be done next.
     pub(crate) fn take<L: Ledger>(&mut self, steps: &mut Steps<L>) -> Result<Took, NoMemory>
         requires { IsTied self.old.held self.old.desk }
-        ensures something { result ≡ Ok took.Something → GoesOnWriting self.old.desk self.old.out.items self.new }
+        ensures something { result ≡ Ok took.Something → GoesOnWriting self.old.desk
+            self.old.out.items self.new }
         ensures nothing { result ≡ Ok took.Nothing → IsIdle self.old.desk × (self.new ≡ self.old) }
-        ensures settled { result ≡ Ok took.Settled → IsSettled self.old.desk × (self.new ≡ self.old) }
+        ensures settled { result ≡ Ok took.Settled → IsSettled self.old.desk
+            × (self.new ≡ self.old) }
     {
         match self.desk.take(steps)? {
             Taken::Paint(ticket) => {
@@ -83,10 +85,12 @@ impl Scribe {
     /// Holds a job that was taken.
     fn hold_job(&mut self, ticket: PaintTicket) -> Result<(), NoMemory>
         requires some { 1 ≤ ticket.job }
-        requires lent { IsLent self.old.held ticket.slot.place (busy_painter (taken_job ticket)) self.old.desk }
+        requires lent { IsLent self.old.held ticket.slot.place (busy_painter (taken_job ticket))
+            self.old.desk }
         ensures desk { self.new.desk ≡ self.old.desk }
         ensures tied { OnOk result (IsTied self.new.held self.old.desk) }
-        ensures text { OnOk result (self.new.out.items ≡ self.old.out.items ++ line_text (StartLine ticket.slot.place)) }
+        ensures text { OnOk result (self.new.out.items ≡ self.old.out.items ++ line_text
+            (StartLine ticket.slot.place)) }
     {
         let PaintTicket {
             slot,
@@ -114,11 +118,14 @@ impl Scribe {
         requires world { lies_in ticket.inputs.patch.rect world ≡ true }
         requires columns { ticket.inputs.patch.rect.w ≤ 4096 }
         requires rows { ticket.inputs.patch.rect.h ≤ 4096 }
-        requires lent { IsLent self.old.held ticket.slot.place (busy_walker (taken_walk ticket)) self.old.desk }
+        requires lent { IsLent self.old.held ticket.slot.place (busy_walker (taken_walk ticket))
+            self.old.desk }
         ensures desk { self.new.desk ≡ self.old.desk }
         ensures tied { OnOk result (IsTied self.new.held self.old.desk) }
-        ensures fits { OnOk result (line_in_range (WalkLine ticket.slot.place ticket.inputs.patch) ≡ true) }
-        ensures text { OnOk result (self.new.out.items ≡ self.old.out.items ++ line_text (WalkLine ticket.slot.place ticket.inputs.patch)) }
+        ensures fits { OnOk result (line_in_range (WalkLine ticket.slot.place ticket.inputs.patch)
+            ≡ true) }
+        ensures text { OnOk result (self.new.out.items ≡ self.old.out.items ++ line_text
+            (WalkLine ticket.slot.place ticket.inputs.patch)) }
     {
         let WalkTicket { slot, inputs } = ticket;
         let patch = inputs.patch();

@@ -58,7 +58,8 @@ fn take_or_work<L: Ledger>(
     steps: &mut Steps<L>,
 ) -> Result<(), NoMemory>
     requires tied { IsTied scribe.old.held scribe.old.desk }
-    requires busy { IsSomeAnd (slice_get scribe.old.desk.slots place) (λ slot. is_free slot ≡ false) }
+    requires busy { IsSomeAnd (slice_get scribe.old.desk.slots place) (λ slot. is_free slot
+        ≡ false) }
     ensures { OnOk result (GoesOnWriting scribe.old.desk scribe.old.out.items scribe.new) }
 {
     if draw(draws, 2) == 0 {
@@ -101,7 +102,8 @@ fn feed_all<L: Ledger>(
     requires none { scribe.old.desk.fed ≡ [] }
     requires tied { IsTied scribe.old.held scribe.old.desk }
     ensures fed { OnOk result (scribe.new.desk.fed ≡ script.now.commands) }
-    ensures writes { OnOk result (Writes scribe.old.desk scribe.old.out.items scribe.new.desk scribe.new.out.items) }
+    ensures writes { OnOk result (Writes scribe.old.desk scribe.old.out.items scribe.new.desk
+        scribe.new.out.items) }
     ensures tied { OnOk result (IsTied scribe.new.held scribe.new.desk) }
 {
     let commands = script.commands();
@@ -183,7 +185,8 @@ fn trace_on<L: Ledger>(
 fn traced_of(scribe: Scribe) -> Traced
     requires { IsSettled scribe.desk }
     ensures text { result.text.items ≡ scribe.out.items }
-    ensures outcomes { result.outcomes.items ≡ (meaning scribe.desk.canvas (entries scribe.desk.fed)).outcomes }
+    ensures outcomes { result.outcomes.items ≡ (meaning scribe.desk.canvas
+        (entries scribe.desk.fed)).outcomes }
 {
     settled_has_meaning(&scribe.desk);
     let Scribe { desk, out, .. } = scribe;

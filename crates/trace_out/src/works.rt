@@ -28,7 +28,8 @@ impl Scribe {
     /// Publishes one more tile of the work at that place, or ends it where all are published.
     pub(crate) fn work_at(&mut self, place: u8) -> Result<(), NoMemory>
         requires tied { IsTied self.old.held self.old.desk }
-        requires busy { IsSomeAnd (slice_get self.old.desk.slots place) (λ slot. is_free slot ≡ false) }
+        requires busy { IsSomeAnd (slice_get self.old.desk.slots place) (λ slot. is_free slot
+            ≡ false) }
         ensures { OnOk result (GoesOnWriting self.old.desk self.old.out.items self.new) }
     {
         match self.held.clear(place) {
@@ -121,8 +122,10 @@ impl Scribe {
     ) -> Result<(), NoMemory>
         requires lent { IsLent self.old.held place (busy_walker walker.old) self.old.desk }
         requires lacks { LacksPair walker.old group key }
-        ensures goes { OnOk result (GoesOnPutting self.old.desk self.old.out.items self.new.desk self.new.out.items) }
-        ensures lent { OnOk result (IsLent self.new.held place (busy_walker walker.new) self.new.desk) }
+        ensures goes { OnOk result (GoesOnPutting self.old.desk self.old.out.items self.new.desk
+            self.new.out.items) }
+        ensures lent { OnOk result (IsLent self.new.held place (busy_walker walker.new)
+            self.new.desk) }
         ensures inputs { walker.new.inputs ≡ walker.old.inputs }
     {
         let slot = SlotId {
@@ -147,8 +150,10 @@ impl Scribe {
         requires composed { composed.now.keys ≡ key ∷ [] }
         requires lent { IsLentWalk self.old.held slot composed.now published.old self.old.desk }
         requires lacks { LacksPair (walk_of slot composed.now published.old) group key }
-        ensures goes { OnOk result (GoesOnPutting self.old.desk self.old.out.items self.new.desk self.new.out.items) }
-        ensures lent { OnOk result (IsLentWalk self.new.held slot composed.now published.new self.new.desk) }
+        ensures goes { OnOk result (GoesOnPutting self.old.desk self.old.out.items self.new.desk
+            self.new.out.items) }
+        ensures lent { OnOk result (IsLentWalk self.new.held slot composed.now published.new
+            self.new.desk) }
     {
         match self.desk.publish_walk(slot, composed, group, key)? {
             Published::Stored => {
@@ -170,10 +175,13 @@ impl Scribe {
     ) -> Result<(), NoMemory>
         requires composed { composed.now.keys ≡ key ∷ [] }
         requires world { IsWorldKey key }
-        requires in_patch { list_any (same_key key) (keys_of composed.now.readings.patch.rect) ≡ true }
+        requires in_patch { list_any (same_key key) (keys_of composed.now.readings.patch.rect)
+            ≡ true }
         requires lent { IsLentWalk self.old.held slot composed.now published.old self.old.desk }
-        ensures goes { OnOk result (SettlesPutting self.old.desk self.old.out.items self.new.desk self.new.out.items) }
-        ensures lent { OnOk result (IsLentWalk self.new.held slot composed.now published.new self.new.desk) }
+        ensures goes { OnOk result (SettlesPutting self.old.desk self.old.out.items self.new.desk
+            self.new.out.items) }
+        ensures lent { OnOk result (IsLentWalk self.new.held slot composed.now published.new
+            self.new.desk) }
     {
         for group in composed.inputs().path() {
             if !has_pair(published, *group, key) {
@@ -192,7 +200,8 @@ fn publish_tile(
     painter: &Painter,
     key: TileKey,
 ) -> Result<(), NoMemory>
-    requires runs { slice_get desk.old.slots place ≡ Some (slot_of (Some (busy_painter painter.now))) }
+    requires runs { slice_get desk.old.slots place
+        ≡ Some (slot_of (Some (busy_painter painter.now))) }
     requires kept { IsKept (Some (busy_painter painter.now)) }
     requires lacks { LacksTile painter.now key }
     ensures step { OnOk result (Step desk.old (PublishEvent place key) desk.new) }

@@ -54,7 +54,8 @@ fn go(
 ) -> Result<Option<Reach>, NoMemory>
     requires links { AllLead tree.old links.old.items }
     requires others { AllLead tree.old others.old.items }
-    ensures gone { OnOk result (course tree.new links.new.items others.new.items ≡ back (course tree.old links.old.items others.old.items)) }
+    ensures gone { OnOk result (course tree.new links.new.items others.new.items
+        ≡ back (course tree.old links.old.items others.old.items)) }
     ensures reach { IfOk result (λ reach. reach ≡ first_reach (formers tree.old links.old.items)) }
     ensures links { AllLead tree.new links.new.items }
     ensures others { AllLead tree.new others.new.items }
@@ -135,8 +136,10 @@ impl History {
 
     /// Changes the tree, or refuses to. Answers the reach of the change, or None where it is refused.
     pub fn change(&mut self, alloc: Global, change: &Change) -> Result<Option<Reach>, NoMemory>
-        ensures course { OnOk result (self.new ≡ after_change self.old (changed (λ _. tt) change.now self.old.tree)) }
-        ensures reach { IfOk result (λ reach. reach ≡ change_reach (changed (λ _. tt) change.now self.old.tree)) }
+        ensures course { OnOk result (self.new ≡ after_change self.old (changed (λ _. tt) change.now
+            self.old.tree)) }
+        ensures reach { IfOk result (λ reach. reach ≡ change_reach (changed (λ _. tt) change.now
+            self.old.tree)) }
     {
         let mut tree = self.tree.copy();
         if tree.change(change).is_err() {

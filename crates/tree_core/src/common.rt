@@ -21,7 +21,8 @@ pub fn common_front(here: &[Node], there: &[Node]) -> usize
 pub fn common_back(here: &[Node], there: &[Node]) -> usize
     ensures within { result ≤ length here.now }
     ensures there { result ≤ length there.now }
-    ensures same { drop (length here.now - result) here.now ≡ drop (length there.now - result) there.now }
+    ensures same { drop (length here.now - result) here.now ≡ drop (length there.now - result)
+        there.now }
 {
     let mut back = 0;
     while back < here.len()

@@ -68,7 +68,9 @@ fn shift(nodes: &mut [Node], branch: Branch, at: usize)
     requires order { branch.start ≤ branch.end }
     requires within { branch.end ≤ length nodes.old }
     requires place { at + (branch.end - branch.start) ≤ length nodes.old }
-    ensures { nodes.new ≡ take at (remove_range nodes.old branch.start branch.end) ++ (slice_range nodes.old branch.start branch.end ++ drop at (remove_range nodes.old branch.start branch.end)) }
+    ensures { nodes.new ≡ take at (remove_range nodes.old branch.start branch.end) ++
+        (slice_range nodes.old branch.start branch.end ++ drop at
+        (remove_range nodes.old branch.start branch.end)) }
 {
     let count = branch.end - branch.start;
     if at <= branch.start {

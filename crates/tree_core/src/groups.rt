@@ -27,8 +27,10 @@ pub fn groups_of(nodes: &[Node]) -> ArrayVec<u16, 257>
 /// Passes one node: the groups that it doesn't stand in are left, and it is entered if it is a group.
 fn pass(node: &Node, around: &mut ArrayVec<u16, 256>, groups: &mut ArrayVec<u16, 257>)
     requires room { length around.old.items + length groups.old.items < 256 }
-    ensures count { length around.new.items + length groups.new.items ≤ suc (length around.old.items + length groups.old.items) }
-    ensures due { (rows : List (Row (Unit {0}))) → groups.new.items ++ due 0 around.new.items rows ≡ groups.old.items ++ due 0 around.old.items (row_of node.now ∷ rows) }
+    ensures count { length around.new.items + length groups.new.items ≤ suc
+        (length around.old.items + length groups.old.items) }
+    ensures due { (rows : List (Row (Unit {0}))) → groups.new.items ++ due 0 around.new.items rows
+        ≡ groups.old.items ++ due 0 around.old.items (row_of node.now ∷ rows) }
 {
     let depth = node.depth as usize;
     leave(depth, around, groups);
@@ -41,7 +43,8 @@ fn enter(node: &Node, depth: usize, around: &mut ArrayVec<u16, 256>)
     requires room { length around.old.items < 256 }
     requires inside { length around.old.items ≤ depth }
     ensures count { length around.new.items ≤ suc (length around.old.items) }
-    ensures due { (rows : List (Row (Unit {0}))) → due 0 around.new.items rows ≡ due 0 around.old.items (row_of node.now ∷ rows) }
+    ensures due { (rows : List (Row (Unit {0}))) → due 0 around.new.items rows
+        ≡ due 0 around.old.items (row_of node.now ∷ rows) }
 {
     if node.paints {
         return;
@@ -56,8 +59,10 @@ fn enter(node: &Node, depth: usize, around: &mut ArrayVec<u16, 256>)
 fn leave(depth: usize, around: &mut ArrayVec<u16, 256>, groups: &mut ArrayVec<u16, 257>)
     requires room { length around.old.items + length groups.old.items ≤ 256 }
     ensures inside { length around.new.items ≤ depth }
-    ensures count { length around.new.items + length groups.new.items ≡ length around.old.items + length groups.old.items }
-    ensures due { (rows : List (Row (Unit {0}))) → EndsAt (suc depth) rows → groups.new.items ++ due 0 around.new.items rows ≡ groups.old.items ++ due 0 around.old.items rows }
+    ensures count { length around.new.items + length groups.new.items ≡ length around.old.items +
+        length groups.old.items }
+    ensures due { (rows : List (Row (Unit {0}))) → EndsAt (suc depth) rows → groups.new.items ++ due
+        0 around.new.items rows ≡ groups.old.items ++ due 0 around.old.items rows }
 {
     let mut left = around.len();
     while left > depth {

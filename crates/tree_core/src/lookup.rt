@@ -130,9 +130,13 @@ pub fn place_at(nodes: &[Node], branch: Branch, group: Group, place: u8) -> Opti
     requires order { branch.start ≤ branch.end }
     requires within { branch.end ≤ length nodes.now }
     requires start { group.start ≤ length (remove_range nodes.now branch.start branch.end) }
-    ensures there { is_some result ≡ not (nat_lt (width (read group.depth (rows_of (drop group.start (remove_range nodes.now branch.start branch.end))))) place) }
-    ensures at { IfSome result (λ at. at ≡ group.start + nodes_before group.depth place (drop group.start (remove_range nodes.now branch.start branch.end))) }
-    ensures within { IfSome result (λ at. at ≤ length (remove_range nodes.now branch.start branch.end)) }
+    ensures there { is_some result ≡ not (nat_lt
+        (width (read group.depth (rows_of (drop group.start (remove_range nodes.now branch.start
+        branch.end))))) place) }
+    ensures at { IfSome result (λ at. at ≡ group.start + nodes_before group.depth place
+        (drop group.start (remove_range nodes.now branch.start branch.end))) }
+    ensures within { IfSome result (λ at. at ≤ length (remove_range nodes.now branch.start
+        branch.end)) }
 {
     let count = nodes.len() - (branch.end - branch.start);
     let mut passed = 0;
@@ -162,8 +166,10 @@ pub fn span(nodes: &[Node], id: u16) -> Branch
     requires kept { IsKept nodes.now }
     ensures order { result.start ≤ result.end }
     ensures within { result.end ≤ length nodes.now }
-    ensures branch { rows_of (slice_range nodes.now result.start result.end) ≡ flat (depth id (tree_of nodes.now) - 1) (only id (tree_of nodes.now)) }
-    ensures left { tree_of (remove_range nodes.now result.start result.end) ≡ without id (tree_of nodes.now) }
+    ensures branch { rows_of (slice_range nodes.now result.start result.end)
+        ≡ flat (depth id (tree_of nodes.now) - 1) (only id (tree_of nodes.now)) }
+    ensures left { tree_of (remove_range nodes.now result.start result.end)
+        ≡ without id (tree_of nodes.now) }
     ensures kept { IsKept (remove_range nodes.now result.start result.end) }
 {
     for i in 0..nodes.len() {

@@ -60,11 +60,15 @@ pub fn new_place(nodes: &[Node], id: u16, parent: u16, place: u8) -> Result<Node
 pub fn route_of(nodes: &[Node], id: u16, parent: u16, place: u8) -> Result<Route, TreeFault>
     requires kept { IsKept nodes.now }
     ensures ok { OnOk result (no_place id parent place (tree_of nodes.now) ≡ None) }
-    ensures err { IfErr result (λ fault. no_place id parent place (tree_of nodes.now) ≡ Some fault) }
-    ensures moved { IfOk result (λ route. rows_of (moved_along route nodes.now) ≡ flat 0 (set_in parent place (only id (tree_of nodes.now)) (without id (tree_of nodes.now)))) }
+    ensures err { IfErr result (λ fault. no_place id parent place (tree_of nodes.now)
+        ≡ Some fault) }
+    ensures moved { IfOk result (λ route. rows_of (moved_along route nodes.now)
+        ≡ flat 0 (set_in parent place (only id (tree_of nodes.now))
+        (without id (tree_of nodes.now)))) }
     ensures order { IfOk result (λ route. route.branch.start ≤ route.branch.end) }
     ensures within { IfOk result (λ route. route.branch.end ≤ length nodes.now) }
-    ensures place { IfOk result (λ route. route.at + (route.branch.end - route.branch.start) ≤ length nodes.now) }
+    ensures place { IfOk result (λ route. route.at + (route.branch.end - route.branch.start) ≤
+        length nodes.now) }
 {
     let branch = span(nodes, id);
     if branch.start == branch.end {
@@ -117,7 +121,8 @@ fn stands_in(branch: Branch, group: Group) -> bool
 fn start_beside(branch: Branch, start: usize) -> usize
     requires order { branch.start ≤ branch.end }
     requires outside { branch.start < start → branch.end < start }
-    ensures { result ≡ if nat_lt branch.start start then start - (branch.end - branch.start) else start }
+    ensures { result ≡ if nat_lt branch.start start then start - (branch.end - branch.start) else
+        start }
 {
     if branch.start < start {
         start - (branch.end - branch.start)

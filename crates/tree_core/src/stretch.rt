@@ -24,7 +24,8 @@ pub struct Stretch {
 /// All nodes of the other list but the longest front and back that both have. Two passes.
 pub fn stretch_between(alloc: Global, here: &[Node], there: &[Node]) -> Result<Stretch, NoMemory>
     requires { length here.now ≤ 256 }
-    ensures ok { IfOk result (λ s. replaced s.at s.count (rows_of s.others.items) (rows_of here.now) ≡ rows_of there.now) }
+    ensures ok { IfOk result (λ s. replaced s.at s.count (rows_of s.others.items) (rows_of here.now)
+        ≡ rows_of there.now) }
     ensures room { IfOk result (λ s. HasRoom s (rows_of here.now)) }
 {
     let at = common_front(here, there);
@@ -41,9 +42,12 @@ pub fn stretch_between(alloc: Global, here: &[Node], there: &[Node]) -> Result<S
 /// Exchanges the nodes with those that stand in their place. No memory.
 pub fn exchange_stretch(nodes: &mut ArrayVec<Node, 256>, stretch: &mut Stretch)
     requires room { HasRoom stretch.old (rows_of nodes.old.items) }
-    requires few { length (replaced stretch.old.at stretch.old.count (rows_of stretch.old.others.items) (rows_of nodes.old.items)) ≤ 256 }
-    ensures new { rows_of nodes.new.items ≡ replaced stretch.old.at stretch.old.count (rows_of stretch.old.others.items) (rows_of nodes.old.items) }
-    ensures back { replaced stretch.new.at stretch.new.count (rows_of stretch.new.others.items) (rows_of nodes.new.items) ≡ rows_of nodes.old.items }
+    requires few { length (replaced stretch.old.at stretch.old.count
+        (rows_of stretch.old.others.items) (rows_of nodes.old.items)) ≤ 256 }
+    ensures new { rows_of nodes.new.items ≡ replaced stretch.old.at stretch.old.count
+        (rows_of stretch.old.others.items) (rows_of nodes.old.items) }
+    ensures back { replaced stretch.new.at stretch.new.count (rows_of stretch.new.others.items)
+        (rows_of nodes.new.items) ≡ rows_of nodes.old.items }
     ensures room { HasRoom stretch.new (rows_of nodes.new.items) }
     ensures most { length nodes.old.items ≤ 256 }
 {

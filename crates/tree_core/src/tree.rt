@@ -197,8 +197,12 @@ impl Tree {
 
     /// Sets a new node in, or tells why not.
     fn add(&mut self, id: u16, parent: u16, place: u8, paints: bool) -> Result<(), TreeFault>
-        ensures ok { OnOk result (answer (no_new id parent place self.old) (set_in parent place (node (content_of paints) id new_look none none) self.old) ≡ Ok self.new) }
-        ensures err { IfErr result (λ fault. answer (no_new id parent place self.old) (set_in parent place (node (content_of paints) id new_look none none) self.old) ≡ Err fault) }
+        ensures ok { OnOk result (answer (no_new id parent place self.old)
+            (set_in parent place (node (content_of paints) id new_look none none) self.old)
+            ≡ Ok self.new) }
+        ensures err { IfErr result (λ fault. answer (no_new id parent place self.old)
+            (set_in parent place (node (content_of paints) id new_look none none) self.old)
+            ≡ Err fault) }
         ensures same { OnErr result (self.new ≡ self.old) }
     {
         let found = new_place(self.nodes.as_slice(), id, parent, place)?;
@@ -210,7 +214,8 @@ impl Tree {
     /// Takes the node and all below it out, or tells why not.
     fn remove(&mut self, id: u16) -> Result<(), TreeFault>
         ensures ok { OnOk result (changed (λ _. tt) (change.Remove id) self.old ≡ Ok self.new) }
-        ensures err { IfErr result (λ fault. changed (λ _. tt) (change.Remove id) self.old ≡ Err fault) }
+        ensures err { IfErr result (λ fault. changed (λ _. tt) (change.Remove id) self.old
+            ≡ Err fault) }
         ensures same { OnErr result (self.new ≡ self.old) }
     {
         let branch = span(self.nodes.as_slice(), id);
@@ -224,7 +229,8 @@ impl Tree {
     /// Gives the node another look, or tells why not.
     fn set_look(&mut self, id: u16, look: Look) -> Result<(), TreeFault>
         ensures ok { OnOk result (changed (λ _. tt) (change.Look id look) self.old ≡ Ok self.new) }
-        ensures err { IfErr result (λ fault. changed (λ _. tt) (change.Look id look) self.old ≡ Err fault) }
+        ensures err { IfErr result (λ fault. changed (λ _. tt) (change.Look id look) self.old
+            ≡ Err fault) }
         ensures same { OnErr result (self.new ≡ self.old) }
     {
         if set_look(self.nodes.as_mut_slice(), id, look) {
@@ -236,8 +242,10 @@ impl Tree {
 
     /// Moves the node and all below it, or tells why not.
     fn place(&mut self, id: u16, parent: u16, place: u8) -> Result<(), TreeFault>
-        ensures ok { OnOk result (changed (λ _. tt) (change.Place id parent place) self.old ≡ Ok self.new) }
-        ensures err { IfErr result (λ fault. changed (λ _. tt) (change.Place id parent place) self.old ≡ Err fault) }
+        ensures ok { OnOk result (changed (λ _. tt) (change.Place id parent place) self.old
+            ≡ Ok self.new) }
+        ensures err { IfErr result (λ fault. changed (λ _. tt) (change.Place id parent place)
+            self.old ≡ Err fault) }
         ensures same { OnErr result (self.new ≡ self.old) }
     {
         let route = route_of(self.nodes.as_slice(), id, parent, place)?;

@@ -108,7 +108,8 @@ fn lot_of(count: usize, from: &Node, to: &Node) -> Lot
 
 /// Whether the parts are there, and the turn makes the one list of nodes the other.
 fn makes(here: &[Node], turn: Turn, there: &[Node]) -> bool
-    ensures within { result ≡ true → turn.at + (turn.first.count + turn.second.count) ≤ length here.now }
+    ensures within { result ≡ true → turn.at + (turn.first.count + turn.second.count) ≤ length
+        here.now }
     ensures same { result ≡ true → turned turn (rows_of here.now) ≡ rows_of there.now }
 {
     let end = turn.at as usize + (turn.first.count as usize + turn.second.count as usize);
@@ -133,7 +134,8 @@ fn turned(nodes: &[Node], turn: Turn) -> ArrayVec<Node, 256>
 /// Adds the nodes of a part, on their new levels.
 fn bring(all: &mut ArrayVec<Node, 256>, nodes: &[Node], lot: Lot)
     requires { length all.old.items + length nodes.now ≤ 256 }
-    ensures rows { rows_of all.new.items ≡ rows_of all.old.items ++ map (brought lot) (rows_of nodes.now) }
+    ensures rows { rows_of all.new.items ≡ rows_of all.old.items ++ map (brought lot)
+        (rows_of nodes.now) }
     ensures count { length all.new.items ≡ length all.old.items + length nodes.now }
 {
     for n in nodes {

@@ -33,7 +33,8 @@ fn takes_in(patch: &Patch, walk: Walk, part: &Rect) -> bool
 
 /// The first place whose patch has the walk in the part's cell.
 fn first_place_of(patches: &[Patch], walk: Walk, part: &Rect) -> Option<usize>
-    ensures { result ≡ position (λ p. same_walk p.walk walk && one_cell p.rect part.now) patches.now }
+    ensures { result ≡ position (λ p. same_walk p.walk walk && one_cell p.rect part.now)
+        patches.now }
 {
     for i in 0..patches.len() {
         if takes_in(&patches[i], walk, part) {
@@ -46,7 +47,8 @@ fn first_place_of(patches: &[Patch], walk: Walk, part: &Rect) -> Option<usize>
 /// The place of a patch that takes the part in, where one does at most, from 0. It looks at the guess first.
 fn place_of(patches: &[Patch], walk: Walk, part: &Rect, guess: usize) -> Option<usize>
     requires unlike { all_unlike patches.now ≡ true }
-    ensures { result ≡ position (λ p. same_walk p.walk walk && one_cell p.rect part.now) patches.now }
+    ensures { result ≡ position (λ p. same_walk p.walk walk && one_cell p.rect part.now)
+        patches.now }
 {
     if guess < patches.len() && takes_in(&patches[guess], walk, part) {
         return Some(guess);
@@ -57,7 +59,8 @@ fn place_of(patches: &[Patch], walk: Walk, part: &Rect, guess: usize) -> Option<
 /// Makes the patch at a place the bounding rectangle of itself and the part.
 fn grow(patches: &mut [Patch], i: usize, part: &Rect)
     requires { i < length patches.old }
-    ensures { (p : Patch) → slice_get patches.old i ≡ Some p → patches.new ≡ slice_set patches.old i (patch p.walk (bound p.rect part.now)) }
+    ensures { (p : Patch) → slice_get patches.old i ≡ Some p → patches.new ≡ slice_set patches.old i
+        (patch p.walk (bound p.rect part.now)) }
 {
     patches[i].rect = patches[i].rect.bound(part);
 }
@@ -72,10 +75,13 @@ fn add_part(
     guess: usize,
 ) -> Option<usize>
     requires unlike { all_unlike patches.old.items ≡ true }
-    ensures merged { has_place walk part.now patches.old.items ≡ true → patches.new.items ≡ map (merged walk part.now) patches.old.items }
-    ensures placed { OnSome result (has_place walk part.now patches.old.items ≡ false → patches.new.items ≡ patches.old.items ++ patch walk part.now ∷ []) }
+    ensures merged { has_place walk part.now patches.old.items ≡ true → patches.new.items
+        ≡ map (merged walk part.now) patches.old.items }
+    ensures placed { OnSome result (has_place walk part.now patches.old.items ≡ false
+        → patches.new.items ≡ patches.old.items ++ patch walk part.now ∷ []) }
     ensures few { length patches.new.items ≤ 64 }
-    ensures full { IfNone result ((has_place walk part.now patches.old.items ≡ false) × (length patches.old.items ≡ 64) × (patches.new.items ≡ patches.old.items)) }
+    ensures full { IfNone result ((has_place walk part.now patches.old.items ≡ false)
+        × (length patches.old.items ≡ 64) × (patches.new.items ≡ patches.old.items)) }
 {
     match place_of(patches.as_slice(), walk, part, guess) {
         Some(i) => {
@@ -100,9 +106,12 @@ fn add_parts(patches: &mut ArrayVec<Patch, 64>, recent: &mut usize, walk: Walk, 
     requires inside { lies_in rect.now largest ≡ true }
     requires unlike { all_unlike patches.old.items ≡ true }
     requires few { length patches.old.items ≤ 64 }
-    ensures fits { result ≡ nat_le (length patches.old.items + length (map (patch walk) (new_parts walk (parts rect.now) patches.old.items))) 64 }
-    ensures added { OnTrue result (patches.new.items ≡ merge_all walk (parts rect.now) patches.old.items ++ map (patch walk) (new_parts walk (parts rect.now) patches.old.items)) }
-    ensures bound { OnFalse result (bound_all rect.now patches.new.items ≡ bound_all rect.now patches.old.items) }
+    ensures fits { result ≡ nat_le (length patches.old.items + length
+        (map (patch walk) (new_parts walk (parts rect.now) patches.old.items))) 64 }
+    ensures added { OnTrue result (patches.new.items ≡ merge_all walk (parts rect.now)
+        patches.old.items ++ map (patch walk) (new_parts walk (parts rect.now) patches.old.items)) }
+    ensures bound { OnFalse result (bound_all rect.now patches.new.items ≡ bound_all rect.now
+        patches.old.items) }
 {
     let mut guess = *recent;
     for i in 0..part_count(rect) {

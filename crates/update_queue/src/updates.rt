@@ -60,7 +60,8 @@ impl Updates {
 
     /// The rectangle, clipped to the canvas, waits for the walk from now on.
     pub fn add(&mut self, walk: Walk, rect: Rect)
-        ensures { self.new ≡ waiting self.old.canvas (queued self.old.canvas self.old.patches walk rect) }
+        ensures { self.new ≡ waiting self.old.canvas (queued self.old.canvas self.old.patches walk
+            rect) }
     {
         match self.canvas.clip(&rect) {
             Some(part) => {
@@ -74,7 +75,8 @@ impl Updates {
 
     /// The rectangle, clipped to the canvas, and all that waits, waits for a walk of all groups.
     pub fn refresh(&mut self, rect: Rect)
-        ensures { self.new ≡ waiting self.old.canvas (refreshed self.old.canvas self.old.patches rect) }
+        ensures { self.new ≡ waiting self.old.canvas (refreshed self.old.canvas self.old.patches
+            rect) }
     {
         match self.canvas.clip(&rect) {
             Some(part) => {
@@ -90,7 +92,8 @@ impl Updates {
     /// to begin anew.
     fn is_spread_on(&self, rect: &Rect) -> bool
         ensures refreshed { OnTrue result (replaced self.now.patches rect.now ≡ self.now.patches) }
-        ensures added { OnTrue result ((group : ℕ) → added self.now.patches (walks.Up group) rect.now ≡ self.now.patches) }
+        ensures added { OnTrue result ((group : ℕ) → added self.now.patches (walks.Up group)
+            rect.now ≡ self.now.patches) }
     {
         // A rectangle has points, as its sides tell.
         let _columns = rect.w();
@@ -123,7 +126,8 @@ impl Updates {
     /// stays.
     pub fn take(&mut self, running: &[Rect]) -> Option<Patch>
         ensures patch { result ≡ find (avoids running.now) self.old.patches }
-        ensures left { self.new ≡ waiting self.old.canvas (remove self.old.patches (position_or_len (avoids running.now) self.old.patches)) }
+        ensures left { self.new ≡ waiting self.old.canvas
+            (remove self.old.patches (position_or_len (avoids running.now) self.old.patches)) }
         ensures none { IfNone result (self.new ≡ self.old) }
     {
         let i = first_free(self.patches.as_slice(), running);
