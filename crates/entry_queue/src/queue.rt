@@ -72,8 +72,9 @@ impl Queue {
     /// `NoMemory`; all is as it was.
     pub fn push(&mut self, command: &Command) -> Result<(), NoMemory>
         requires { takes self.old.left command.now ≡ true }
-        ensures ok { OnOk result (self.new ≡ record self.old { left = pushed self.old.left
-            command.now }) }
+        ensures ok { OnOk result (self.new ≡ record self.old {
+          left = pushed self.old.left command.now;
+        }) }
         ensures err { OnErr result (self.new ≡ self.old) }
         ensures stands { (before : List Command) → lawful (before ++ command.now ∷ []) ≡ true
             → StandsFor before self.old → OnOk result (StandsFor (before ++ command.now ∷ [])
@@ -151,8 +152,9 @@ impl Queue {
     /// A new waiting stroke.
     fn open(&mut self, no: u32, layer: u16, exclusive: bool) -> Result<(), NoMemory>
         requires { list_any (is_numbered no) self.old.left ≡ false }
-        ensures ok { OnOk result (self.new ≡ record self.old { left = self.old.left ++ Waiting
-            (begun no layer exclusive) ∷ [] }) }
+        ensures ok { OnOk result (self.new ≡ record self.old {
+          left = self.old.left ++ Waiting (begun no layer exclusive) ∷ [];
+        }) }
         ensures err { OnErr result (self.new ≡ self.old) }
     {
         let stroke = OpenStroke::new(self.alloc, no, layer, exclusive);
@@ -164,8 +166,9 @@ impl Queue {
 
     /// A new entry that is no stroke.
     fn append(&mut self, command: Command) -> Result<(), NoMemory>
-        ensures ok { OnOk result (self.new ≡ record self.old { left = self.old.left ++ Other command
-            ∷ [] }) }
+        ensures ok { OnOk result (self.new ≡ record self.old {
+          left = self.old.left ++ Other command ∷ [];
+        }) }
         ensures err { OnErr result (self.new ≡ self.old) }
     {
         take_room(&mut self.entries, &mut self.keys, &mut self.outcomes)?;

@@ -44,8 +44,13 @@ impl MemSource {
     /// whose numbers, counted from 1, stand in `failing`.
     pub fn new(bytes: Vec<u8>, most: usize, failing: Vec<u32>) -> MemSource
         requires { 0 < most }
-        ensures { result ≡ record { left = bytes.items; most = most; failing = failing.items; calls
-            = 0; faults = 0 } }
+        ensures { result ≡ record {
+          left = bytes.items;
+          most = most;
+          failing = failing.items;
+          calls = 0;
+          faults = 0;
+        } }
     {
         MemSource {
             bytes,
@@ -134,8 +139,15 @@ impl MemSink {
     /// at the calls whose numbers, counted from 1, stand in `failing`, and where the room is full.
     pub fn new(room: Vec<u8>, most: usize, failing: Vec<u32>) -> MemSink
         requires { 0 < most }
-        ensures { result ≡ record { taken = []; free = length room.items; most = most; failing =
-            failing.items; calls = 0; faults = 0; full_writes = 0 } }
+        ensures { result ≡ record {
+          taken = [];
+          free = length room.items;
+          most = most;
+          failing = failing.items;
+          calls = 0;
+          faults = 0;
+          full_writes = 0;
+        } }
     {
         MemSink {
             room,

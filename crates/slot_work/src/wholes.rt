@@ -49,7 +49,7 @@ pub fn are_lacking(alloc: Global, painter: &Painter, tiles: &[Whole]) -> Result<
         → AreLacking painter.now.job (layer_of painter.now.shot) painter.now.published tiles.now }
     ensures none { result ≡ Ok false
         → AreLacking painter.now.job (layer_of painter.now.shot) painter.now.published tiles.now
-            → ⊥ }
+        → ⊥ }
 {
     if are_in_order(painter, tiles) {
         return Ok(true);
@@ -107,7 +107,7 @@ fn is_next(painter: &Painter, keys: &BTreeSet<TileKey>, whole: &Whole) -> bool
         → IsNext painter.now.job painter.now.published (set.from_list keys.now.keys) whole.now.key }
     ensures none { result ≡ false
         → IsNext painter.now.job painter.now.published (set.from_list keys.now.keys) whole.now.key
-            → ⊥ }
+        → ⊥ }
 {
     let key = whole.key();
     writes_in(&painter.job, key) && !is_there(painter, keys, key)

@@ -81,8 +81,13 @@ impl Model for OpenStroke {
 impl OpenStroke {
     /// A stroke with that number on that layer, with no job yet.
     pub fn new(alloc: Global, no: u32, layer: u16, exclusive: bool) -> OpenStroke
-        ensures value { result ≡ record { no = no; layer = layer; exclusive = exclusive; jobs = [];
-            overlap = None } }
+        ensures value { result ≡ record {
+          no = no;
+          layer = layer;
+          exclusive = exclusive;
+          jobs = [];
+          overlap = None;
+        } }
         ensures stands { StandsFor [] result }
     {
         OpenStroke {
@@ -153,8 +158,9 @@ impl OpenStroke {
         requires marks { footprint ≡ marks_in_run (kind, job) }
         requires clear { first_conflicting (self.old.jobs ++ (kind, job) ∷ [])
             (length self.old.jobs) ≡ None }
-        ensures ok { OnOk result (self.new ≡ record self.old { jobs = self.old.jobs ++ (kind, job) ∷
-            [] }) }
+        ensures ok { OnOk result (self.new ≡ record self.old {
+          jobs = self.old.jobs ++ (kind, job) ∷ [];
+        }) }
         ensures err { OnErr result (self.new ≡ self.old) }
     {
         self.jobs.reserve(1)?;

@@ -126,25 +126,25 @@ pub fn run<R: Threads + Wait + Sync, S: Source, K: Sink, E: Sink, G: Gate>(
     // a trace, and of a trace. Where the source doesn't tell what it has left, that is so of some bytes.
     ensures painted { may_write result ≡ true → IfSome (choice words.now)
         (IsPainted result (S.left source.old) (S.left source.new) (K.taken out.old)
-            (K.taken out.new)) }
+        (K.taken out.new)) }
     ensures drawn { may_write result ≡ true → IfSome (choice words.now)
         (IsPaintedTogether result (S.left source.old) (S.left source.new) (K.taken out.old)
-            (K.taken out.new)) }
+        (K.taken out.new)) }
     ensures traced { may_write result ≡ true → IfSome (choice words.now)
         (IsTraced result (S.left source.old) (S.left source.new) (K.taken out.old)
-            (K.taken out.new)) }
+        (K.taken out.new)) }
     ensures replayed { may_write result ≡ true → IfSome (choice words.now)
         (IsReplayed result (S.left source.old) (S.left source.new) (K.taken out.old)
-            (K.taken out.new)) }
+        (K.taken out.new)) }
 
     // When there is an output: where nothing fails an input without fault has one, if memory suffices.
     ensures complete { IsGivenScript words.now (S.left source.old) →
         ¬ Rose (S.faults source.old) (S.faults source.new) → ¬ Rose (K.faults out.old)
-            (K.faults out.new) →
+        (K.faults out.new) →
         (is_done result ≡ true) ⊎ (result ≡ Status.NoMemory) }
     ensures complete_trace { IsGivenTrace words.now (S.left source.old) →
         ¬ Rose (S.faults source.old) (S.faults source.new) → ¬ Rose (K.faults out.old)
-            (K.faults out.new) →
+        (K.faults out.new) →
         (is_done result ≡ true) ⊎ (result ≡ Status.NoMemory) }
 
     // When each other status comes.
@@ -153,7 +153,7 @@ pub fn run<R: Threads + Wait + Sync, S: Source, K: Sink, E: Sink, G: Gate>(
         is_some (choice words.now) ≡ true }
     ensures script { (line : ℕ) (cause : Cause) → result ≡ Status.Script line cause →
         IsFaulty (record { line = line; cause = cause }) words.now (S.left source.old)
-            (S.left source.new) }
+        (S.left source.new) }
     ensures trace { (line : ℕ) (cause : TraceCause) → result ≡ Status.Trace line cause →
         IsFaultyTrace (record { line = line; cause = cause }) words.now (S.left source.old)
         (S.left source.new) }

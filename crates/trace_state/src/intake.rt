@@ -50,8 +50,10 @@ impl Intake {
     pub fn feed(&mut self, command: &Command) -> Result<bool, NoMemory>
         requires { in_range command.now ≡ true }
         ensures may { IfOk result (λ may. may ≡ may_follow (entries self.old.fed) command.now) }
-        ensures fed { result ≡ Ok true → self.new ≡ record { fed = self.old.fed ++ command.now ∷ [];
-            left = pushed self.old.left command.now } }
+        ensures fed { result ≡ Ok true → self.new ≡ record {
+          fed = self.old.fed ++ command.now ∷ [];
+          left = pushed self.old.left command.now;
+        } }
         ensures same { result ≡ Ok false → self.new ≡ self.old }
     {
         if !self.log.may_follow(command) {

@@ -70,8 +70,10 @@ fn each_has(groups: &[WalkedGroup], rect: &Rect) -> bool
 impl OutlinedWalk {
     /// A walk of a patch over the groups of a path, of which no tile is published.
     pub fn new(alloc: Global, patch: Patch, path: &[u16]) -> Result<OutlinedWalk, NoMemory>
-        ensures { IfOk result (λ w. w ≡ record { patch = patch; groups = map unpublished
-            path.now }) }
+        ensures { IfOk result (λ w. w ≡ record {
+          patch = patch;
+          groups = map unpublished path.now;
+        }) }
     {
         let groups = unpublished_groups(alloc, path)?;
         Ok(OutlinedWalk { patch, groups })

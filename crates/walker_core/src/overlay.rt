@@ -33,7 +33,7 @@ pub(crate) fn overlaid(
     requires { IsSpot spot.now }
     ensures { IfOk result (λ g. (p : Point) → in_tile spot.now.key p ≡ true
         → given_on g p ≡ (if holds spot.now.part p then given_on fresh.now p else given_on given
-            p)) }
+        p)) }
 {
     if given.is_clear() && fresh.is_clear() {
         return Ok(given);
