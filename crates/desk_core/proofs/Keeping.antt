@@ -15,7 +15,7 @@ use Rattle.doc_model.specs.declared.command.Outcome.TheVariants as outcome
 use Rattle.doc_model.specs.Changes.{changed}
 use Rattle.doc_model.specs.Forest.{content, with_content}
 use Rattle.doc_model.specs.Jobs.{reads}
-use Rattle.doc_model.specs.Layers.{plain}
+use Rattle.doc_model.specs.Layers.{Layer, plain}
 use Rattle.doc_model.specs.Shots.{shot_of}
 use Rattle.doc_model.specs.declared.tree.TreeFault.{TreeFault}
 use Rattle.doc_model.specs.Picture.{Doc, canvas_area}
@@ -50,7 +50,7 @@ use Rattle.desk_core.specs.declared.folds.Folds.{Folds}
 use Rattle.desk_core.specs.Events.{spares_lower}
 use Rattle.desk_core.specs.Keeping.{Lowers, lowers, Shows, groups_in, ReadsOthers, StandsSince, Stands, PaintsOn, Keeps, AreOfFolds, Turns}
 use Rattle.desk_core.specs.UpToDate.{cached_at}
-use Rattle.desk_core.proofs.LowerChildren.{read_lower, start_reads, lower_content, reads_content, lower_off}
+use Rattle.desk_core.proofs.LowerChildren.{read_lower, start_reads, lower_content, reads_content, reads_before, lower_off}
 use Rattle.desk_core.proofs.Ripe.{all_by, all_both, no_job, pixels_off, other_cache, cache_outside, patch_outside}
 
 -- ---- one fold
@@ -187,6 +187,47 @@ module _ (old new : State) (place g : ℕ) (key : Key) (f : Folds) (sound : IsSo
     ]);
   })
 
+-- ---- a stroke is taken back
+
+-- the painted layer has other pixels again
+module _ (s : State) (x : Layer) (base : Doc) (f : Folds) (was : s.present ≡ with_content f.layer x base) (sound : IsSound s) (is : Stands s f) where
+  -- the children afterwards
+  abbrev before : ℕ → List Child
+  before g = with_pixels s.caches (nodes_in g base)
+
+  painted_in : (g : ℕ) → children_of s g ≡ with_pixels s.caches (nodes_in g (with_content f.layer x base))
+  painted_in g = ap (λ d. with_pixels s.caches (nodes_in g d)) was
+
+  same_lower : (g : ℕ) (path : List ℕ) → lower (f.layer ∷ path) (children_of s g) ≡ lower (f.layer ∷ path) (before g)
+  same_lower g path = ap (lower (f.layer ∷ path)) (painted_in g) ∙ lower_content s.caches f.layer x path g base
+
+  each_back : (slot : Slot) → WalkStands s slot → StandsSince (children_of s) f.layer f.since slot → StandsSince before f.layer f.since slot
+  each_back Free stands since = tt
+  each_back (Paints w) stands since = tt
+  each_back (Walks w) stands since = λ late p h. all_both (λ (e : ℕ × List Child). SameChildren e.1 (children_of s e.0)) (λ (e : ℕ × List Child). SamePixels (f.layer ∷ groups_in w) e.1 (children_of s e.0) p) (λ (e : ℕ × List Child). SamePixels (f.layer ∷ groups_in w) e.1 (before e.0) p) w.shot
+      (λ e same pixels. reads_before s.caches f.layer x (groups_in w) e.1 e.0 base p (subst (SameChildren e.1) (painted_in e.0) same) (subst (λ cs. SamePixels (f.layer ∷ groups_in w) e.1 cs p) (painted_in e.0) pixels))
+      stands.2 (since late p h)
+
+  back_stands : Stands (record s { present = base }) f
+  back_stands = record {
+    walks = is.walks;
+    folds = subst (λ gs. All (Shows (record { canvas = s.canvas; children = before; layer = f.layer; path = gs })) f.folds.items) (ap (path_of f.walk) was ∙ path_of_with f.walk f.layer x base)
+        (All-weaker (Shows (lowers s f.layer f.walk)) (Shows (record (lowers s f.layer f.walk) { children = before })) (shows_moves (lowers s f.layer f.walk) before (λ g p on'. ap (λ cs. folded cs p clear) (same_lower g (path_of f.walk s.present)))) f.folds.items is.folds);
+    reads = all_both (WalkStands s) (StandsSince (children_of s) f.layer f.since) (StandsSince before f.layer f.since) s.slots each_back sound.orderly.walking.walks is.reads;
+  }
+
+base_stands : (s : State) (f : Folds) → IsSound s → Keeps s f → Stands (record s { present = s.base }) f
+base_stands s f sound is = go s.way refl
+  where
+    go : (w : Option ℕ) → s.way ≡ w → Stands (record s { present = s.base }) f
+    go None e = let rest : AtRest s = subst (IsOnWay s) e sound.orderly.on_way in subst (λ d. Stands (record s { present = d }) f) rest.same is.stands
+    go (Some n) e =
+        let way : UnderWay s n = subst (IsOnWay s) e sound.orderly.on_way in
+        back_stands s way.layer s.base f (subst (λ l. s.present ≡ with_content l way.layer s.base) (is.paints n way.stroke e way.at_head) way.is) sound is.stands
+
+cancel_stands : (old new : State) (f : Folds) → IsSound old → CancelStep old new → Keeps old f → Stands new f
+cancel_stands old new f sound step is = let stands : Stands (record old { present = old.base }) f = base_stands old f sound is in subst (λ s. Stands s f) (sym step.new_is) (record { walks = stands.walks; folds = stands.folds; reads = stands.reads })
+
 -- ---- events that leave lower children as they are
 
 finish_stands : (old new : State) (stroke : Stroke) (b : Bool) (f : Folds) → new ≡ after_finish old stroke b → Stands old f → Stands new f
@@ -216,7 +257,7 @@ step_stands old new (Start place) f spares sound step is = subst (λ s. Stands s
 step_stands old new (Publish place key) f spares sound step is = publish_stands old new place key f sound step is.paints is.stands
 step_stands old new (End place) f spares sound step is = subst (λ s. Stands s f) (sym step.new_is) (record { walks = (free_stands old place f is.stands).walks; folds = is.stands.folds; reads = (free_stands old place f is.stands).reads })
 step_stands old new Finish f spares sound step is = finish_stands old new step.stroke (is_paint step.stroke.layer old.base) f step.new_is is.stands
-step_stands old new Cancel f spares sound step is = absurd (never spares)
+step_stands old new Cancel f spares sound step is = cancel_stands old new f sound step is
 step_stands old new Act f spares sound step is = absurd (never spares)
 step_stands old new (WalkStart place patch) f spares sound step is = absurd (never spares)
 step_stands old new (WalkPublish place g key) f spares sound step is = walk_stands old new place g key f sound step is.stands
@@ -252,7 +293,7 @@ step_paints old new (Start place) layer spares sound step paints = λ n stroke w
 step_paints old new (Publish place key) layer spares sound step paints = subst (λ s. PaintsOn s layer) (sym step.new_is) paints
 step_paints old new (End place) layer spares sound step paints = subst (λ s. PaintsOn s layer) (sym step.new_is) paints
 step_paints old new Finish layer spares sound step paints = finish_paints old new step.stroke layer (is_paint step.stroke.layer old.base) sound step.at_head refl step.new_is
-step_paints old new Cancel layer spares sound step paints = absurd (never spares)
+step_paints old new Cancel layer spares sound step paints = λ n stroke way at. absurd (let e : None ≡ Some n = sym (ap (λ (s : State). s.way) step.new_is) ∙ way in cc)
 step_paints old new Act layer spares sound step paints = absurd (never spares)
 step_paints old new (WalkStart place patch) layer spares sound step paints = absurd (never spares)
 step_paints old new (WalkPublish place g key) layer spares sound step paints = subst (λ s. PaintsOn s layer) (sym step.new_is) paints
@@ -326,10 +367,6 @@ act_keeps old new f sound after step none since = rest_keeps new f after (ap (λ
     go None e = refl
     go (Some n) e = let way : UnderWay old n = subst (IsOnWay old) e sound.orderly.on_way in absurd (let f : None ≡ Some way.stroke = sym step.no_stroke ∙ way.at_head in cc)
 
--- after a stroke that was taken back
-pub cancel_keeps : (old new : State) (f : Folds) → IsSound new → CancelStep old new → f.folds.items ≡ [] → f.since ≡ new.next → Keeps new f
-cancel_keeps old new f after step none since = rest_keeps new f after (ap (λ (s : State). s.way) step.new_is) none since
-
 -- ---- a stroke begins
 
 pub begin_keeps : (old new : State) (f f' : Folds) → InitStep old new → IsSound new → ((s : Stroke) → head_stroke old ≡ Some s → f'.layer ≡ s.layer) → (f' ≡ f) ⊎ ((f'.folds.items ≡ []) × (f'.since ≡ new.next)) → Keeps old f → Keeps new f'
@@ -394,15 +431,18 @@ own_fold s w place layer a sound at reads shows = record {
 one_walk : (a b : Walker) → Some (Walks a) ≡ Some (Walks b) → a ≡ b
 one_walk a b e = cc
 
-pub footing_stands : (old new : State) (place : ℕ) (patch : Patch) (f : Folds) (w : Walker) (x : Footing) → WalkStartStep old place patch new → IsSound new → Keeps old f → slice_get new.slots place ≡ Some (Walks w) → AreOfFolds f w.patch.walk x → StandsOn (readings w.patch w.shot) x
-footing_stands old new place patch f w x step sound is at of = All-weaker (Shows (lowers new f.layer w.patch.walk)) (IsFoldOf (readings w.patch w.shot)) (λ a shows. own_fold new w place f.layer a sound at reads shows) x.folds.items
-    (of.folds (lowers new f.layer w.patch.walk) (subst (λ k. All (Shows (lowers new f.layer k)) f.folds.items) of.same (subst (λ s. All (Shows (lowers s f.layer f.walk)) f.folds.items) (sym step.new_is) is.stands.folds)))
+pub footing_stands : (old new : State) (place : ℕ) (patch : Patch) (f f' : Folds) (w : Walker) (x : Footing) → WalkStartStep old place patch new → IsSound new → Turns f f' patch.walk → Keeps old f → slice_get new.slots place ≡ Some (Walks w) → AreOfFolds f' x → StandsOn (readings w.patch w.shot) x
+footing_stands old new place patch f f' w x step sound turns is at of = All-weaker (Shows (lowers new f'.layer w.patch.walk)) (IsFoldOf (readings w.patch w.shot)) (λ a shows. own_fold new w place f'.layer a sound at reads shows) x.folds.items
+    (of.folds (lowers new f'.layer w.patch.walk) (subst (λ k. All (Shows (lowers new f'.layer k)) f'.folds.items) (turns.walk ∙ ap (λ (v : Walker). v.patch.walk) same) after.stands.folds))
   where
+    after : Keeps new f'
+    after = started_keeps old new place patch f f' step turns is
+
     same : started old patch ≡ w
     same = one_walk (started old patch) w (sym (get_set old.slots place Free (Walks (started old patch)) step.free) ∙ ap (λ (s : State). slice_get s.slots place) (sym step.new_is) ∙ at)
 
-    reads : ReadsOthers (children_of new) f.layer w
-    reads = subst (ReadsOthers (children_of new) f.layer) same (subst (λ s. ReadsOthers (children_of s) f.layer (started old patch)) (sym step.new_is) (started_reads old patch f.layer))
+    reads : ReadsOthers (children_of new) f'.layer w
+    reads = subst (ReadsOthers (children_of new) f'.layer) same (subst (λ s. ReadsOthers (children_of s) f'.layer (started old patch)) (sym step.new_is) (started_reads old patch f'.layer))
 
 -- what a walk made of lower children is there, within its patch
 pub made_shows : (s : State) (w : Walker) (place : ℕ) (f : Folds) (a : Fold) → IsSound s → slice_get s.slots place ≡ Some (Walks w) → Stands s f → f.since ≤ w.serial → f.walk ≡ w.patch.walk → IsFoldOf (readings w.patch w.shot) a → a.layer ≡ f.layer → lies_in a.spot.part w.patch.rect ≡ true → Shows (lowers s f.layer f.walk) a

@@ -80,10 +80,25 @@ reads_with caches q x path (r ∷ read) (paint id look l rest) p same reads =
     ((λ e. reads.0 e ∙ ap (λ b. at (cond b x l) p) (sym (ap (eqb q) (sym same.0) ∙ none_left (eqb q r.id) (on r.id path) e))), reads_with caches q x path read rest p same.2 reads.1)
 reads_with caches q x path (r ∷ read) (group id look nodes rest) p same reads = (reads.0, reads_with caches q x path read rest p same.2 reads.1)
 
+reads_without : (caches : FinMap nat_cmp Layer) (q : ℕ) (x : Layer) (path : List ℕ) (read : List Child) (f : Doc) (p : Point) → SameChildren read (with_pixels caches (with_content q x f)) → SamePixels (q ∷ path) read (with_pixels caches (with_content q x f)) p → SamePixels (q ∷ path) read (with_pixels caches f) p
+reads_without caches q x path [] none p same reads = tt
+reads_without caches q x path (r ∷ read) none p same reads = absurd same
+reads_without caches q x path [] (paint id look l rest) p same reads = absurd same
+reads_without caches q x path [] (group id look nodes rest) p same reads = absurd same
+reads_without caches q x path (r ∷ read) (paint id look l rest) p same reads =
+    ((λ e. reads.0 e ∙ ap (λ b. at (cond b x l) p) (ap (eqb q) (sym same.0) ∙ none_left (eqb q r.id) (on r.id path) e)), reads_without caches q x path read rest p same.2 reads.1)
+reads_without caches q x path (r ∷ read) (group id look nodes rest) p same reads = (reads.0, reads_without caches q x path read rest p same.2 reads.1)
+
 -- and what was read of the others
 pub reads_content : (caches : FinMap nat_cmp Layer) (q : ℕ) (x : Layer) (path : List ℕ) (read : List Child) (g : ℕ) (doc : Doc) (p : Point) → SameChildren read (with_pixels caches (nodes_in g doc)) → SamePixels (q ∷ path) read (with_pixels caches (nodes_in g doc)) p
     → SamePixels (q ∷ path) read (with_pixels caches (nodes_in g (with_content q x doc))) p
 reads_content caches q x path read g doc p same reads = subst (λ f. SamePixels (q ∷ path) read (with_pixels caches f) p) (sym (nodes_with g q x doc)) (reads_with caches q x path read (nodes_in g doc) p same reads)
+
+-- and as it was before
+pub reads_before : (caches : FinMap nat_cmp Layer) (q : ℕ) (x : Layer) (path : List ℕ) (read : List Child) (g : ℕ) (doc : Doc) (p : Point) → SameChildren read (with_pixels caches (nodes_in g (with_content q x doc))) → SamePixels (q ∷ path) read (with_pixels caches (nodes_in g (with_content q x doc))) p
+    → SamePixels (q ∷ path) read (with_pixels caches (nodes_in g doc)) p
+reads_before caches q x path read g doc p same reads = reads_without caches q x path read (nodes_in g doc) p
+    (subst (λ f. SameChildren read (with_pixels caches f)) (nodes_with g q x doc) same) (subst (λ f. SamePixels (q ∷ path) read (with_pixels caches f) p) (nodes_with g q x doc) reads)
 
 -- ---- caches of groups that move
 

@@ -22,7 +22,7 @@ use Rattle.desk_events.specs.Commits.{RunsFront, pair_events}
 use Rattle.desk_events.specs.OwnWork.{WalksOn, is_walk_publish}
 use Rattle.desk_core.specs.declared.folds.Folds.{Folds}
 use Rattle.desk_core.specs.Events.{goes_by}
-use Rattle.desk_core.specs.Keeping.{AreOfFolds}
+use Rattle.desk_core.specs.Keeping.{AreOfFolds, Turns}
 use Rattle.desk_core.specs.UpToDate.{AreCached, cached_at}
 use Rattle.desk_core.specs.Tracking.{Tracks}
 use Rattle.desk_core.specs.Shown.{ShowCaches}
@@ -32,9 +32,9 @@ use Rattle.desk_core.proofs.Steps.{quiet_step}
 use Rattle.desk_core.proofs.Tracking.{run_tracks, walk_known}
 
 -- shots of the caches have the values of a walk as it starts, but on damaged parts, and the folds that are kept are its own
-pub ticket_known : (old new : State) (place : ℕ) (patch : Patch) (d : Parts) (b : Bool) (f : Folds) (w : Walker) (r : Readings) (k : Known) → Step old (WalkStart place patch) new → Tracks old d b f → slice_get new.slots place ≡ Some (Walks w) → w.patch ≡ r.patch → w.shot ≡ r.groups
-    → ((p : Point) → holds r.patch.rect p ≡ true → ShowCaches new.caches (path_in r) k.shots.items p) → ((p : Point) → holds r.patch.rect p ≡ true → is_stale k.damaged.items p ≡ is_damaged d p) → IfSome k.footing (AreOfFolds f r.patch.walk) → IsKnown r k
-ticket_known old new place patch d b f w r k step is at same_patch shot shots damaged footing = record {
+pub ticket_known : (old new : State) (place : ℕ) (patch : Patch) (d : Parts) (b : Bool) (f f' : Folds) (w : Walker) (r : Readings) (k : Known) → Step old (WalkStart place patch) new → Tracks old d b f → Turns f f' patch.walk → slice_get new.slots place ≡ Some (Walks w) → w.patch ≡ r.patch → w.shot ≡ r.groups
+    → ((p : Point) → holds r.patch.rect p ≡ true → ShowCaches new.caches (path_in r) k.shots.items p) → ((p : Point) → holds r.patch.rect p ≡ true → is_stale k.damaged.items p ≡ is_damaged d p) → IfSome k.footing (AreOfFolds f') → IsKnown r k
+ticket_known old new place patch d b f f' w r k step is turns at same_patch shot shots damaged footing = record {
   values = λ p h up_to_date. show_values new.caches r.groups k.shots.items [] p
       (subst (λ es. AreCached (cached_at new.caches p) (walk_values es [] p)) shot
       (walk_known new d place w p sound (quiet_step old new (WalkStart place patch) d is.sound step refl is.tracked) at (subst (λ (q : Patch). holds q.rect p ≡ true) (sym same_patch) h) (sym (damaged p h) ∙ up_to_date)))
@@ -48,9 +48,9 @@ ticket_known old new place patch d b f w r k step is at same_patch shot shots da
     one : readings w.patch w.shot ≡ r
     one i = readings (same_patch i) (shot i)
 
-    stand : (o : Option Footing) → IfSome o (AreOfFolds f r.patch.walk) → IfSome o (StandsOn r)
+    stand : (o : Option Footing) → IfSome o (AreOfFolds f') → IfSome o (StandsOn r)
     stand None of = tt
-    stand (Some x) of = subst (λ q. StandsOn q x) one (footing_stands old new place patch f w x step sound is.keeps at (subst (λ (q : Patch). AreOfFolds f q.walk x) (sym same_patch) of))
+    stand (Some x) of = subst (λ q. StandsOn q x) one (footing_stands old new place patch f f' w x step sound turns is.keeps at of)
 
 -- tiles of a walk
 front_goes : (place : ℕ) (ps : List (ℕ × Key)) (n : ℕ) → list_all goes_by (take n (pair_events place ps)) ≡ true

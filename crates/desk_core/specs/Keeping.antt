@@ -72,9 +72,8 @@ AreSpots folds = All (λ (f : Fold). IsSpot f.spot) folds
 abbrev pub ShowsWithin : Lowers → ℕ → Area → Fold → Type 0
 ShowsWithin x layer rect f = f.layer ≡ layer → lies_in f.spot.part rect ≡ true → Shows x f
 
--- what a walk may stand on are such folds, and it composes the same groups
-pub record AreOfFolds (f : Folds) (walk : Walk) (x : Footing) : Type 0 where
-  pub same : f.walk ≡ walk
+-- what a walk may stand on are such folds
+pub record AreOfFolds (f : Folds) (x : Footing) : Type 0 where
   pub layer : x.layer ≡ f.layer
   pub folds : (l : Lowers) → All (Shows l) f.folds.items → All (Shows l) x.folds.items
 

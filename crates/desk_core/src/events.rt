@@ -60,7 +60,6 @@ impl Desk {
     {
         self.machine.cancel(steps);
         self.calm = false;
-        self.folds.forget(self.machine.next_serial());
         begin_anew(&self.machine, &mut self.damage);
     }
 
@@ -98,7 +97,7 @@ impl Desk {
         let calm = self.calm || self.machine.busy_place().is_none();
         let mut ticket = self.machine.start_walk(place)?;
         self.calm = calm;
-        let patch = ticket.inputs.patch();
+        self.folds.begin_walk(ticket.inputs.patch().walk);
         match known_of(
             self.alloc,
             &ticket.inputs,
@@ -109,7 +108,6 @@ impl Desk {
             Ok(known) => ticket.inputs.know(known),
             Err(NoMemory) => {}
         }
-        self.folds.begin_walk(patch.walk, &patch.rect);
         Ok(ticket)
     }
 

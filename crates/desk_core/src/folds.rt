@@ -5,8 +5,7 @@ ghost use Rattle.compose_core.specs.Spots.{IsSpot};
 ghost use Rattle.desk_core.specs.Keeping.{AreOfFolds, AreSpots, IsBeside, Lowers, Shows, ShowsWithin, Turns};
 
 use doc_model::Walk;
-use frame_core::Marks;
-use geom_core::{NoMemory, Rect, TileKey};
+use geom_core::{NoMemory, Rect};
 use std::alloc::Global;
 use walker_core::{Fold, Footing};
 
@@ -14,7 +13,7 @@ use walker_core::{Fold, Footing};
 const MOST: usize = 1024;
 
 /// What walks have made of the children that lie below the painted layer, so that further walks go on from there. It
-/// is let go where these children may change. Of a tile it is kept from the second walk on.
+/// is let go where these children may change.
 #[derive(Drop)]
 pub(crate) struct Folds {
     /// The layer of the stroke that was begun last.
@@ -23,8 +22,6 @@ pub(crate) struct Folds {
     walk: Walk,
     /// Walks at work with this serial or a later one read the lower children as they are.
     since: u64,
-    /// The tiles that such walks have composed.
-    seen: Marks,
     folds: Vec<Fold>,
 }
 
@@ -38,7 +35,6 @@ impl Folds {
             layer: 0,
             walk: Walk::All,
             since: 0,
-            seen: Marks::none(),
             folds: Vec::new(alloc),
         }
     }
@@ -64,69 +60,35 @@ impl Folds {
     {
         self.since = next;
         self.walk = Walk::All;
-        self.let_go();
-    }
-
-    /// All folds go.
-    fn let_go(&mut self)
-        ensures folds { self.new.folds.items ≡ [] }
-        ensures layer { self.new.layer ≡ self.old.layer }
-        ensures walk { self.new.walk ≡ self.old.walk }
-        ensures since { self.new.since ≡ self.old.since }
-    {
-        self.seen = Marks::none();
         self.folds.clear();
     }
 
-    /// A walk starts on a rectangle. Folds of other walks go, since what it composes may be among their children.
-    pub(crate) fn begin_walk(&mut self, walk: Walk, rect: &Rect)
+    /// A walk starts. Folds of other walks go, since what it composes may be among their children.
+    pub(crate) fn begin_walk(&mut self, walk: Walk)
         ensures { Turns self.old self.new walk }
     {
         if self.walk != walk {
             self.walk = walk;
-            self.let_go();
+            self.folds.clear();
         }
-        mark_all(&mut self.seen, rect);
     }
 
-    /// What a walk on a rectangle may stand on, and of which tiles its folds are to be kept: those that were composed
-    /// before. None where none is. Tiles are shared.
+    /// What the walk that was begun last may stand on, if it is on this rectangle. None where it composes all groups: then
+    /// nothing of it is kept. Tiles are shared.
     ///
     /// # Errors
     /// `NoMemory`.
-    pub(crate) fn footing(
-        &self,
-        alloc: Global,
-        walk: Walk,
-        rect: &Rect,
-    ) -> Result<Option<Footing>, NoMemory>
-        ensures { IfOk result (λ o. IfSome o (AreOfFolds self.now walk)) }
+    pub(crate) fn footing(&self, alloc: Global, rect: &Rect) -> Result<Option<Footing>, NoMemory>
+        ensures { IfOk result (λ o. IfSome o (AreOfFolds self.now)) }
     {
-        if self.walk != walk || walk == Walk::All {
-            return Ok(None);
-        }
-        let keys = self.seen_on(alloc, rect)?;
-        if keys.is_empty() {
+        if self.walk == Walk::All {
             return Ok(None);
         }
         let folds = self.folds_on(alloc, rect)?;
         Ok(Some(Footing {
             layer: self.layer,
             folds,
-            keys,
         }))
-    }
-
-    /// The tiles of a rectangle that were composed before.
-    fn seen_on(&self, alloc: Global, rect: &Rect) -> Result<Vec<TileKey>, NoMemory> {
-        let mut keys = Vec::new(alloc);
-        for i in 0..rect.tile_count() {
-            let key = rect.tile_at(i);
-            if self.seen.has(key) {
-                keys.push(key)?;
-            }
-        }
-        Ok(keys)
     }
 
     /// The folds whose parts a rectangle meets.
@@ -219,12 +181,5 @@ impl Folds {
             }
         }
         None
-    }
-}
-
-/// Marks the tiles that a rectangle meets.
-fn mark_all(marks: &mut Marks, rect: &Rect) {
-    for i in 0..rect.tile_count() {
-        marks.mark(rect.tile_at(i));
     }
 }

@@ -33,12 +33,12 @@ pub(crate) fn known_of(
     ensures damaged { IfOk result (λ k.
         TellDamage inputs.now.patch.rect damage.now k.damaged.items) }
     ensures footing { IfOk result (λ k.
-        IfSome k.footing (AreOfFolds folds.now inputs.now.patch.walk)) }
+        IfSome k.footing (AreOfFolds folds.now)) }
 {
     let rect = inputs.patch().rect;
     let shots = shots_of(alloc, inputs.path(), caches, &rect)?;
     let damaged = damaged_on(alloc, damage, &rect)?;
-    let footing = folds.footing(alloc, inputs.patch().walk, &rect)?;
+    let footing = folds.footing(alloc, &rect)?;
     Ok(Known {
         shots,
         damaged,

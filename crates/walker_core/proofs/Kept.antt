@@ -38,7 +38,7 @@ stale_next ds i k d h is =
     ap (λ xs. stale_in xs k) (drop-cons ds i d h) ∙ ap (λ (x : Damaged). cond (same_key k x.key) (Some x.part) (stale_in (drop (suc i) ds) k)) (sym is) ∙ ap (λ n. cond (same_key k d.key) (Some d.part) (stale_in (drop n ds) k)) next
 
 -- keys by their columns and rows, either way round
-pub keys_turned : (a b : Key) → (int_eq a.row b.row && int_eq a.col b.col) ≡ same_key b a
+keys_turned : (a b : Key) → (int_eq a.row b.row && int_eq a.col b.col) ≡ same_key b a
 keys_turned a b = grind (arith, ints)
 
 -- where the first of the parts that are left is of the tile, it is the tile's

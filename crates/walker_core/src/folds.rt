@@ -20,7 +20,7 @@ use geom_core::{NoMemory, Rect};
 use std::alloc::Global;
 
 /// From so many lower children on their fold is kept: of fewer it costs as much to lay it.
-const WORTH: usize = 3;
+const WORTH: usize = 4;
 
 /// The lower children of a group on a part of a tile, laid one on another: those below the first that is the
 /// painted layer or a group that the walk composes. While only that layer is painted they stay as they are.
@@ -115,7 +115,7 @@ pub(crate) struct Laid {
 }
 
 /// Lays the lower children of the next group of a walk on the empty pile, as one picture where their fold is known
-/// or to be kept. Where nothing of it is to be kept on the tile, no child is laid.
+/// or to be kept. Where nothing of it is to be kept, no child is laid.
 pub(crate) fn lay_lower(
     alloc: Global,
     inputs: &Inputs,
@@ -135,7 +135,7 @@ pub(crate) fn lay_lower(
         LaysUpTo inputs.now sources.now spot.now below.now l.end pile.new) }
     ensures fold { IfOk result (λ l. IfSome l.fold (IsFoldOn inputs.now spot.now.key)) }
 {
-    let Some(footing) = inputs.footing(spot.key) else {
+    let Some(footing) = inputs.footing() else {
         return Ok(Laid { end: 0, fold: None });
     };
     let Some(part) = spot.part.clip(&inputs.patch().rect) else {

@@ -1,11 +1,8 @@
 //! What is known of a walk's values before it is composed.
 
 ghost use Rattle.std.specs.Prelude.{◌≡◌, IfSome};
-ghost use Rattle.std.specs.List.{list_any};
-ghost use Rattle.geom_core.specs.Grid.{same_key};
-ghost use Rattle.walker_core.specs.Readings.{Readings};
-ghost use Rattle.walker_core.specs.Folds.{IsFoldIn, StandsOn};
-ghost use Rattle.walker_core.specs.Knowing.{IsKnown, stale_in};
+ghost use Rattle.walker_core.specs.Folds.{IsFoldIn};
+ghost use Rattle.walker_core.specs.Knowing.{stale_in};
 
 use crate::folds::Fold;
 use compose_core::{Given, Spot};
@@ -19,15 +16,13 @@ pub struct Damaged {
     pub part: Rect,
 }
 
-/// Folds of lower children, and where they are to be kept.
+/// Folds of lower children on which a walk may stand.
 #[derive(Drop)]
 pub struct Footing {
     /// The painted layer.
     pub layer: u16,
     /// What is known: at most one fold of a group on a tile.
     pub folds: Vec<Fold>,
-    /// The tiles of which what is new of the groups' folds comes back with what is composed.
-    pub keys: Vec<TileKey>,
 }
 
 impl Footing {
@@ -42,13 +37,6 @@ impl Footing {
         }
         None
     }
-
-    /// Whether what is new of the groups' folds on a tile comes back.
-    pub(crate) fn keeps(&self, key: TileKey) -> bool
-        ensures { result ≡ list_any (same_key key) self.now.keys.items }
-    {
-        self.keys.contains(&key)
-    }
 }
 
 /// Pixels that have a walk's values but on damaged parts of tiles.
@@ -58,21 +46,11 @@ pub struct Known {
     pub shots: Vec<Shot>,
     /// The parts of tiles on which the walk's values may be others, at most one of a tile.
     pub damaged: Vec<Damaged>,
-    /// What is known of the groups' lower children. None where nothing of it is to be kept.
+    /// What is known of the groups' lower children, where what is new of it is to come back with what is composed.
     pub footing: Option<Footing>,
 }
 
 impl Known {
-    /// The folds of lower children, where what is new of them on a tile is to come back.
-    pub(crate) fn footing_on(&self, key: TileKey) -> Option<&Footing>
-        ensures { (r : Readings) → IsKnown r self.now → IfSome result (λ f. StandsOn r f.now) }
-    {
-        match &self.footing {
-            Some(footing) if footing.keeps(key) => Some(footing),
-            _ => None,
-        }
-    }
-
     /// The damaged part of a tile.
     pub fn part(&self, key: TileKey) -> Option<Rect>
         ensures { result ≡ stale_in self.now.damaged.items key }
