@@ -1,15 +1,33 @@
 #include "crew.h"
 #include <time.h>
 
-/* Takes what can be done next, or goes on with a piece for which memory ended. */
+/* Takes what can be done next, a part of what another thread shared before others; or goes on with a piece for which memory
+ * ended. */
 static strokes_answer take(struct crew *crew, strokes_piece *piece) {
+    if (piece->full) return STROKES_OK;
+    if (crew->part_count > 0) {
+        *piece = crew->parts[--crew->part_count];
+        return STROKES_OK;
+    }
     strokes_answer told = strokes_take(&crew->desk, piece);
     if (told == STROKES_OK) crew->out++;
     if ((told == STROKES_IDLE || told == STROKES_SETTLED) && crew->out == 0) {
         crew->rests = true;
         pthread_cond_broadcast(&crew->rested);
     }
-    return told == STROKES_IN_USE ? STROKES_OK : told;
+    return told;
+}
+
+/* Shares a piece with the threads that sleep. */
+static void share(struct crew *crew, strokes_piece *piece) {
+    for (int threads = crew->asleep - crew->part_count; threads > 0; threads--) {
+        strokes_piece *part = &crew->parts[crew->part_count];
+        *part = (strokes_piece){0};
+        if (strokes_share(piece, (uint32_t)threads + 1, part) != STROKES_OK) return;
+        crew->part_count++;
+        crew->out++;
+        pthread_cond_signal(&crew->changed);
+    }
 }
 
 static strokes_answer give(struct crew *crew, strokes_piece *piece) {
@@ -28,11 +46,19 @@ static strokes_answer give(struct crew *crew, strokes_piece *piece) {
 static strokes_answer turn(struct crew *crew, strokes_piece *piece) {
     strokes_answer told = take(crew, piece);
     if (told != STROKES_OK) return told;
+    share(crew, piece);
     pthread_cond_signal(&crew->changed);
     pthread_mutex_unlock(&crew->lock);
     told = strokes_work(piece);
     pthread_mutex_lock(&crew->lock);
     return told == STROKES_OK ? give(crew, piece) : told;
+}
+
+/* Waits until there may be work. */
+static void doze(struct crew *crew) {
+    crew->asleep++;
+    pthread_cond_wait(&crew->changed, &crew->lock);
+    crew->asleep--;
 }
 
 static void sleep_a_while(struct crew *crew) {
@@ -55,7 +81,7 @@ static void *paint(void *it) {
         case STROKES_OK:
         case STROKES_AGAIN: break;
         case STROKES_NO_MEMORY: sleep_a_while(crew); break;
-        default: pthread_cond_wait(&crew->changed, &crew->lock); /* idle or settled */
+        default: doze(crew); /* idle or settled */
         }
     }
     pthread_mutex_unlock(&crew->lock);
@@ -68,7 +94,7 @@ void crew_start(struct crew *crew, int threads) {
     pthread_cond_init(&crew->changed, NULL);
     pthread_cond_init(&crew->rested, NULL);
     crew->is_over = crew->rests = crew->lacks = false;
-    crew->out = 0;
+    crew->out = crew->part_count = crew->asleep = 0;
     crew->threads = 0;
     while (crew->threads < threads && crew->threads < CREW_MOST &&
            !pthread_create(&crew->ids[crew->threads], NULL, paint, crew))
@@ -119,6 +145,7 @@ void crew_end(struct crew *crew) {
     pthread_cond_broadcast(&crew->changed);
     pthread_mutex_unlock(&crew->lock);
     while (crew->threads > 0) pthread_join(crew->ids[--crew->threads], NULL);
+    while (crew->part_count > 0) strokes_close_piece(&crew->parts[--crew->part_count]);
     pthread_cond_destroy(&crew->changed);
     pthread_cond_destroy(&crew->rested);
     pthread_mutex_destroy(&crew->lock);

@@ -12,6 +12,9 @@ struct crew {
     pthread_mutex_t lock;
     pthread_cond_t changed; /* there may be work for one more thread */
     pthread_cond_t rested;  /* nothing can be done before more is fed, or memory ended */
+    strokes_piece parts[CREW_MOST]; /* under the lock: what was shared for threads that sleep */
+    int part_count;         /* how many of these there are */
+    int asleep;             /* under the lock: how many threads wait for work */
     bool is_over;           /* under the lock: the threads are to end */
     int out;                /* under the lock: how many pieces are out */
     bool rests;             /* under the lock: nothing can be done before more is fed */

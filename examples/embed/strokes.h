@@ -51,8 +51,8 @@ typedef enum strokes_answer {
     STROKES_IDLE = 2,    /* nothing can be done before work is given back or commands are fed */
     STROKES_SETTLED = 3, /* every entry has its outcome, and nothing is at work or waits */
 
-    /* Of strokes_small. */
-    STROKES_NOTHING = 4, /* no small job is next */
+    /* Of strokes_small and strokes_share. */
+    STROKES_NOTHING = 4, /* no small job is next; there is nothing to share */
 
     /* Of many calls: what is wanting, or was misused. */
     STROKES_NO_MEMORY = 16, /* the same call may be made again, once there is memory */
@@ -91,7 +91,7 @@ static inline const char *strokes_answer_text(strokes_answer answer) {
     case STROKES_AGAIN: return "ask again";
     case STROKES_IDLE: return "nothing to do for now";
     case STROKES_SETTLED: return "settled";
-    case STROKES_NOTHING: return "no small job";
+    case STROKES_NOTHING: return "nothing of that kind";
     case STROKES_NO_MEMORY: return "out of memory";
     case STROKES_SHUT: return "shut handle";
     case STROKES_IN_USE: return "handle in use";
@@ -243,6 +243,14 @@ strokes_answer strokes_redo(strokes_desk *desk);
  * OK: the piece has work; AGAIN, IDLE, SETTLED, as above, and the piece stays shut; SHUT: the desk is; IN_USE: the piece has
  * work, which is to be given back, or let go, before; NO_MEMORY: nothing was taken, and desk and piece are as they were. */
 strokes_answer strokes_take(strokes_desk *desk, strokes_piece *piece);
+
+/* Gives some of a piece's work to another piece, which is shut, for a thread that has none: one of so many equal shares, so of
+ * a piece for n threads n, n - 1 and so on to 2, or more where that would be too little for a thread. What composes the picture
+ * anew can be shared, before any of it is done; each of the pieces is then worked on and given back, in any order. The desk
+ * has a slot for all of them together. No lock is wanted.
+ * OK: the other piece has work; SHUT: the piece is; IN_USE: the other one has work; NO_MEMORY; NOTHING: there is too little
+ * work, or some of it is done, or it is of another kind. But for OK both are as they were. */
+strokes_answer strokes_share(strokes_piece *piece, uint32_t shares, strokes_piece *other);
 
 /* Does a piece's work: paints the tiles of a job, or composes the picture anew where something changed. No lock is wanted.
  * OK: it is done, also where it was before; SHUT; NO_MEMORY: the same call goes on, with what is done so far. */

@@ -126,12 +126,23 @@ static void feed_typed(struct play *p, strokes_desk *desk) {
     if (answer != STROKES_NO_MEMORY) same(desk, before, "a call that feeds");
 }
 
+static void share(struct play *p, strokes_piece *piece, strokes_piece *other) {
+    if (other == piece) return; /* a host owes that */
+    bool had = piece->full, other_had = other->full;
+    strokes_answer answer = strokes_share(piece, (uint32_t)number(&p->bytes, 0, 5), other);
+    IS_ONE(answer, STROKES_OK, STROKES_SHUT, STROKES_IN_USE, STROKES_NO_MEMORY, STROKES_NOTHING);
+    CHECK((answer == STROKES_SHUT) == !had, "share told %s", strokes_answer_text(answer));
+    CHECK(!had || (answer == STROKES_IN_USE) == other_had, "share told %s", strokes_answer_text(answer));
+    CHECK(piece->full == had, "share lost a piece");
+    CHECK(other->full == (other_had || answer == STROKES_OK), "share told %s", strokes_answer_text(answer));
+}
+
 static void work(struct play *p, strokes_desk *desk, strokes_piece *piece) {
     strokes_rect drawn = {-1, -1, 7, 7};
     strokes_count before = count_of(desk);
     bool had = piece->full, is_open = desk->full;
     strokes_answer answer;
-    switch (byte(&p->bytes) % 4) {
+    switch (byte(&p->bytes) % 5) {
     case 0:
         answer = strokes_take(desk, piece);
         CHECK(piece->full == (had || answer == STROKES_OK), "take told %s", strokes_answer_text(answer));
@@ -154,6 +165,7 @@ static void work(struct play *p, strokes_desk *desk, strokes_piece *piece) {
         if (answer == STROKES_OK) CHECK(drawn.w <= SIDE && drawn.h <= SIDE, "give told a rectangle outside");
         same(desk, before, "give");
         break;
+    case 3: share(p, piece, &p->pieces[byte(&p->bytes) % PIECES]); break;
     default:
         if (byte(&p->bytes) % 4 == 0) strokes_close_piece(piece);
     }

@@ -99,10 +99,14 @@ def c_declaration(export):
 # A program of them.
 
 
+def passed_to(name, kind, types):
+    """What is passed for a parameter: a handle stands in the main's variable of that name."""
+    return f"&mut {name}" if kind.removeprefix("&mut ") in HANDLES else value(kind, types)
+
+
 def value(kind, types):
-    """Something to pass for a parameter, and whether it stands in a variable of the main."""
-    made = {"&mut DeskHandle": "&mut desk", "&mut PieceHandle": "&mut piece", "&mut ShotHandle": "&mut shot"}
-    made |= {"Global": "alloc", "&[u8]": "text", "&mut [u8]": "&mut out", "bool": "false"}
+    """Something of a type."""
+    made = {"Global": "alloc", "&[u8]": "text", "&mut [u8]": "&mut out", "bool": "false"}
     if kind in made:
         return made[kind]
     if kind in NUMBERS:
@@ -123,13 +127,14 @@ def main_of(src):
     """The main that calls each export for each line that it reads."""
     types, calls = structs(pathlib.Path(src).parent.parent / "host_lines/src"), []
     for it in exports(src):
-        call = f"{'::'.join([*it.module, it.name])}({', '.join(value(kind, types) for _, kind in it.parameters)})"
+        call = f"{'::'.join([*it.module, it.name])}({', '.join(passed_to(name, kind, types) for name, kind in it.parameters)})"
         calls.append(f"        sum += u64::from({call});" if it.result else f"        {call};")
     return """
 fn main(rt: HostRuntime) -> std::io::Result<()> {
     let alloc: Global = rt.alloc();
     let mut desk = host_handles::DeskHandle::shut(alloc);
     let mut piece = host_handles::PieceHandle::shut(alloc);
+    let mut other = host_handles::PieceHandle::shut(alloc);
     let mut shot = host_handles::ShotHandle::shut(alloc);
     let mut line = String::new(alloc);
     let mut sum = 0u64;
@@ -148,6 +153,7 @@ fn main(rt: HostRuntime) -> std::io::Result<()> {
     }
     drop(shot.into_box());
     drop(piece.into_box());
+    drop(other.into_box());
     drop(desk.into_box());
     println!(rt; "{sum}")
 }

@@ -80,7 +80,7 @@ static uint32_t feed_path(strokes_desk *desk, uint32_t stroke) {
 }
 
 /* Works until nothing can be done before more is fed. Two pieces are out at
- * once, where there are two. */
+ * once, where there are two, or one can be shared. */
 static strokes_answer work(strokes_desk *desk) {
     strokes_piece pieces[2] = {{0}, {0}};
     for (;;) {
@@ -89,6 +89,7 @@ static strokes_answer work(strokes_desk *desk) {
         if (first == STROKES_AGAIN) continue;
         if (first != STROKES_OK) return first;
         UNTIL_MEMORY(second, strokes_take(desk, &pieces[1]));
+        if (second != STROKES_OK) UNTIL_MEMORY(second, strokes_share(&pieces[0], 2, &pieces[1]));
         for (int i = 0; i < (second == STROKES_OK ? 2 : 1); i++) {
             strokes_rect drawn;
             UNTIL_MEMORY(answer, strokes_work(&pieces[i]));

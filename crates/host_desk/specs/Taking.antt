@@ -15,12 +15,13 @@ use Rattle.host_lines.specs.declared.answer.Answer.TheVariants as answer
 use Rattle.host_pieces.specs.declared.piece.Piece.{Piece}
 use Rattle.host_pieces.specs.declared.piece.Piece.TheVariants as piece
 use Rattle.host_pieces.specs.Jobs.{IsOfTicket}
+use Rattle.host_pieces.specs.Walks.{patch_keys, walk_work}
 
 -- a job or a walk was started, and the piece has it; a walk is started last
 abbrev pub Started : State → Piece → State → Type 0
 Started s piece.Empty t = ⊥
 Started s (piece.Job j) t = (k : PaintTicket) × IsOfTicket k j × Step s (Start k.slot.place) t × IsPaintTicket k t
-Started s (piece.Walk w) t = Step s (WalkStart w.ticket.slot.place w.ticket.inputs.patch) t × IsWalkTicket w.ticket t × HeadWaits s × (w.tiles ≡ [])
+Started s (piece.Walk w) t = Step s (WalkStart w.ticket.slot.place w.ticket.inputs.patch) t × IsWalkTicket w.ticket t × HeadWaits s × (w ≡ walk_work w.ticket (patch_keys w.ticket) [])
 
 -- nothing may be done before work at hand ends or commands come, and with nothing at hand commands have to come
 pub record Idles (s : State) : Type 0 where

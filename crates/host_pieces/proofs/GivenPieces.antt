@@ -1,20 +1,30 @@
 -- What a piece has that was given and wasn't taken.
-use Rattle.std.proofs.Common.{◌≡◌, refl, subst, inl}
+use Rattle.std.proofs.Common.{◌≡◌, List, refl, subst, inl, inr}
+use Rattle.geom_core.specs.Grid.{Key}
 use Rattle.machine_model.specs.State.{State}
-use Rattle.walker_core.specs.Composing.{Composition, composition, tiles_in}
-use Rattle.walker_core.specs.declared.rows.Rows.{Rows}
+use Rattle.walker_core.specs.Composing.{Composition, composition}
+use Rattle.desk_events.specs.declared.tickets.SlotId.{SlotId}
 use Rattle.desk_events.specs.declared.tickets.WalkTicket.{WalkTicket}
 use Rattle.host_lines.specs.declared.answer.Answer.{Answer}
 use Rattle.host_lines.specs.declared.answer.Answer.TheVariants as answer
 use Rattle.host_pieces.specs.declared.job_piece.JobPiece.{JobPiece}
-use Rattle.host_pieces.specs.Giving.{JobKept, KeepsOthers, PatchGiven, WalkGiven}
+use Rattle.host_pieces.specs.Giving.{BreaksOff, JobKept, KeepsOthers, RowsGiven, WalkEnded, WalkGiven}
 use Rattle.host_pieces.specs.Walks.{HasAllRows, WalkWork, walk_work}
 
 -- memory ended for a job
 pub kept_others : (s t : State) (old new : JobPiece) → new.slot ≡ old.slot → KeepsOthers s t old new → JobKept s t old answer.NoMemory new
 kept_others s t old new slot others = record { slot = slot; same = λ other. absurd (other refl); others = λ _. others }
 
--- a walk was given, all of which was composed
-pub walk_given : (s t : State) (k : WalkTicket) (rows : Rows) (c : Composition) (w : WalkWork) (a : Answer) → walk_work k (tiles_in rows) ≡ w → c ≡ composition k.inputs (tiles_in rows) → HasAllRows w → PatchGiven s k.slot c a t → WalkGiven s w a t
-walk_given s t k rows c w a is of done given =
-    subst (λ (x : WalkWork). HasAllRows x → WalkGiven s x a t) is (λ all. inl (all, subst (λ (d : Composition). PatchGiven s k.slot d a t) of given)) done
+-- all of a walk's tiles were composed, as they were given
+module _ (s mid t : State) (k : WalkTicket) (keys tiles : List Key) (slot : SlotId) (c : Composition) (w : WalkWork) (is : walk_work k keys tiles ≡ w) (named : slot ≡ k.slot) (of : c ≡ composition k.inputs tiles) (done : HasAllRows w) where
+  -- and published
+  pub walk_stored : (again : List Key) (a : Answer) → again ≡ tiles → RowsGiven slot c keys s mid → WalkEnded mid (walk_work k keys again) a t → WalkGiven s w a t
+  walk_stored again a same given ended =
+      subst (λ (x : WalkWork). HasAllRows x → WalkGiven s x a t) is
+      (λ all. inl (all, inl (mid, subst (λ (d : Composition). RowsGiven k.slot d keys s mid) of (subst (λ (x : SlotId). RowsGiven x c keys s mid) named given), subst (λ ts. WalkEnded mid (walk_work k keys ts) a t) same ended))) done
+
+  -- and memory ended
+  pub walk_breaks : BreaksOff s slot c keys t → WalkGiven s w answer.NoMemory t
+  walk_breaks breaks =
+      subst (λ (x : WalkWork). HasAllRows x → WalkGiven s x answer.NoMemory t) is
+      (λ all. inl (all, inr (inr (refl, subst (λ (d : Composition). BreaksOff s k.slot d keys t) of (subst (λ (x : SlotId). BreaksOff s x c keys t) named breaks))))) done

@@ -1,16 +1,20 @@
 -- What work that is given leaves of the root's cache.
-use Rattle.std.proofs.Common.{◌≡◌, ℕ, ◌+◌, Bool, true, false, eqb, Option, Some, None, Ok, Err, List, [], ◌∷◌, ◌++◌, take, refl, sym, ap, ◌∙◌, subst, arith, inl, inr}
-use Rattle.std.specs.Prelude.{Result, slice_get}
+use Rattle.std.proofs.Common.{◌≡◌, ℕ, ◌+◌, Bool, true, false, cond, eqb, Option, Some, None, Ok, Err, List, [], ◌∷◌, ◌++◌, take, refl, sym, ap, ◌∙◌, subst, arith, inl, inr}
+use Rattle.std.specs.Prelude.{Result, map, slice_get}
+use Rattle.std.specs.List.{list_any}
 use Rattle.std.specs.Result.{IsErr}
 use Rattle.std.specs.Ordering.{nat_cmp}
 use Rattle.std.specs.FinMap.{FinMap}
 use Rattle.std.proofs.lemmas.Bool.Decides.{nat_tests}
-use Rattle.geom_core.specs.Areas.{Point, holds}
-use Rattle.geom_core.specs.Grid.{Key, keys_of}
+use Rattle.geom_core.specs.Areas.{Area, Point, holds}
+use Rattle.geom_core.proofs.Tests.{never}
+use Rattle.geom_core.specs.Grid.{Key}
 use Rattle.doc_model.specs.declared.canvas.Patch.{Patch}
 use Rattle.doc_model.specs.Layers.{Layer, at}
+use Rattle.doc_model.specs.Shots.{in_tile}
 use Rattle.whole_tiles.specs.Wholes.{Entire}
-use Rattle.machine_model.specs.State.{State, Walker, Walks}
+use Rattle.machine_model.specs.Guards.{same_pair}
+use Rattle.machine_model.specs.State.{Child, State, Walker, Walks}
 use Rattle.machine_model.specs.Event.{Event, Feed, Init, Start, Publish, End, Finish, Cancel, Act, WalkStart, WalkPublish, WalkEnd}
 use Rattle.machine_model.specs.EffectLaws.{ComposesTile}
 use Rattle.machine_model.specs.Groups.{cache}
@@ -18,6 +22,7 @@ use Rattle.machine_model.specs.Step.{Run, Step, WalkPublishStep}
 use Rattle.machine_model.proofs.EffectsHold.{walk_stays_in_tile}
 use Rattle.machine_model.proofs.Lists.{get_set}
 use Rattle.walker_core.specs.Composing.{Composition}
+use Rattle.slot_work.specs.LaidTiles.{lacking, pairs_at}
 use Rattle.desk_state.specs.Enabled.{ends}
 use Rattle.desk_events.specs.Commits.{MayPublishRow, lacking_at, pair_events, row_events}
 use Rattle.desk_events.specs.declared.tickets.SlotId.{SlotId}
@@ -26,11 +31,12 @@ use Rattle.desk_core.specs.declared.answers.Published.{Published}
 use Rattle.host_lines.specs.declared.answer.Answer.TheVariants as answer
 use Rattle.host_pieces.specs.declared.piece.Piece.{Piece}
 use Rattle.host_pieces.specs.declared.piece.Piece.TheVariants as piece
-use Rattle.host_pieces.specs.Giving.{BreaksOff, ChangesWithin, PatchGiven, RowsAnswered, RowsGiven, TilesGiven, WalkGiven, WorkGiven}
+use Rattle.host_pieces.specs.Giving.{BreaksOff, ChangesWithin, PartGiven, RowsAnswered, RowsGiven, TilesGiven, WalkEnded, WalkGiven, WorkGiven}
 use Rattle.host_pieces.specs.Jobs.{are_made}
 use Rattle.host_pieces.specs.Pieces.{patch_in}
-use Rattle.host_pieces.specs.Walks.{WalkWork, composed_by}
+use Rattle.host_pieces.specs.Walks.{WalkWork, area_in, composed_by}
 use Rattle.host_pieces.proofs.Fronts.{next_taken}
+use Rattle.host_pieces.proofs.Parts.{IsAway, IsIn, away}
 
 -- ---- one tile after another
 
@@ -52,36 +58,56 @@ rows_break s t slot c keys (Err e) is breaks = breaks
 one_walker : (a b : Walker) → Some (Walks a) ≡ Some (Walks b) → a ≡ b
 one_walker a b e = cc
 
-pairs_within : (place : ℕ) (ps : List (ℕ × Key)) (w : Walker) (s t : State) → slice_get s.slots place ≡ Some (Walks w) → Run s (pair_events place ps) t → (p : Point) → holds w.patch.rect p ≡ false → at (cache t.caches 0) p ≡ at (cache s.caches 0) p
-pairs_within place [] w s t runs run p out = ap (λ (x : State). at (cache x.caches 0) p) run
-pairs_within place (q ∷ ps) w s t runs run p out = pairs_within place ps next run.0 t there run.2 p (subst (λ (x : Walker). holds x.patch.rect p ≡ false) (sym mine) out) ∙ here (eqb 0 q.0) refl
+-- all pairs are of that tile
+abbrev pub OfKey : Key → List (ℕ × Key) → Type 0
+OfKey k [] = Unit {0}
+OfKey k (q ∷ ps) = (q.1 ≡ k) × OfKey k ps
+
+lacking_of_key : (published : List (ℕ × Key)) (gs : List ℕ) (k : Key) → OfKey k (lacking published (pairs_at gs k))
+lacking_of_key published [] k = tt
+lacking_of_key published (g ∷ gs) k = go (list_any (same_pair g k) published) (λ qs. lacking_of_key qs gs k)
   where
-    step : WalkPublishStep s place q.0 q.1 run.0
-    step = run.1
+    go : (b : Bool) → ((qs : List (ℕ × Key)) → OfKey k (lacking qs (pairs_at gs k))) → OfKey k (cond b (lacking published (pairs_at gs k)) ((g, k) ∷ lacking ((g, k) ∷ published) (pairs_at gs k)))
+    go true rest = rest published
+    go false rest = (refl, rest ((g, k) ∷ published))
 
-    told : ComposesTile s run.0 place q.0 q.1
-    told = walk_stays_in_tile s run.0 place q.0 q.1 step
+module _ (place : ℕ) (k : Key) (p : Point) where
+  pairs_within : (ps : List (ℕ × Key)) (w : Walker) (s t : State) → (in_tile k p ≡ true → holds w.patch.rect p ≡ true → ⊥) → OfKey k ps → slice_get s.slots place ≡ Some (Walks w) → Run s (pair_events place ps) t → at (cache t.caches 0) p ≡ at (cache s.caches 0) p
+  pairs_within [] w s t out of runs run = ap (λ (x : State). at (cache x.caches 0) p) run
+  pairs_within (q ∷ ps) w s t out of runs run = pairs_within ps next run.0 t (λ e h. out e (subst (λ (x : Walker). holds x.patch.rect p ≡ true) mine h)) of.1 there run.2 ∙ here (eqb 0 q.0) refl
+    where
+      step : WalkPublishStep s place q.0 q.1 run.0
+      step = run.1
 
-    mine : step.walker ≡ w
-    mine = one_walker step.walker w (sym step.runs ∙ runs)
+      told : ComposesTile s run.0 place q.0 q.1
+      told = walk_stays_in_tile s run.0 place q.0 q.1 step
 
-    next : Walker
-    next = record step.walker { published = (q.0, q.1) ∷ step.walker.published }
+      mine : step.walker ≡ w
+      mine = one_walker step.walker w (sym step.runs ∙ runs)
 
-    there : slice_get run.0.slots place ≡ Some (Walks next)
-    there = ap (λ (x : State). slice_get x.slots place) step.new_is ∙ get_set s.slots place (Walks step.walker) (Walks next) step.runs
+      next : Walker
+      next = record step.walker { published = (q.0, q.1) ∷ step.walker.published }
 
-    here : (b : Bool) → eqb 0 q.0 ≡ b → at (cache run.0.caches 0) p ≡ at (cache s.caches 0) p
-    here true e = let is : q.0 ≡ 0 = grind (arith, nat_tests) in
-        subst (λ n. at (cache run.0.caches n) p ≡ at (cache s.caches n) p) is (told.out_of_patch p (subst (λ (x : Walker). holds x.patch.rect p ≡ false) (sym (one_walker told.walker w (sym told.at_work ∙ runs))) out))
-    here false e = told.others 0 p (grind (arith, nat_tests))
+      there : slice_get run.0.slots place ≡ Some (Walks next)
+      there = ap (λ (x : State). slice_get x.slots place) step.new_is ∙ get_set s.slots place (Walks step.walker) (Walks next) step.runs
 
-rows_within : (slot : SlotId) (c : Composition) (keys : List Key) (s t : State) → RowsGiven slot c keys s t → (p : Point) → holds c.readings.patch.rect p ≡ false → at (cache t.caches 0) p ≡ at (cache s.caches 0) p
+      same : (b c : Bool) → in_tile q.1 p ≡ b → holds told.walker.patch.rect p ≡ c → at (cache run.0.caches q.0) p ≡ at (cache s.caches q.0) p
+      same false c e f = told.out_of_tile p e
+      same true false e f = told.out_of_patch p f
+      same true true e f = absurd (out (subst (λ (m : Key). in_tile m p ≡ true) of.0 e) (subst (λ (x : Walker). holds x.patch.rect p ≡ true) (one_walker told.walker w (sym told.at_work ∙ runs)) f))
+
+      here : (b : Bool) → eqb 0 q.0 ≡ b → at (cache run.0.caches 0) p ≡ at (cache s.caches 0) p
+      here true e = let is : q.0 ≡ 0 = grind (arith, nat_tests) in
+          subst (λ n. at (cache run.0.caches n) p ≡ at (cache s.caches n) p) is (same (in_tile q.1 p) (holds told.walker.patch.rect p) refl refl)
+      here false e = told.others 0 p (grind (arith, nat_tests))
+
+rows_within : (slot : SlotId) (c : Composition) (keys : List Key) (s t : State) → RowsGiven slot c keys s t → (p : Point) → IsAway c.readings.patch.rect p keys → at (cache t.caches 0) p ≡ at (cache s.caches 0) p
 rows_within slot c [] s t given p out = ap (λ (x : State). at (cache x.caches 0) p) given
 rows_within slot c (k ∷ keys) s t given p out =
     let may : MayPublishRow s slot.place slot.serial c k = given.1 in
-    rows_within slot c keys given.0 t given.3 p out
-    ∙ pairs_within slot.place (lacking_at (slice_get s.slots slot.place) k) may.walker s given.0 may.runs given.2 p (subst (λ (q : Patch). holds q.rect p ≡ false) (sym may.of.of.same.patch) out)
+    rows_within slot c keys given.0 t given.3 p out.1
+    ∙ pairs_within slot.place k p (lacking_at (slice_get s.slots slot.place) k) may.walker s given.0 (λ e h. out.0 e (subst (λ (q : Patch). holds q.rect p ≡ true) may.of.of.same.patch h))
+    (subst (λ o. OfKey k (lacking_at o k)) (sym may.runs) (lacking_of_key may.walker.published (map (λ (e : ℕ × List Child). e.0) may.walker.shot) k)) may.runs given.2
 
 end_leaves : (s t : State) (place : ℕ) (e : Event) → ends place e ≡ true → Step s e t → t.caches ≡ s.caches
 end_leaves s t place (End p) h step = ap (λ (x : State). x.caches) step.new_is
@@ -108,16 +134,27 @@ tiles_leave slot None s t h = absurd h
 
 -- ---- pieces
 
-patch_within : (s t : State) (slot : SlotId) (c : Composition) → PatchGiven s slot c answer.Done t → (p : Point) → holds c.readings.patch.rect p ≡ false → at (cache t.caches 0) p ≡ at (cache s.caches 0) p
-patch_within s t slot c (inl g) p out =
-    ap (λ (l : FinMap nat_cmp Layer). at (cache l 0) p) (end_leaves g.0 t slot.place g.2.1.0 g.2.1.1 g.2.1.2)
-    ∙ rows_within slot c (keys_of c.readings.patch.rect) s g.0 g.1 p out
-patch_within s t slot c (inr (inl g)) p out = let e : answer.Done ≡ answer.Stranger = g.0 in cc
-patch_within s t slot c (inr (inr g)) p out = let e : answer.Done ≡ answer.NoMemory = g.0 in cc
+ended_leaves : (s t : State) (w : WalkWork) → WalkEnded s w answer.Done t → t.caches ≡ s.caches
+ended_leaves s t w (inl h) = end_leaves s t w.ticket.slot.place h.1.0 h.1.1 h.1.2
+ended_leaves s t w (inr h) = ap (λ (x : State). x.caches) h.2
 
-walk_within : (s t : State) (w : WalkWork) → WalkGiven s w answer.Done t → (p : Point) → holds w.ticket.inputs.patch.rect p ≡ false → at (cache t.caches 0) p ≡ at (cache s.caches 0) p
-walk_within s t w (inl h) p out = patch_within s t w.ticket.slot (composed_by w) h.1 p out
-walk_within s t w (inr h) p out = let e : answer.Done ≡ answer.Undone = h.1 in cc
+part_within : (s t : State) (w : WalkWork) (keys : List Key) → PartGiven s w keys answer.Done t → (p : Point) → IsAway w.ticket.inputs.patch.rect p keys → at (cache t.caches 0) p ≡ at (cache s.caches 0) p
+part_within s t w keys (inl g) p out =
+    ap (λ (l : FinMap nat_cmp Layer). at (cache l 0) p) (ended_leaves g.0 t w g.2)
+    ∙ rows_within w.ticket.slot (composed_by w) keys s g.0 g.1 p out
+part_within s t w keys (inr (inl g)) p out = let e : answer.Done ≡ answer.Stranger = g.0 in cc
+part_within s t w keys (inr (inr g)) p out = let e : answer.Done ≡ answer.NoMemory = g.0 in cc
+
+walk_within : (s t : State) (w : WalkWork) → WalkGiven s w answer.Done t → ChangesWithin (area_in w) s t
+walk_within s t w (inr h) = let e : answer.Done ≡ answer.Undone = h.1 in cc
+walk_within s t w (inl h) = go (area_in w) refl
+  where
+    leaves : (p : Point) → (IsIn (area_in w) p → ⊥) → at (cache t.caches 0) p ≡ at (cache s.caches 0) p
+    leaves p out = part_within s t w w.keys h.1 p (away w.ticket.inputs.patch.rect None w.keys p out)
+
+    go : (o : Option Area) → area_in w ≡ o → ChangesWithin o s t
+    go None e = λ p. leaves p (λ i. subst (λ o. IsIn o p) e i)
+    go (Some rect) e = λ p out. leaves p (λ i. never (sym out ∙ subst (λ o. IsIn o p) e i))
 
 -- the root's cache changes within the rectangle of the work alone
 pub given_within : (s t : State) (p : Piece) → WorkGiven s p answer.Done t → ChangesWithin (patch_in p) s t

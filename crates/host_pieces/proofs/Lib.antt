@@ -4,3 +4,4 @@ mod GivenPieces
 pub mod GivenRows
 mod KeptTiles
 mod PaintedJobs
+mod Parts

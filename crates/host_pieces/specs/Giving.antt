@@ -1,7 +1,7 @@
 -- Work that is given back to a desk.
 use Rattle.std.specs.Prelude.{◌≡◌, ◌⊎◌, ◌≤◌, ◌<◌, ℕ, false, Option, Some, None, Result, Ok, Err, List, [], ◌∷◌, length, drop, take, slice_get}
 use Rattle.geom_core.specs.Areas.{Area, Point, holds}
-use Rattle.geom_core.specs.Grid.{Key, keys_of}
+use Rattle.geom_core.specs.Grid.{Key}
 use Rattle.doc_model.specs.Layers.{at}
 use Rattle.whole_tiles.specs.Wholes.{Entire}
 use Rattle.walker_core.specs.Composing.{Composition}
@@ -21,7 +21,7 @@ use Rattle.host_pieces.specs.declared.piece.Piece.{Piece}
 use Rattle.host_pieces.specs.declared.piece.Piece.TheVariants as piece
 use Rattle.host_pieces.specs.declared.job_piece.JobPiece.{JobPiece}
 use Rattle.host_pieces.specs.Jobs.{are_made}
-use Rattle.host_pieces.specs.Walks.{HasAllRows, WalkWork, composed_by}
+use Rattle.host_pieces.specs.Walks.{HasAllRows, IsWhole, WalkWork, composed_by}
 
 -- ---- jobs
 
@@ -66,10 +66,6 @@ pub record JobKept (s t : State) (old : JobPiece) (a : Answer) (new : JobPiece) 
 
 -- ---- walks
 
--- the tiles of what the walk composes anew
-abbrev pub patch_keys : Composition → List Key
-patch_keys c = keys_of c.readings.patch.rect
-
 -- these tiles of the walk in the slot were published, one after another, as they were composed
 abbrev pub RowsGiven : SlotId → Composition → List Key → State → State → Type 0
 RowsGiven slot c [] s t = t ≡ s
@@ -95,22 +91,24 @@ RowsAnswered s slot c keys (Ok answers.Stored) t = RowsGiven slot c keys s t
 RowsAnswered s slot c keys (Ok answers.Nothing) t = IsRefused s slot c keys t
 RowsAnswered s slot c keys (Err e) t = BreaksOff s slot c keys t
 
--- the walk in the slot ended, if it might
-abbrev pub WalkEnded : State → SlotId → Answer → State → Type 0
-WalkEnded s slot answer.Done t = MayEnd s slot.place slot.serial × IsEnd s slot.place t
-WalkEnded s slot answer.Stranger t = (MayEnd s slot.place slot.serial → ⊥) × (t ≡ s)
-WalkEnded s slot a t = ⊥
+-- the walk ended if it might; a piece that has not all of its tiles may be given before others are
+abbrev pub WalkEnded : State → WalkWork → Answer → State → Type 0
+WalkEnded s w answer.Done t =
+    (MayEnd s w.ticket.slot.place w.ticket.slot.serial × IsEnd s w.ticket.slot.place t)
+    ⊎ ((MayEnd s w.ticket.slot.place w.ticket.slot.serial → ⊥) × (IsWhole w → ⊥) × (t ≡ s))
+WalkEnded s w answer.Stranger t = (MayEnd s w.ticket.slot.place w.ticket.slot.serial → ⊥) × IsWhole w × (t ≡ s)
+WalkEnded s w a t = ⊥
 
--- the tiles of a patch were published, and the walk was to end; or not all of them were
-abbrev pub PatchGiven : State → SlotId → Composition → Answer → State → Type 0
-PatchGiven s slot c a t =
-    ((mid : State) × RowsGiven slot c (patch_keys c) s mid × WalkEnded mid slot a t)
-    ⊎ ((a ≡ answer.Stranger) × IsRefused s slot c (patch_keys c) t)
-    ⊎ ((a ≡ answer.NoMemory) × BreaksOff s slot c (patch_keys c) t)
+-- these tiles of a walk were published, and it was to end; or not all of them were
+abbrev pub PartGiven : State → WalkWork → List Key → Answer → State → Type 0
+PartGiven s w keys a t =
+    ((mid : State) × RowsGiven w.ticket.slot (composed_by w) keys s mid × WalkEnded mid w a t)
+    ⊎ ((a ≡ answer.Stranger) × IsRefused s w.ticket.slot (composed_by w) keys t)
+    ⊎ ((a ≡ answer.NoMemory) × BreaksOff s w.ticket.slot (composed_by w) keys t)
 
--- a walk was given; where not all of it was composed, nothing is published
+-- a walk was given; where not all of its tiles were composed, nothing is published
 abbrev pub WalkGiven : State → WalkWork → Answer → State → Type 0
-WalkGiven s w a t = (HasAllRows w × PatchGiven s w.ticket.slot (composed_by w) a t) ⊎ ((HasAllRows w → ⊥) × (a ≡ answer.Undone) × (t ≡ s))
+WalkGiven s w a t = (HasAllRows w × PartGiven s w w.keys a t) ⊎ ((HasAllRows w → ⊥) × (a ≡ answer.Undone) × (t ≡ s))
 
 -- ---- pieces
 

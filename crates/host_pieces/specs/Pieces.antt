@@ -1,12 +1,12 @@
 -- Pieces of work, and what becomes of them.
-use Rattle.std.specs.Prelude.{◌≡◌, Result, Ok, Err, Option, Some, None}
+use Rattle.std.specs.Prelude.{◌≡◌, ◌≢◌, Result, Ok, Err, Option, None}
 use Rattle.geom_core.specs.Areas.{Area}
 use Rattle.host_lines.specs.declared.answer.Answer.{Answer}
 use Rattle.host_lines.specs.declared.answer.Answer.TheVariants as answer
 use Rattle.host_pieces.specs.declared.piece.Piece.{Piece}
 use Rattle.host_pieces.specs.declared.piece.Piece.TheVariants as piece
 use Rattle.host_pieces.specs.Jobs.{GoesOn, HasAllTiles}
-use Rattle.host_pieces.specs.Walks.{HasAllRows, WalksOn}
+use Rattle.host_pieces.specs.Walks.{HasAllRows, IsParted, WalksOn, area_in}
 
 -- the answer to work that may want memory
 abbrev pub worked : {E : Type 0} → Result (Unit {0}) E → Answer
@@ -39,7 +39,19 @@ Worked old answer.NoMemory new = IsAhead old new
 Worked old answer.Shut new = (old ≡ piece.Empty) × (new ≡ piece.Empty)
 Worked old a new = ⊥
 
--- the rectangle that its work composes anew
+-- a walk was parted between two pieces
+abbrev pub Parted : Piece → Piece → Piece → Type 0
+Parted (piece.Walk w) (piece.Walk new) (piece.Walk other) = IsParted w new other
+Parted old new other = ⊥
+
+-- it was parted between the piece and another one; or the piece is as it was, and there is no other
+abbrev pub Shared : Piece → Answer → Piece → Piece → Type 0
+Shared old answer.Done other new = Parted old new other
+Shared old answer.Nothing other new = (old ≢ piece.Empty) × (other ≡ piece.Empty) × (new ≡ old)
+Shared old answer.Shut other new = (old ≡ piece.Empty) × (other ≡ piece.Empty) × (new ≡ old)
+Shared old a other new = ⊥
+
+-- the rectangle in which its work composes anew
 abbrev pub patch_in : Piece → Option Area
-patch_in (piece.Walk w) = Some w.ticket.inputs.patch.rect
+patch_in (piece.Walk w) = area_in w
 patch_in p = None

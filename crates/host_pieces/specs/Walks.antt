@@ -1,6 +1,7 @@
 -- Walks as pieces of work.
-use Rattle.std.specs.Prelude.{◌≡◌, ◌≤◌, List, length, refl}
+use Rattle.std.specs.Prelude.{◌≡◌, ◌≢◌, ◌≤◌, ◌++◌, Option, List, [], length, refl}
 use Rattle.std.specs.Coded.{Coded, code_by, coded×, coded_list}
+use Rattle.geom_core.specs.Areas.{Area}
 use Rattle.geom_core.specs.Grid.{Key, keys_of}
 use Rattle.geom_core.specs.Keys.{key_code}
 use Rattle.walker_core.specs.Composing.{AreOf, Composition, composition, tiles_in}
@@ -9,34 +10,65 @@ use Rattle.walker_core.specs.declared.rows.Rows.{Rows}
 use Rattle.desk_events.specs.contracts.tickets.WalkTicket as ticket
 use Rattle.desk_events.specs.declared.tickets.WalkTicket.{WalkTicket}
 use Rattle.host_pieces.specs.Fronts.{IsFront}
+use Rattle.host_pieces.specs.Parts.{Tiles, area_of}
 
--- the walk's ticket, and the tiles of its patch that are composed
+-- the walk's ticket, the piece's tiles, and those of them that are composed
 pub record WalkWork : Type 0 where
   pub ticket : WalkTicket
+  pub keys : List Key
   pub tiles : List Key
 
--- these parts together
-abbrev pub walk_work : WalkTicket → List Key → WalkWork
-walk_work k tiles = record { ticket = k; tiles = tiles }
+-- these together
+abbrev pub walk_work : WalkTicket → List Key → List Key → WalkWork
+walk_work k keys tiles = record { ticket = k; keys = keys; tiles = tiles }
 
--- the rows are those of a walk that reads this, on the first tiles of its patch
-pub record AreFirstRows (r : Readings) (x : Rows) : Type 0 where
+-- the tiles of the walk's patch
+abbrev pub patch_keys : WalkTicket → List Key
+patch_keys k = keys_of k.inputs.patch.rect
+
+-- the rows are those of a walk that reads this, on the first of the tiles
+pub record AreFirstRows (r : Readings) (keys : List Key) (x : Rows) : Type 0 where
   pub of : AreOf r x
-  pub front : IsFront (keys_of r.patch.rect) (tiles_in x)
+  pub front : IsFront keys (tiles_in x)
+
+-- the tiles are some of the walk's, and these rows are composed of them
+pub record IsPartOfWalk (k : WalkTicket) (p : Tiles) (x : Rows) : Type 0 where
+  pub rect : p.rect ≡ k.inputs.patch.rect
+  pub rows : AreFirstRows k.inputs p.keys x
+
+-- what the patch has of the least rectangle round the piece's tiles
+abbrev pub area_in : WalkWork → Option Area
+area_in w = area_of (record { rect = w.ticket.inputs.patch.rect; keys = w.keys })
 
 -- what it has composed
 abbrev pub composed_by : WalkWork → Composition
 composed_by w = composition w.ticket.inputs w.tiles
 
--- all tiles of its patch are composed
+-- all its tiles are composed
 abbrev pub HasAllRows : WalkWork → Type 0
-HasAllRows w = w.tiles ≡ keys_of w.ticket.inputs.patch.rect
+HasAllRows w = w.tiles ≡ w.keys
+
+-- its tiles are all of the patch
+abbrev pub IsWhole : WalkWork → Type 0
+IsWhole w = w.keys ≡ patch_keys w.ticket
 
 -- the composing went on, or stayed where it was
 pub record WalksOn (old new : WalkWork) : Type 0 where
   pub ticket : new.ticket ≡ old.ticket
+  pub keys : new.keys ≡ old.keys
   pub count : length old.tiles ≤ length new.tiles
+
+-- the tiles of a walk of which nothing is composed were parted between two pieces, each of which has some
+pub record IsParted (old new other : WalkWork) : Type 0 where
+  pub ticket : new.ticket ≡ old.ticket
+  pub same : other.ticket ≡ old.ticket
+  pub keys : old.keys ≡ new.keys ++ other.keys
+  pub some : new.keys ≢ []
+  pub others : other.keys ≢ []
+  pub none : old.tiles ≡ []
+  pub new_none : new.tiles ≡ []
+  pub other_none : other.tiles ≡ []
 
 -- the code by which contracts tell such walks apart
 abbrev pub walk_work_code : Coded WalkWork
-walk_work_code = code_by (WalkTicket × List Key) (coded× (ticket.the_row).coded (coded_list key_code)) (λ w. (w.ticket, w.tiles)) (λ t. walk_work t.0 t.1) (λ _. refl)
+walk_work_code = code_by (WalkTicket × (List Key × List Key)) (coded× (ticket.the_row).coded (coded× (coded_list key_code) (coded_list key_code))) (λ w. (w.ticket, (w.keys, w.tiles))) (λ t. walk_work t.0 t.1.0 t.1.1) (λ _. refl)

@@ -1,9 +1,10 @@
 //! Work goes back to a desk.
 
 ghost use Rattle.std.specs.Prelude.{◌≡◌};
-ghost use Rattle.host_pieces.specs.Giving.{IsUnpublished, JobGiven, JobKept, LetsGo, PatchGiven, RowsAnswered, WalkEnded, WalkGiven, WorkGiven, WorkKept, patch_keys};
+ghost use Rattle.host_pieces.specs.Giving.{IsUnpublished, JobGiven, JobKept, LetsGo, RowsAnswered, WalkEnded, WalkGiven, WorkGiven, WorkKept};
 
 use crate::job_piece::{JobPiece, Stage};
+use crate::part::Part;
 use crate::piece::Piece;
 use crate::walk_piece::WalkPiece;
 use desk_core::{Desk, Ended, Published, SlotId};
@@ -54,7 +55,7 @@ impl JobPiece {
 }
 
 impl WalkPiece {
-    /// Publishes what it composed, tile by tile, and ends the walk.
+    /// Publishes what it composed, tile by tile. The walk ends with the last of the pieces that have parts of it.
     pub(crate) fn give_to(&mut self, alloc: Global, desk: &mut Desk) -> Answer
         ensures given { WalkGiven desk.old self.old result desk.new }
         ensures kept { self.new ≡ self.old }
@@ -62,11 +63,26 @@ impl WalkPiece {
         if !self.is_done() {
             return Answer::Undone;
         }
+        let slot = self.held.ticket().slot;
         let rows = mem::replace(&mut self.rows, Rows::none(alloc));
-        let composed = rows.on(&self.ticket.inputs);
-        let answer = publish_all(desk, self.ticket.slot, &composed);
+        let composed = rows.on(&self.held.ticket().inputs);
+        let published = publish_rows(desk, slot, &composed, &self.part);
         self.rows = composed.into_rows();
-        answer
+        match published {
+            Ok(Published::Stored) => self.end(desk),
+            Ok(Published::Nothing) => Answer::Stranger,
+            Err(_) => Answer::NoMemory,
+        }
+    }
+
+    /// Ends its walk, if none of the tiles is left. Only a piece that has all of them knows that.
+    fn end(&self, desk: &mut Desk) -> Answer
+        ensures { WalkEnded desk.old self.now result desk.new }
+    {
+        match desk.end(self.held.ticket().slot) {
+            Ended::Nothing if self.is_whole() => Answer::Stranger,
+            _ => Answer::Done,
+        }
     }
 }
 
@@ -90,18 +106,8 @@ fn first_lacking(desk: &Desk, slot: SlotId, tiles: &[Whole]) -> usize
     tiles.len()
 }
 
-/// Publishes the tiles of a walk's patch, one after another, and ends it.
-fn publish_all(desk: &mut Desk, slot: SlotId, composed: &Composed<'_>) -> Answer
-    ensures { PatchGiven desk.old slot composed.now result desk.new }
-{
-    match publish_rows(desk, slot, composed) {
-        Ok(Published::Stored) => end_walk(desk, slot),
-        Ok(Published::Nothing) => Answer::Stranger,
-        Err(_) => Answer::NoMemory,
-    }
-}
-
-/// Publishes the tiles of a walk's patch. `Nothing` where one of them isn't taken: those before it are published then.
+/// Publishes tiles of a walk, one after another. `Nothing` where one of them isn't taken: those before it are
+/// published then.
 ///
 /// # Errors
 /// `NoMemory`; the tiles before some one are published, and that one of some groups.
@@ -109,25 +115,15 @@ fn publish_rows(
     desk: &mut Desk,
     slot: SlotId,
     composed: &Composed<'_>,
+    part: &Part,
 ) -> Result<Published, NoMemory>
-    ensures { RowsAnswered desk.old slot composed.now (patch_keys composed.now) result desk.new }
+    ensures { RowsAnswered desk.old slot composed.now part.now.keys result desk.new }
 {
-    let rect = composed.inputs().patch().rect;
-    for i in 0..rect.tile_count() {
-        match desk.publish_row(slot, composed, rect.tile_at(i))? {
+    for i in 0..part.len() {
+        match desk.publish_row(slot, composed, part.tile_at(i))? {
             Published::Stored => {}
             Published::Nothing => return Ok(Published::Nothing),
         }
     }
     Ok(Published::Stored)
-}
-
-/// Ends a walk whose tiles are published.
-fn end_walk(desk: &mut Desk, slot: SlotId) -> Answer
-    ensures { WalkEnded desk.old slot result desk.new }
-{
-    match desk.end(slot) {
-        Ended::Done => Answer::Done,
-        Ended::Nothing => Answer::Stranger,
-    }
 }

@@ -2,7 +2,9 @@
 #![tactic(auto)]
 
 mod giving;
+mod held;
 mod job_piece;
+mod part;
 mod piece;
 mod taken_job;
 mod walk_piece;

@@ -1,7 +1,7 @@
 //! Work that a thread holds.
 
 ghost use Rattle.std.specs.Prelude.{◌≡◌};
-ghost use Rattle.host_pieces.specs.Pieces.{Worked, patch_in, worked};
+ghost use Rattle.host_pieces.specs.Pieces.{Shared, Worked, patch_in, worked};
 
 use crate::job_piece::JobPiece;
 use crate::walk_piece::WalkPiece;
@@ -34,12 +34,30 @@ impl Piece {
         }
     }
 
-    /// The rectangle of the canvas that its work composes anew: that of a walk's patch, or none.
+    /// Gives some of a walk's tiles to a piece for another thread: one of so many equal shares, or more where that is
+    /// too little work. It answers `Done`; `Shut` where it has no work; `Nothing` where it has a job, or a walk of which
+    /// something is composed or that isn't worth another thread. There is another piece exactly where it answers
+    /// `Done`, and all is as it was where it doesn't.
+    pub fn share(&mut self, alloc: Global, shares: u32) -> (Answer, Piece)
+        ensures { Shared self.old result.0 result.1 self.new }
+    {
+        match self {
+            Piece::Empty => (Answer::Shut, Piece::Empty),
+            Piece::Job(_) => (Answer::Nothing, Piece::Empty),
+            Piece::Walk(walk) => match walk.share(alloc, shares) {
+                Some(part) => (Answer::Done, Piece::Walk(part)),
+                None => (Answer::Nothing, Piece::Empty),
+            },
+        }
+    }
+
+    /// The rectangle of the canvas in which its work composes anew: of a walk's patch what the least rectangle round its
+    /// tiles has, or none.
     pub fn patch(&self) -> Option<Rect>
         ensures { result ≡ patch_in self.now }
     {
         match self {
-            Piece::Walk(walk) => Some(walk.patch()),
+            Piece::Walk(walk) => walk.area(),
             _ => None,
         }
     }

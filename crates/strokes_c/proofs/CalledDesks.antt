@@ -8,6 +8,7 @@ use Rattle.host_lines.specs.contracts.answer.AnswerPartialEq.TheImpl as derived
 use Rattle.host_lines.specs.Lines.{has_more, line_fault, said}
 use Rattle.host_pieces.specs.declared.piece.Piece.{Piece}
 use Rattle.host_pieces.specs.declared.piece.Piece.TheVariants as piece
+use Rattle.host_pieces.specs.Pieces.{Shared}
 use Rattle.host_desk.specs.Feeding.{Fed}
 use Rattle.host_desk.specs.Taking.{Took}
 use Rattle.host_desk.specs.Texts.{TextTold}
@@ -78,6 +79,24 @@ took_none s answer.NoRoom p t other h = h
 took_none s answer.Full p t other h = h
 took_none s (answer.Fault c) p t other h = h
 took_none s answer.SecondLine p t other h = h
+
+-- nor a piece that shares
+pub shared_none : (p : Piece) (a : Answer) (other q : Piece) → (a ≡ answer.Done → ⊥) → Shared p a other q → Shared p a piece.Empty q
+shared_none p answer.Done other q unlike h = absurd (unlike refl)
+shared_none p answer.Nothing other q unlike h = (h.0, refl, h.2)
+shared_none p answer.Shut other q unlike h = (h.0, refl, h.2)
+shared_none p answer.Again other q unlike h = absurd h
+shared_none p answer.Idle other q unlike h = absurd h
+shared_none p answer.Settled other q unlike h = absurd h
+shared_none p answer.NoMemory other q unlike h = absurd h
+shared_none p answer.InUse other q unlike h = absurd h
+shared_none p answer.Undone other q unlike h = absurd h
+shared_none p answer.Stranger other q unlike h = absurd h
+shared_none p answer.Outside other q unlike h = absurd h
+shared_none p answer.NoRoom other q unlike h = absurd h
+shared_none p answer.Full other q unlike h = absurd h
+shared_none p (answer.Fault c) other q unlike h = absurd h
+shared_none p answer.SecondLine other q unlike h = absurd h
 
 -- no text was written
 pub text_refused : (s : State) (next : ℕ) (out : List ℕ) (written : ℕ) (a : Answer) (out' : List ℕ) → TextTold s next out (Err a) out' → TextGiven s next out written a next out' written

@@ -70,13 +70,16 @@ closed_answer false = answer.Fault StrokeLeft
 abbrev pub ClosedTold : State → Answer → State → Type 0
 ClosedTold s a t = (a ≡ closed_answer (list_all is_closed_entry (entries s.fed))) × (t ≡ s)
 
+-- there is no room in a piece: it has work, or memory ended
+abbrev pub HasNoRoom : List Piece → Answer → Type 0
+HasNoRoom old a = ((p : Piece) × (old ≡ p ∷ []) × (a ≡ answer.InUse)) ⊎ ((old ≡ []) × (a ≡ answer.NoMemory))
+
 -- what was taken came into a shut piece; one with work stays; or there was no memory for a piece, and nothing was taken
 abbrev pub TakenInto : State → List Piece → Answer → State → List Piece → Type 0
 TakenInto s old a t new =
-    ((p : Piece) × (old ≡ p ∷ []) × (new ≡ p ∷ []) × (a ≡ answer.InUse) × (t ≡ s))
+    (HasNoRoom old a × (new ≡ old) × (t ≡ s))
     ⊎ ((p : Piece) × (old ≡ []) × (new ≡ p ∷ []) × (a ≡ answer.Done) × Took s a p t)
     ⊎ ((old ≡ []) × (new ≡ []) × ((a ≡ answer.Done) → ⊥) × Took s a piece.Empty t)
-    ⊎ ((old ≡ []) × (new ≡ []) × (a ≡ answer.NoMemory) × (t ≡ s))
 
 abbrev pub TookPiece : List State → List Piece → ℕ → List State → List Piece → Type 0
 TookPiece old held code new holds =
@@ -88,6 +91,18 @@ abbrev pub WorkedOn : List Piece → ℕ → List Piece → Type 0
 WorkedOn old code new =
     ((old ≡ []) × (new ≡ []) × (code ≡ code_of answer.Shut))
     ⊎ ((p q : Piece) × (a : Answer) × (old ≡ p ∷ []) × (new ≡ q ∷ []) × (code ≡ code_of a) × pieces.Worked p a q)
+
+-- some of a piece's tiles came into a shut piece; one with work stays; or there was no memory for a piece, and nothing was shared
+abbrev pub SharedInto : Piece → List Piece → Answer → Piece → List Piece → Type 0
+SharedInto p old a q new =
+    (HasNoRoom old a × (new ≡ old) × (q ≡ p))
+    ⊎ ((other : Piece) × (old ≡ []) × (new ≡ other ∷ []) × (a ≡ answer.Done) × pieces.Shared p a other q)
+    ⊎ ((old ≡ []) × (new ≡ []) × ((a ≡ answer.Done) → ⊥) × pieces.Shared p a piece.Empty q)
+
+abbrev pub SharedOut : List Piece → List Piece → ℕ → List Piece → List Piece → Type 0
+SharedOut old held code new holds =
+    ((old ≡ []) × (new ≡ []) × (holds ≡ held) × (code ≡ code_of answer.Shut))
+    ⊎ ((p q : Piece) × (a : Answer) × (old ≡ p ∷ []) × (new ≡ q ∷ []) × (code ≡ code_of a) × SharedInto p held a q holds)
 
 -- a piece was given: the desk has it, and the rectangle outside of which no pixel of the root's picture changed is told; or the piece keeps its work
 abbrev pub GivenFrom : State → List Piece → StrokesRect → Answer → State → List Piece → StrokesRect → Type 0

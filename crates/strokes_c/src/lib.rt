@@ -9,12 +9,13 @@ ghost use Rattle.machine_model.specs.State.{new_state};
 ghost use Rattle.desk_state.specs.Cached.{ShowsCache};
 ghost use Rattle.host_lines.specs.Values.{IsOfLimits, begin_by, dab_by};
 ghost use Rattle.host_lines.specs.Structs.{canvas_by};
+ghost use Rattle.host_pieces.specs.declared.piece.Piece.TheVariants as pieces;
 ghost use Rattle.host_desk.specs.Feeding.{FedPath};
 ghost use Rattle.host_desk.specs.Opening.{OpensScript};
 ghost use Rattle.host_desk.specs.Paths.{path_by};
 ghost use Rattle.host_desk.specs.Settling.{AllDone, Painted};
 ghost use Rattle.host_desk.specs.Tiles.{tile_key};
-ghost use Rattle.strokes_c.specs.Calls.{Called, CanvasTold, ClosedTold, CountTold, FedLine, FedValue, GavePiece, GivenFrom, Opened, OpenedScript, OutcomeAsked, OutcomeTold, PartCalled, RowCalled, ShotTaken, TakenInto, TextCalled, TextGiven, TileCalled, TileGiven, TookPiece, TookShot, WorkedOn, closed_answer};
+ghost use Rattle.strokes_c.specs.Calls.{Called, CanvasTold, ClosedTold, CountTold, FedLine, FedValue, GavePiece, GivenFrom, HasNoRoom, Opened, OpenedScript, OutcomeAsked, OutcomeTold, PartCalled, RowCalled, SharedInto, SharedOut, ShotTaken, TakenInto, TextCalled, TextGiven, TileCalled, TileGiven, TookPiece, TookShot, WorkedOn, closed_answer};
 
 use doc_model::{Canvas, Command};
 use host_desk::{Host, Shot};
@@ -166,20 +167,33 @@ pub extern "C" fn strokes_take(alloc: Global, desk: &mut DeskHandle, piece: &mut
 fn take(alloc: Global, host: &mut Host, piece: &mut PieceHandle) -> Answer
     ensures { TakenInto host.old piece.old.value result host.new piece.new.value }
 {
-    if let Some(work) = piece.take_out(alloc) {
-        piece.put(work);
-        return Answer::InUse;
-    }
-    let Ok(mut work) = Box::new(alloc, Piece::Empty) else {
-        return Answer::NoMemory;
+    let mut room = match room_for(alloc, piece) {
+        Ok(room) => room,
+        Err(answer) => return answer,
     };
     let (answer, taken) = host.take();
     if answer == Answer::Done {
-        *work = taken;
-        piece.put(work);
+        *room = taken;
+        piece.put(room);
         return answer;
     }
     answer
+}
+
+/// Room for the work of a piece that is shut, or why there is none.
+fn room_for(alloc: Global, piece: &mut PieceHandle) -> Result<Box<Piece>, Answer>
+    ensures ok { IfOk result (λ b. b.value ≡ pieces.Empty × piece.old.value ≡ []) }
+    ensures err { IfErr result (HasNoRoom piece.old.value) }
+    ensures same { piece.new.value ≡ piece.old.value }
+{
+    if let Some(work) = piece.take_out(alloc) {
+        piece.put(work);
+        return Err(Answer::InUse);
+    }
+    match Box::new(alloc, Piece::Empty) {
+        Ok(room) => Ok(room),
+        Err(_) => Err(Answer::NoMemory),
+    }
 }
 
 #[unsafe(no_mangle)]
@@ -192,6 +206,40 @@ pub extern "C" fn strokes_work(alloc: Global, piece: &mut PieceHandle) -> u32
     let answer = work.work(alloc);
     piece.put(work);
     answer.code()
+}
+
+#[unsafe(no_mangle)]
+pub extern "C" fn strokes_share(
+    alloc: Global,
+    piece: &mut PieceHandle,
+    shares: u32,
+    other: &mut PieceHandle,
+) -> u32
+    ensures { SharedOut piece.old.value other.old.value result piece.new.value other.new.value }
+{
+    let Some(mut work) = piece.take_out(alloc) else {
+        return Answer::Shut.code();
+    };
+    let answer = share(alloc, &mut work, shares, other);
+    piece.put(work);
+    answer.code()
+}
+
+/// Gives some of the tiles of a piece's walk to a piece that is shut.
+fn share(alloc: Global, work: &mut Piece, shares: u32, other: &mut PieceHandle) -> Answer
+    ensures { SharedInto work.old other.old.value result work.new other.new.value }
+{
+    let mut room = match room_for(alloc, other) {
+        Ok(room) => room,
+        Err(answer) => return answer,
+    };
+    let (answer, part) = work.share(alloc, shares);
+    if answer == Answer::Done {
+        *room = part;
+        other.put(room);
+        return answer;
+    }
+    answer
 }
 
 #[unsafe(no_mangle)]
