@@ -74,7 +74,7 @@ pub enum Answer {
     Idle,
     /// Every entry has its outcome, and nothing is at work or waits.
     Settled,
-    /// No small job is next.
+    /// There is nothing of the kind that was asked for: no small job is next, no work is to be shared.
     Nothing,
     NoMemory,
     /// A handle of the call is shut.
