@@ -6,11 +6,11 @@
 #include "check.h"
 #include "crew.h"
 
-enum { MOST = 2048 };
+enum { MOST = 2048, TOLD = 16384 };
 
 struct screen {
     struct crew crew;
-    strokes_rect damage[4096]; /* under the crew's lock */
+    strokes_rect damage[TOLD]; /* under the crew's lock */
     int count;
     bool is_over;
     strokes_canvas canvas;
@@ -21,7 +21,7 @@ static void note(void *whose, strokes_rect rect) {
     struct screen *s = whose;
     CHECK(rect.x >= 0 && rect.y >= 0 && (uint32_t)rect.x + rect.w <= s->canvas.w && (uint32_t)rect.y + rect.h <= s->canvas.h,
           "a rectangle outside");
-    CHECK(s->count < 4096, "the screen is too slow for this test");
+    CHECK(s->count < TOLD, "the screen is too slow for this test");
     s->damage[s->count++] = rect;
 }
 
@@ -35,7 +35,7 @@ static void copy(struct screen *s, strokes_shot *shot, strokes_rect rect) {
 
 /* Shows what is to be drawn anew. False where there was nothing. */
 static bool show(struct screen *s, strokes_shot *shot) {
-    static strokes_rect damage[4096];
+    static strokes_rect damage[TOLD];
     strokes_rect dirty;
     pthread_mutex_lock(&s->crew.lock);
     int count = s->count;
