@@ -249,7 +249,8 @@ strokes_answer strokes_take(strokes_desk *desk, strokes_piece *piece);
  * anew can be shared, before any of it is done; each of the pieces is then worked on and given back, in any order. The desk
  * has a slot for all of them together. No lock is wanted.
  * OK: the other piece has work; SHUT: the piece is; IN_USE: the other one has work; NO_MEMORY; NOTHING: there is too little
- * work, or some of it is done, or it is of another kind. But for OK both are as they were. */
+ * work, or some of it is done, or it is of another kind, or there was no memory for that when it was taken. But for OK both are
+ * as they were. */
 strokes_answer strokes_share(strokes_piece *piece, uint32_t shares, strokes_piece *other);
 
 /* Does a piece's work: paints the tiles of a job, or composes the picture anew where something changed. No lock is wanted.
