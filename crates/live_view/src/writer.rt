@@ -16,7 +16,8 @@ use std::marker::{Brand, Model};
 use std::sync::Wait;
 use tile_core::Tile;
 
-/// No place was found free for one more reader.
+/// No place was found free for one more reader. No cause is promised: so it is where as many readers are in use as
+/// there is room for, and it may be so while readers come and go.
 #[derive(Clone, Copy, Debug, PartialEq, Eq)]
 pub struct NoPlace;
 
@@ -114,6 +115,9 @@ impl<K: Naming> LiveWriter<K> {
     }
 
     /// A new reader, which knows all that is published now. It has a place until it is dropped.
+    ///
+    /// # Errors
+    /// `NoPlace`, for which no cause is promised.
     pub fn reader(&self) -> Result<LiveReader<K>, NoPlace>
         ensures { IfOk result (λ r. r ≡ (published self.now, 0)) }
     {

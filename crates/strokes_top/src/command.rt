@@ -162,6 +162,7 @@ pub fn run<R: Threads + Wait + Sync, S: Source, K: Sink, E: Sink, G: Gate>(
         ConsumesMore (limit_for words.now) CHUNK (S.left source.old) (S.left source.new) }
     ensures within_limit { result ≢ Status.TooLong →
         ConsumesAtMost (limit_for words.now) (S.left source.old) (S.left source.new) }
+    ensures read_fault_reads { result ≡ Status.ReadFault → asks_for_demo words.now ≡ false }
     ensures read_fault { result ≡ Status.ReadFault →
         Rose (S.faults source.old) (S.faults source.new) }
     ensures write_fault { result ≡ Status.WriteFault →

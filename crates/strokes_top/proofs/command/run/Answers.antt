@@ -165,6 +165,17 @@ returns-clause-within_limit g c = λ no.
     let reads = reads_told w l r o n c.report.result a.result c.report.ensures.same (g.S.Source.faults c.args.source.now) (g.S.Source.faults a.new.source) c.report.ensures.others a.ensures.reads in
     takes_few (limit_for w) l r c.report.result no reads.taken
 
+pub returns-clause-read_fault_reads : goal.returns-clause-read_fault_reads
+returns-clause-read_fault_reads g c = λ e.
+    let a = c.answer-status in
+    let w = c.args.words.now in
+    let l = g.S.Source.left c.args.source.now in
+    let r = g.S.Source.left a.new.source in
+    let o = g.K.Sink.taken c.args.out.now in
+    let n = g.K.Sink.taken a.new.out in
+    let ends : Ends c.report.result w l r o n = ends_told w l r o n c.report.result a.result c.report.ensures.same a.ensures.ends in
+    unasked (choice w) (subst (λ st. Ends st w l r o n) e ends)
+
 pub returns-clause-read_fault : goal.returns-clause-read_fault
 returns-clause-read_fault g c = λ e.
     let a = c.answer-status in
