@@ -21,7 +21,7 @@ const GREEN: [u8; 3] = [0, 255, 0];
 const BLUE: [u8; 3] = [0, 0, 255];
 
 /// Scripts on small canvases, with the colours of all columns.
-pub const ROWS: [Row; 15] = [
+pub const ROWS: [Row; 16] = [
     Row {
         script: b"canvas 1 1 336699\nexport\n",
         colours: &[[51, 102, 153]],
@@ -119,6 +119,12 @@ pub const ROWS: [Row; 15] = [
             Outcome::NothingToRedo,
             Outcome::Done,
         ],
+    },
+    // What is painted in the second row of tiles alone.
+    Row {
+        script: b"canvas 1 65\nlayer 1 0 0\nexport\nstroke 1 1\nfill 1 seq 0 64 1 1 ff0000ff over 255\nend 1\nexport\n",
+        colours: &[WHITE, WHITE],
+        outcomes: &[Outcome::Done; 4],
     },
     Row {
         script: b"canvas 1 1\nlayer 1 0 0\nundo\nlayer 2 0 0\nredo\n",
