@@ -12,9 +12,9 @@ use std::alloc::Global;
 const BLOCKS: u32 = 12;
 
 /// The script of that seed: a canvas of 70 by 3, so that two tiles show, up to four layers in two
-/// groups, by half four more below them, and strokes of one to three jobs near the canvas and beyond its corner, with changes of
-/// the tree, undo, redo, purges and exports between them, and an export at the end. Each seed is
-/// always the same script. None where what was drawn is no script.
+/// groups, by half four more below them, and strokes of one to three jobs near the canvas and beyond
+/// its corner, with changes of the tree, undo, redo, purges and exports between them, and an export at
+/// the end. Each seed is always the same script. None where what was drawn is no script.
 ///
 /// # Errors
 /// `NoMemory`.
