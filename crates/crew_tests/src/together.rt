@@ -5,7 +5,7 @@ ghost use Rattle.turn_lock.specs.Passes.{fresh};
 
 use crate::compared::is_told;
 use crate::gates::Senders;
-use artists::{Drawn, paint_together};
+use artists::{Drawn, artist_for, paint_together};
 use doc_model::{Canvas, Command};
 use geom_core::NoMemory;
 use pixel_core::Pixel;
@@ -67,6 +67,27 @@ fn answered<R: Wait + Abort>(rt: &R, studio: Studio, one: Pass, two: Pass) -> Re
 fn a_command_is_accepted_where_it_may_follow(rt: HostRuntime) -> Result<(), Fail> {
     let (studio, one, two) = opened(rt.alloc())?;
     answered(&rt, studio, one, two)
+}
+
+/// All commands of a stroke are of one artist.
+#[test]
+fn whose_commands_are_whose(rt: HostRuntime) {
+    let (no, layer, exclusive) = (5, 1, false);
+    for (command, artist) in [
+        (
+            Command::Stroke {
+                no,
+                layer,
+                exclusive,
+            },
+            1,
+        ),
+        (Command::End { no }, 1),
+        (Command::Cancel { no }, 1),
+        (Command::Undo, 0),
+    ] {
+        assert_eq!(rt; artist_for(4, &command), artist);
+    }
 }
 
 /// Whether what is printed of the script says that script.

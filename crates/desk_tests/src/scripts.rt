@@ -3,6 +3,7 @@
 ghost use Rattle.std.specs.Prelude.{◌≡◌, ◌≤◌, ◌<◌};
 
 use crate::fixtures::{desk_for, script_of, settle};
+use crate::plays::{is_at, look};
 use crate::told::is_as_told;
 use demo_gen::script_of as generated;
 use desk_core::Desk;
@@ -10,6 +11,7 @@ use frame_core::Frame;
 use geom_core::NoMemory;
 use io_edge::MemSink;
 use memento_core::Steps;
+use pixel_core::on_paper;
 use ppm_out::write_frame;
 use script_text::Script;
 use std::alloc::Global;
@@ -153,5 +155,47 @@ fn generated_sum(alloc: Global) -> Result<Option<(usize, u64, usize)>, NoMemory>
 fn a_generated_script(rt: HostRuntime) -> Result<(), Fail> {
     let sum = generated_sum(rt.alloc())?;
     assert_eq!(rt; sum, Some((2_880_030, 0xab28_a349_0824_ddca, 66)));
+    Ok(())
+}
+
+/// Two frames of the largest canvas, of which the second is past the tiles that a film has before it saves memory:
+/// a layer's own pixel, and a layer in a group of half its opacity.
+const TWO_LARGE: &[u8] =
+    b"canvas 2048 2048\nlayer 1 0 0 00ff0080\ngroup 2 0 1\nlayer 3 2 0\nlook 2 128 over on\nstroke 1 3\nfill 1 seq 0 0 2048 2048 ff0000ff over 255\nend 1\nexport\nstroke 2 3\nfill 2 seq 0 0 2048 2048 0000ffff over 255\nend 2\nexport\n";
+
+/// Whether the last frame has what the desk shows, in some points of a row.
+fn row_is_shown(desk: &Desk, y: u16) -> bool {
+    let canvas = desk.canvas();
+    if canvas.paper.bytes()[3] != 255 {
+        return false;
+    }
+    for place in 0..canvas.w / 64 {
+        let x = place.wrapping_mul(64);
+        let Some((pixel, _)) = look(desk, x, y) else {
+            return false;
+        };
+        if !is_at(desk.frames().last(), x, y, on_paper(pixel, canvas.paper)) {
+            return false;
+        }
+    }
+    true
+}
+
+/// Whether the frames of a script are so many, and the last has what the desk shows, in some points.
+fn shows_last(alloc: Global, text: &[u8], frames: usize) -> Result<bool, NoMemory> {
+    let Some(script) = script_of(alloc, text)? else {
+        return Ok(false);
+    };
+    match settled(alloc, &script, 1)? {
+        Some(desk) => Ok(
+            desk.frame_count() == frames && row_is_shown(&desk, 0) && row_is_shown(&desk, 2047),
+        ),
+        None => Ok(false),
+    }
+}
+
+#[test]
+fn a_film_that_saves_memory(rt: HostRuntime) -> Result<(), Fail> {
+    assert!(rt; shows_last(rt.alloc(), TWO_LARGE, 2)?);
     Ok(())
 }

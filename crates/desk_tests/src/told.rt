@@ -1,6 +1,7 @@
 //! What a desk shows, against what its script means.
 
 use desk_core::Desk;
+use doc_model::Outcome;
 use frame_core::Frame;
 use geom_core::NoMemory;
 use plain_painter::plain_frames;
@@ -10,7 +11,17 @@ use std::alloc::Global;
 /// Whether the desk has the outcomes and frames that the plain evaluator tells of the script.
 pub(crate) fn is_as_told(alloc: Global, desk: &Desk, script: &Script) -> Result<bool, NoMemory> {
     let told = plain_frames(alloc, script)?;
-    Ok(desk.outcomes() == told.outcomes.as_slice() && all_show(desk.frames(), &told.frames))
+    Ok(tells(desk, &told.outcomes) && all_show(desk.frames(), &told.frames))
+}
+
+/// Whether the desk has these outcomes, also one by one.
+fn tells(desk: &Desk, outcomes: &[Outcome]) -> bool {
+    for i in 0..desk.outcome_count() {
+        if outcomes.get(i) != Some(&desk.outcome(i)) {
+            return false;
+        }
+    }
+    desk.outcomes() == outcomes
 }
 
 /// Whether there is a frame for each, with its colours.

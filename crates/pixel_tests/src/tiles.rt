@@ -77,14 +77,14 @@ fn a_frame_of_plies(rt: HostRuntime) -> Result<(), Fail> {
     let alloc = rt.alloc();
     let mut frame = Frame::new(alloc, 1, 1, opaque(0x33, 0x66, 0x99))?;
     let mut plies = Vec::new(alloc);
-    plies.push(Ply::Open)?;
     plies.push(Ply::Plain {
         pixel: opaque(0, 255, 0),
         op: Op::Over,
         opacity: 255,
     })?;
+    plies.push(Ply::Open)?;
     plies.push(Ply::Tile {
-        tile: Tile::plain(alloc, opaque(255, 0, 0))?,
+        tile: Tile::plain(alloc, Pixel::new(255, 0, 0, 128))?,
         op: Op::Over,
         opacity: 255,
     })?;
@@ -97,11 +97,11 @@ fn a_frame_of_plies(rt: HostRuntime) -> Result<(), Fail> {
     shared.put_of(ORIGIN, &frame)?;
     let mut row = [7; 4];
     frame.row_into(0, &mut row);
-    assert_eq!(rt; row, [153, 51, 76, 7]);
+    assert_eq!(rt; row, [64, 191, 0, 7]);
     shared.row_into(0, &mut row);
-    assert_eq!(rt; row, [153, 51, 76, 7]);
-    assert_eq!(rt; frame.at(0, 0), [153, 51, 76]);
-    assert_eq!(rt; shared.at(0, 0), [153, 51, 76]);
+    assert_eq!(rt; row, [64, 191, 0, 7]);
+    assert_eq!(rt; frame.at(0, 0), [64, 191, 0]);
+    assert_eq!(rt; shared.at(0, 0), [64, 191, 0]);
     Ok(())
 }
 

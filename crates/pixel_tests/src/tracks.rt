@@ -87,19 +87,25 @@ fn lies_in_world(track: &Track) -> bool
     job.check().is_ok()
 }
 
+/// The last dab of the second path begins in the same tile as those before it, and ends in the next.
 #[test]
-fn a_path_over_four_tiles(rt: HostRuntime) -> Result<(), Fail> {
+fn paths_over_tiles(rt: HostRuntime) -> Result<(), Fail> {
     let alloc = rt.alloc();
-    let track = track(&rt, &[(0, 0), (1, 0)], 1, stamp(1, false, Op::Over));
-    assert!(rt; track_len(&track) <= 4096 && lies_in_world(&track));
-    let (cells, jobs) = (cells_of(alloc, &track)?, jobs_of(alloc, &track)?);
-    assert!(rt; cells.len() == 4 && jobs.len() == 4);
-    let places = [(-1, -1), (-1, 0), (0, -1), (0, 0)];
-    for (i, (row, col)) in places.into_iter().enumerate() {
-        let cell = TileKey { row, col };
-        assert!(rt;
-            cells.get(i) == Some(&cell) && jobs.get(i) == Some(&Job::Track { track, cell })
-        );
+    let rows: [([(i16, i16); 2], &[(i16, i16)]); 2] = [
+        ([(0, 0), (1, 0)], &[(-1, -1), (-1, 0), (0, -1), (0, 0)]),
+        ([(60, 10), (63, 10)], &[(0, 0), (0, 1)]),
+    ];
+    for (points, places) in rows {
+        let track = track(&rt, &points, 1, stamp(1, false, Op::Over));
+        assert!(rt; track_len(&track) <= 4096 && lies_in_world(&track));
+        let (cells, jobs) = (cells_of(alloc, &track)?, jobs_of(alloc, &track)?);
+        assert!(rt; cells.len() == places.len() && jobs.len() == places.len());
+        for (i, &(row, col)) in places.iter().enumerate() {
+            let cell = TileKey { row, col };
+            assert!(rt;
+                cells.get(i) == Some(&cell) && jobs.get(i) == Some(&Job::Track { track, cell })
+            );
+        }
     }
     Ok(())
 }

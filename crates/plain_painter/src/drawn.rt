@@ -12,9 +12,9 @@ use std::alloc::Global;
 const BLOCKS: u32 = 12;
 
 /// The script of that seed: a canvas of 70 by 3, so that two tiles show, up to four layers in two
-/// groups, and strokes of one to three jobs near the canvas and beyond its corner, with changes of
-/// the tree, undo, redo, purges and exports between them, and an export at the end. Each seed is
-/// always the same script. None where what was drawn is no script.
+/// groups, by half four more below them, and strokes of one to three jobs near the canvas and beyond
+/// its corner, with changes of the tree, undo, redo, purges and exports between them, and an export at
+/// the end. Each seed is always the same script. None where what was drawn is no script.
 ///
 /// # Errors
 /// `NoMemory`.
@@ -261,7 +261,20 @@ fn add_tree(commands: &mut Vec<Command>, draws: &mut Draws) -> Result<(), NoMemo
     add_layer(commands, draws, 4, 2)?;
     let parent = draws.below(3) as u16;
     add_layer(commands, draws, 5, parent)?;
-    add_layer(commands, draws, 6, 0)
+    add_layer(commands, draws, 6, 0)?;
+    if draws.once_in(2) {
+        add_grounds(commands, draws)?;
+    }
+    Ok(())
+}
+
+/// Adds four layers of some pixel at the bottom of the root or a group: as many as a walk keeps as one picture.
+fn add_grounds(commands: &mut Vec<Command>, draws: &mut Draws) -> Result<(), NoMemory> {
+    let parent = draws.below(3) as u16;
+    for id in 9..=12 {
+        add_ground(commands, id, parent, draws.pixel())?;
+    }
+    Ok(())
 }
 
 /// Adds a group at the bottom.
@@ -286,6 +299,16 @@ fn add_layer(
     } else {
         draws.pixel()
     };
+    add_ground(commands, id, parent, ground)
+}
+
+/// Adds a layer of that pixel at the bottom.
+fn add_ground(
+    commands: &mut Vec<Command>,
+    id: u16,
+    parent: u16,
+    ground: Pixel,
+) -> Result<(), NoMemory> {
     let change = Change::Layer {
         id,
         parent,

@@ -15,6 +15,8 @@ mod fixtures;
 #[cfg(test)]
 mod generated;
 #[cfg(test)]
+mod lawful;
+#[cfg(test)]
 mod pictures;
 #[cfg(test)]
 mod scripts;

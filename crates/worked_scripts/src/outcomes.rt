@@ -21,7 +21,7 @@ const GREEN: [u8; 3] = [0, 255, 0];
 const BLUE: [u8; 3] = [0, 0, 255];
 
 /// Scripts on small canvases, with the colours of all columns.
-pub const ROWS: [Row; 15] = [
+pub const ROWS: [Row; 17] = [
     Row {
         script: b"canvas 1 1 336699\nexport\n",
         colours: &[[51, 102, 153]],
@@ -119,6 +119,18 @@ pub const ROWS: [Row; 15] = [
             Outcome::NothingToRedo,
             Outcome::Done,
         ],
+    },
+    // A move from all rows of a tile but the last.
+    Row {
+        script: b"canvas 1 64\nlayer 1 0 0 00ff00ff\nstroke 1 1\nfill 1 seq 0 0 64 63 ff0000ff over 255\nmove 1 seq 0 0 64 63 64 0\nend 1\nexport\n",
+        colours: &[GREEN],
+        outcomes: &[Outcome::Done; 3],
+    },
+    // What is painted in the second row of tiles alone.
+    Row {
+        script: b"canvas 1 65\nlayer 1 0 0\nexport\nstroke 1 1\nfill 1 seq 0 64 1 1 ff0000ff over 255\nend 1\nexport\n",
+        colours: &[WHITE, WHITE],
+        outcomes: &[Outcome::Done; 4],
     },
     Row {
         script: b"canvas 1 1\nlayer 1 0 0\nundo\nlayer 2 0 0\nredo\n",
