@@ -1,0 +1,229 @@
+"""One run: what has to be built for the tests, and in which order all is done."""
+import json
+import os
+from concurrent.futures import FIRST_COMPLETED, ThreadPoolExecutor, wait
+
+import crates
+import natively
+import parts
+import processes
+import programs
+from crates import TOP, text_of
+from programs import Built
+from results import Board, Result
+
+TIMES = f"{programs.KEPT}/times"
+MEMORY_OF_A_BUILD = 2 * 1024**3
+# How often a word is said on what is being built, in seconds.
+WORD_EACH = 20
+
+
+def processors():
+    return len(os.sched_getaffinity(0))
+
+
+def builds_at_once():
+    """As many as there are processors, and room in memory."""
+    lines = text_of("/proc/meminfo").splitlines()
+    free = next((int(line.split()[1]) * 1024 for line in lines if line.startswith("MemAvailable")), MEMORY_OF_A_BUILD)
+    return max(1, min(processors(), free // MEMORY_OF_A_BUILD))
+
+
+def times_of_last_run():
+    try:
+        return json.loads(text_of(TIMES))
+    except (OSError, ValueError):
+        return {}
+
+
+class Run:
+    """What is to be tested, what was built for it so far, and what came of it."""
+
+    def __init__(self, tests, kit, room):
+        self.skipped = {test: parts.missing(test) for test in tests if parts.missing(test)}
+        self.tests = [test for test in tests if test not in self.skipped]
+        self.kit = kit
+        self.room = room
+        self.board = Board(tests)
+        self.chosen = list(self.choose())
+        self.early = self.soonest()
+        self.built = {}
+        self.at_work = set()
+
+    def of_parts(self, *names):
+        return [test for test in self.tests if test.part in names]
+
+    # First everything is built, beside the tests that need no building; then the others are run, since threads that wait for
+    # one another are slow beside builds.
+    def go(self):
+        self.board.add(*[Result(test, "skipped", why) for test, why in self.skipped.items()])
+        with ThreadPoolExecutor(builds_at_once()) as builders, ThreadPoolExecutor(processors()) as runners:
+            try:
+                light = [runners.submit(self.run_script, test) for test in self.of_parts("tools")]
+                self.wait_for([builders.submit(*it) for it in self.builds()])
+                self.wait_for(light + [runners.submit(*it) for it in self.runs()])
+            except BaseException:
+                processes.end_all()
+                raise
+        self.keep_times()
+        return self.board.end()
+
+    def wait_for(self, left):
+        while left:
+            done, left = wait(left, WORD_EACH, FIRST_COMPLETED)
+            for it in done:
+                it.result()
+            if not done and self.at_work:
+                self.say(f"being built: {', '.join(sorted(self.at_work))}")
+
+    def say(self, text):
+        self.board.say(f"{self.board.clock()}: {text}")
+
+    @property
+    def is_nothing_built(self):
+        return bool(self.built) and not any(it.is_done for it in self.built.values())
+
+    def builds(self):
+        """What is to be built, the longest first, each as a function and its arguments. (Where there is room for all at
+        once, the order is of no matter.)"""
+        if self.early:
+            yield self.run_early, self.early
+        for program in self.chosen:
+            yield self.build_tests, program
+        mains = self.of_parts("programs")
+        if parts.of_main("strokes") in mains or self.of_parts("hosts"):
+            yield self.build_strokes,
+        if self.of_parts("hosts"):
+            yield self.build_hosts,
+        for test in mains:
+            if test != parts.of_main("strokes"):
+                yield self.build_and_run, test
+
+    def runs(self):
+        """What is to be run once all is built, the longest first."""
+        if self.of_parts("hosts") and self.built["hosts"].is_done:
+            yield self.run_hosts,
+        for test in self.of_parts("memory"):
+            yield self.run_refused, test
+        times = times_of_last_run()
+        for test in sorted(self.tests, key=lambda it: -times.get(it.name, 0)):
+            program = self.program_of(test.part)
+            if program and self.built[program.name].is_done and not self.is_done_early(test):
+                yield self.run_test, test, program
+        for program in self.chosen:
+            for crate in program.crates if self.built[program.name].is_slow_kit else []:
+                yield self.run_by_rt, crate
+
+    def build(self, name, label, making):
+        """Builds what has this name by this function, and says so."""
+        self.at_work.add(label)
+        built = making()
+        self.at_work.discard(label)
+        self.built[name] = built
+        if built.seconds:
+            self.say(f"{'built' if built.is_done else 'NOT built'} in {built.seconds:.0f} s: {label}")
+        return built
+
+    def build_program(self, program):
+        room = f"{self.room}/{program.name}"
+        return self.build(program.name, program.label, lambda: programs.build(program, self.kit, room))
+
+    # Tests of crates.
+
+    def choose(self):
+        """The programs of tests that are wanted: where of several crates in one only one is, and they aren't built, the
+        program of that crate alone."""
+        wanted = {test.part for test in self.tests}
+        if "memory" in wanted:
+            wanted.add(parts.REFUSED_IN)
+        for group in programs.groups():
+            mine = [crate for crate in group.crates if crate in wanted]
+            if len(mine) == 1 and group.is_joined and not programs.is_current(group, self.kit):
+                yield programs.alone(mine[0])
+            elif mine:
+                yield group
+
+    def soonest(self):
+        """The program that is built and run first: where crates were changed, that of the lowest crate of tests above them,
+        unless another that is wanted is as small."""
+        changed = set().union(*(programs.changed_since(it, self.kit) for it in self.chosen))
+        lowest = next((it for it in crates.crates_of_tests() if crates.with_below(it) & changed), None)
+        is_within = any(it.is_joined and lowest in it.crates for it in self.chosen)
+        return programs.alone(lowest) if is_within and self.of_parts(lowest) else None
+
+    def program_of(self, crate):
+        return next((it for it in self.chosen if crate in it.crates), None)
+
+    def is_done_early(self, test):
+        return self.early is not None and test.part == self.early.name and self.early.name in self.built and self.built[self.early.name].is_done
+
+    def run_early(self, program):
+        built = self.build_program(program)
+        for test in self.of_parts(program.name) if built.is_done else []:
+            self.run_test(test, program)
+
+    def build_tests(self, program):
+        built = self.build_program(program)
+        if not built.is_done and not built.is_slow_kit:
+            tests = [test for test in self.of_parts(*program.crates) if not self.is_done_early(test)]
+            self.board.add_unbuilt(program.label, tests, built.said)
+
+    def run_test(self, test, program):
+        self.board.add(natively.result(test, program))
+
+    def run_by_rt(self, crate):
+        self.board.add(*natively.results_by_rt(crate, self.of_parts(crate)))
+
+    # The other parts.
+
+    def run_script(self, test):
+        self.board.add(parts.of_script(test))
+
+    def build_strokes(self):
+        """Has ./strokes build the program, and paint the crate's script."""
+        test = parts.of_main("strokes")
+        results = []
+
+        def paint():
+            results.append(parts.of_program(test, [f"{TOP}/strokes"], STROKES="unproved"))
+            return Built(0 if results[0].how == "passed" else 1, results[0].told, results[0].seconds)
+
+        self.build("strokes", "strokes", paint)
+        self.board.add(*[it for it in results if test in self.tests])
+
+    def build_and_run(self, test):
+        program = programs.of_main(test.name_in_crate)
+        built = self.build_program(program)
+        if built.is_done:
+            self.board.add(parts.of_program(test, [program.path]))
+        elif built.is_slow_kit:
+            self.board.add(parts.of_program(test, ["rt", "try"], folder=f"{TOP}/crates/{program.name}"))
+        else:
+            self.board.add_unbuilt(program.label, [test], built.said)
+
+    def build_hosts(self):
+        built = self.build("hosts", "the C library and its hosts", parts.built_hosts)
+        if not built.is_done:
+            self.board.add_unbuilt("hosts", self.of_parts("hosts"), built.said)
+
+    def run_hosts(self):
+        tests = self.of_parts("hosts")
+        if self.built["strokes"].is_done:
+            self.board.add(*parts.of_hosts(tests))
+        else:
+            self.board.add_unbuilt("hosts", tests, "there is no right ./strokes to compare them with")
+
+    def run_refused(self, test):
+        program = self.program_of(parts.REFUSED_IN)
+        if self.built[program.name].is_done:
+            self.board.add(parts.of_refused(test, program))
+        else:
+            self.board.add_unbuilt(program.label, [test], "")
+
+    def keep_times(self):
+        times = times_of_last_run() | {it.test.name: it.seconds for it in self.board.results if it.seconds}
+        try:
+            with open(TIMES, "w", encoding="utf-8") as it:
+                json.dump(times, it)
+        except OSError:
+            pass
