@@ -95,6 +95,8 @@ def run(tests):
     except Stopped as number:
         say("broken off")
         return 128 + number.args[0]
+    except OSError as error:
+        stop(NOTHING_BUILT, f"not everything could be built: {error}")
 
 
 def main(words):

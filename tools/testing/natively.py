@@ -36,19 +36,24 @@ def how_it_ended(ended):
 
 def more(test, ended):
     """The command that says more of a fault than the native program does."""
-    return f"more: {by_rt(test)}" if ended.status < 0 and ended.status != -signal.SIGABRT else ""
+    return f"more: {command(test)}" if ended.status < 0 and ended.status != -signal.SIGABRT else ""
 
 
-def by_rt(test):
+def command(test):
     return f"(cd crates/{test.part} && rt try --test -- {test.name_in_crate}), which takes a minute or two"
 
 
-def results_by_rt(crate, tests):
-    """Runs these tests of a crate by `rt try`, which builds them for this call alone."""
+def by_rt(crate, tests):
+    """Runs these tests of a crate by `rt try`, which builds them for this call alone: what it says, and results where it built
+    any."""
     ended = processes.run(["rt", "try", "--test"], folder=f"{TOP}/crates/{crate}", RT_SECONDS="600")
     told = programs.in_repository(ended.said + ended.out.decode(errors="replace"), programs.alone(crate))
     found = {it[1]: it for it in re.finditer(r"^test (\S+) \.\.\. (\w+)\n((?: .*\n)*)", told, re.M)}
-    for test in tests:
-        it = found.get(test.name_in_crate)
-        how = "passed" if it and it[2] == "ok" else "failed"
-        yield Result(test, how, "" if how == "passed" else it[3] if it else told, more=f"more: {by_rt(test)}")
+    return told, [result_in(found.get(test.name_in_crate), test) for test in tests] if found else []
+
+
+def result_in(line, test):
+    """The result that a line of `rt try` and those after it tell."""
+    if line and line[2] == "ok":
+        return Result(test, "passed")
+    return Result(test, "failed", line[3] if line else "rt try didn't run it", more=f"more: {command(test)}")

@@ -34,7 +34,7 @@ class Board:
 
     def say(self, text):
         with self.lock:
-            print(f"test: {text}", file=sys.stderr, flush=True)
+            print(f"test: {time.monotonic() - self.begun:.0f} s: {text}", file=sys.stderr, flush=True)
 
     def add(self, *results, told=None):
         """Takes results, and tells what isn't a pass, each for itself or all by one text."""
@@ -49,7 +49,7 @@ class Board:
 
     def add_unbuilt(self, name, tests, said):
         """Takes tests of a program that couldn't be built as failed, and tells what was said of it, once."""
-        lines = [f"FAILED {len(tests)} tests of {name}: it wasn't built", *said.rstrip("\n").split("\n")]
+        lines = [f"FAILED {len(tests)} tests, as this wasn't built: {name}", *said.rstrip("\n").split("\n")]
         if said in self.said:
             lines[1:] = ["(as above)"]
         self.said.add(said)
@@ -58,22 +58,19 @@ class Board:
     def tell(self, part):
         """Tells of a part that is done."""
         mine = [it for it in self.results if it.test.part == part]
-        failed = sum(it.how == "failed" for it in mine)
-        how = f"{failed} of {len(mine)} failed" if failed else f"{len(mine)} done"
-        self.say(f"{self.clock()}: {part}: {how} ({len(self.results)} of {self.of} tests so far)")
-
-    def clock(self):
-        return f"{time.monotonic() - self.begun:.0f} s"
-
-    def count(self, how):
-        return sum(it.how == how for it in self.results)
+        self.say(f"{part}: {counted(mine)} ({len(self.results)} of {self.of} tests so far)")
 
     def end(self):
         """Tells what came of all, and answers with the status."""
-        passed, failed, skipped = map(self.count, ("passed", "failed", "skipped"))
         print("This proves nothing: ./prove proves the program that paints, and rt ci the whole repository.")
-        print(f"{passed} passed, {failed} failed" + (f", {skipped} skipped" if skipped else ""), flush=True)
-        return 1 if failed else 0
+        print(counted(self.results, always=("passed", "failed")), flush=True)
+        return 1 if any(it.how == "failed" for it in self.results) else 0
+
+
+def counted(results, always=()):
+    """How many passed, failed and were skipped, without what none did, unless that is always to be told."""
+    counts = {how: sum(it.how == how for it in results) for how in ("passed", "failed", "skipped")}
+    return ", ".join(f"{count} {how}" for how, count in counts.items() if count or how in always)
 
 
 def block(result):

@@ -56,6 +56,7 @@ class Run:
     # First everything is built, beside the tests that need no building; then the others are run, since threads that wait for
     # one another are slow beside builds.
     def go(self):
+        self.board.say(f"{len(self.tests)} tests, on programs that nothing has proved")
         self.board.add(*[Result(test, "skipped", why) for test, why in self.skipped.items()])
         with ThreadPoolExecutor(builds_at_once()) as builders, ThreadPoolExecutor(processors()) as runners:
             try:
@@ -74,14 +75,11 @@ class Run:
             for it in done:
                 it.result()
             if not done and self.at_work:
-                self.say(f"being built: {', '.join(sorted(self.at_work))}")
-
-    def say(self, text):
-        self.board.say(f"{self.board.clock()}: {text}")
+                self.board.say(f"being built: {', '.join(sorted(self.at_work))}")
 
     @property
     def is_nothing_built(self):
-        return bool(self.built) and not any(it.is_done for it in self.built.values())
+        return bool(self.built) and not any(it.is_done or it.is_slow_kit for it in self.built.values())
 
     def builds(self):
         """What is to be built, the longest first, each as a function and its arguments. (Where there is room for all at
@@ -108,7 +106,7 @@ class Run:
         times = times_of_last_run()
         for test in sorted(self.tests, key=lambda it: -times.get(it.name, 0)):
             program = self.program_of(test.part)
-            if program and self.built[program.name].is_done and not self.is_done_early(test):
+            if program and self.built[program.name].is_done and not self.is_early(test):
                 yield self.run_test, test, program
         for program in self.chosen:
             for crate in program.crates if self.built[program.name].is_slow_kit else []:
@@ -121,7 +119,7 @@ class Run:
         self.at_work.discard(label)
         self.built[name] = built
         if built.seconds:
-            self.say(f"{'built' if built.is_done else 'NOT built'} in {built.seconds:.0f} s: {label}")
+            self.board.say(f"{'built' if built.is_done else 'NOT built'} in {built.seconds:.0f} s: {label}")
         return built
 
     def build_program(self, program):
@@ -154,25 +152,35 @@ class Run:
     def program_of(self, crate):
         return next((it for it in self.chosen if crate in it.crates), None)
 
-    def is_done_early(self, test):
-        return self.early is not None and test.part == self.early.name and self.early.name in self.built and self.built[self.early.name].is_done
+    def is_early(self, test):
+        return self.early is not None and test.part == self.early.name
 
     def run_early(self, program):
         built = self.build_program(program)
-        for test in self.of_parts(program.name) if built.is_done else []:
-            self.run_test(test, program)
+        tests = self.of_parts(program.name)
+        if built.is_done:
+            for test in tests:
+                self.run_test(test, program)
+        elif not built.is_slow_kit:
+            self.board.add_unbuilt(program.label, tests, built.said)
 
     def build_tests(self, program):
         built = self.build_program(program)
         if not built.is_done and not built.is_slow_kit:
-            tests = [test for test in self.of_parts(*program.crates) if not self.is_done_early(test)]
+            tests = [test for test in self.of_parts(*program.crates) if not self.is_early(test)]
             self.board.add_unbuilt(program.label, tests, built.said)
 
     def run_test(self, test, program):
         self.board.add(natively.result(test, program))
 
     def run_by_rt(self, crate):
-        self.board.add(*natively.results_by_rt(crate, self.of_parts(crate)))
+        self.board.say(f"this kit has no quick way to a program of tests: rt try runs {crate}, slowly")
+        tests = self.of_parts(crate)
+        told, results = natively.by_rt(crate, tests)
+        if results:
+            self.board.add(*results)
+        else:
+            self.board.add_unbuilt(f"the tests of {crate}", tests, told)
 
     # The other parts.
 
@@ -204,14 +212,14 @@ class Run:
     def build_hosts(self):
         built = self.build("hosts", "the C library and its hosts", parts.built_hosts)
         if not built.is_done:
-            self.board.add_unbuilt("hosts", self.of_parts("hosts"), built.said)
+            self.board.add_unbuilt("the C library and its hosts", self.of_parts("hosts"), built.said)
 
     def run_hosts(self):
         tests = self.of_parts("hosts")
         if self.built["strokes"].is_done:
             self.board.add(*parts.of_hosts(tests))
         else:
-            self.board.add_unbuilt("hosts", tests, "there is no right ./strokes to compare them with")
+            self.board.add_unbuilt("strokes", tests, "there is no right ./strokes to compare them with")
 
     def run_refused(self, test):
         program = self.program_of(parts.REFUSED_IN)
