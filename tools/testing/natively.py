@@ -2,9 +2,10 @@
 import re
 import signal
 
+import crates
 import processes
 import programs
-from crates import TOP
+from crates import TOP, Test
 from results import Result
 
 # A test that takes longer hangs.
@@ -22,6 +23,14 @@ def result(test, program):
     stopped = re.search(r"^test stopped at (.*)\n?", told, re.M)
     told = told.replace(stopped[0], "") if stopped else told
     return Result(test, "failed", told + how_it_ended(ended), stopped[1] if stopped else "", more(test, ended), ended.seconds)
+
+
+def unlisted(program):
+    """The tests of a program that aren't found in the text of its crates, so that none is left out in silence."""
+    names = re.findall(r"^(\S+): test$", processes.run([program.path, "--list"]).out.decode(), re.M)
+    names = names if program.is_joined else [f"{program.name}::{name}" for name in names]
+    known = {test.name for crate in program.crates for test in crates.tests_of(crate)}
+    return [Test(name, crate, f"crates/{crate}") for name in names if name not in known for crate in name.split("::")[:1]]
 
 
 def how_it_ended(ended):

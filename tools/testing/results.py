@@ -26,11 +26,15 @@ class Board:
         self.begun = time.monotonic()
         self.results = []
         self.left = {}
-        for test in tests:
-            self.left[test.part] = self.left.get(test.part, 0) + 1
-        self.of = len(tests)
+        self.of = 0
         self.said = set()
         self.lock = threading.RLock()
+        for test in tests:
+            self.expect(test)
+
+    def expect(self, test):
+        self.left[test.part] = self.left.get(test.part, 0) + 1
+        self.of += 1
 
     def say(self, text):
         with self.lock:

@@ -47,6 +47,7 @@ class Run:
         self.board = Board(tests)
         self.chosen = list(self.choose())
         self.early = self.soonest()
+        self.early_tests = self.of_parts(self.early.name) if self.early else []
         self.built = {}
         self.at_work = set()
 
@@ -67,6 +68,8 @@ class Run:
                 processes.end_all()
                 raise
         self.keep_times()
+        done = {it.test for it in self.board.results}
+        self.board.add(*[Result(test, "failed", "it wasn't run") for test in self.tests if test not in done])
         return self.board.end()
 
     def wait_for(self, left):
@@ -103,10 +106,13 @@ class Run:
             yield self.run_hosts,
         for test in self.of_parts("memory"):
             yield self.run_refused, test
+        for program in self.chosen:
+            if self.built[program.name].is_done:
+                self.expect(natively.unlisted(program))
         times = times_of_last_run()
         for test in sorted(self.tests, key=lambda it: -times.get(it.name, 0)):
             program = self.program_of(test.part)
-            if program and self.built[program.name].is_done and not self.is_early(test):
+            if program and self.built[program.name].is_done and test not in self.early_tests:
                 yield self.run_test, test, program
         for program in self.chosen:
             for crate in program.crates if self.built[program.name].is_slow_kit else []:
@@ -152,22 +158,25 @@ class Run:
     def program_of(self, crate):
         return next((it for it in self.chosen if crate in it.crates), None)
 
-    def is_early(self, test):
-        return self.early is not None and test.part == self.early.name
+    def expect(self, unlisted):
+        """Takes tests that --list doesn't tell, where all of their crate are wanted."""
+        for test in unlisted:
+            if set(crates.tests_of(test.part)) <= set(self.tests):
+                self.tests.append(test)
+                self.board.expect(test)
 
     def run_early(self, program):
         built = self.build_program(program)
-        tests = self.of_parts(program.name)
         if built.is_done:
-            for test in tests:
+            for test in self.early_tests:
                 self.run_test(test, program)
         elif not built.is_slow_kit:
-            self.board.add_unbuilt(program.label, tests, built.said)
+            self.board.add_unbuilt(program.label, self.early_tests, built.said)
 
     def build_tests(self, program):
         built = self.build_program(program)
         if not built.is_done and not built.is_slow_kit:
-            tests = [test for test in self.of_parts(*program.crates) if not self.is_early(test)]
+            tests = [test for test in self.of_parts(*program.crates) if test not in self.early_tests]
             self.board.add_unbuilt(program.label, tests, built.said)
 
     def run_test(self, test, program):
@@ -229,7 +238,7 @@ class Run:
             self.board.add_unbuilt(program.label, [test], "")
 
     def keep_times(self):
-        times = times_of_last_run() | {it.test.name: it.seconds for it in self.board.results if it.seconds}
+        times = {**times_of_last_run(), **{it.test.name: it.seconds for it in self.board.results if it.seconds}}
         try:
             with open(TIMES, "w", encoding="utf-8") as it:
                 json.dump(times, it)
