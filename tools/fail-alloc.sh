@@ -1,6 +1,6 @@
 #!/bin/sh
 # Refuses each growth of memory in turn, in runs of worked scripts without workers and with two, of their traces, and of
-# what these replay to, and tells how they ended. No gate calls it.
+# what these replay to, and tells how they ended. No gate calls it, but for each tenth growth of `settled`.
 #
 # By a small library of its own over the C library's allocator each growth alone is refused, then each and all after it,
 # and then each second, third, tenth and thirty-seventh. (`rt try --fail-alloc N` refuses one, and builds anew for each N.)
