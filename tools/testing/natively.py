@@ -25,12 +25,13 @@ def result(test, program):
     return Result(test, "failed", told + how_it_ended(ended), stopped[1] if stopped else "", more(test, ended), ended.seconds)
 
 
-def unlisted(program):
-    """The tests of a program that aren't found in the text of its crates, so that none is left out in silence."""
+def unlisted(program, mine):
+    """The tests of these crates in a program that aren't found in the text of its crates, so that none is left out in silence."""
     names = re.findall(r"^(\S+): test$", processes.run([program.path, "--list"]).out.decode(), re.M)
     names = names if program.is_joined else [f"{program.name}::{name}" for name in names]
-    known = {test.name for crate in program.crates for test in crates.tests_of(crate)}
-    return [Test(name, crate, f"crates/{crate}") for name in names if name not in known for crate in name.split("::")[:1]]
+    known = {test.name for crate in mine for test in crates.tests_of(crate)}
+    found = [Test(name, name.partition("::")[0], f"crates/{name.partition('::')[0]}") for name in names if name not in known]
+    return [test for test in found if test.part in mine]
 
 
 def how_it_ended(ended):

@@ -45,12 +45,12 @@ class Program:
 
 @dataclass
 class Built:
-    """How a build ended: with the status of tools/unproved, what it said, and the seconds it took, or None where the program
-    was there."""
+    """How a build ended: with the status of tools/unproved, what it said, and the seconds it took, none where the program was
+    there."""
 
-    status: int
+    status: int = 0
     said: str = ""
-    seconds: float = None
+    seconds: float = 0
 
     @property
     def is_done(self):
@@ -104,28 +104,28 @@ def key_of(program, kit):
 def key_kept(program):
     """The key that the program which stands there was built of."""
     try:
-        return json.loads(text_of(f"{program.path}.of")) if os.access(program.path, os.X_OK) else None
+        return json.loads(text_of(f"{program.path}.of")) if os.access(program.path, os.X_OK) else {}
     except (OSError, ValueError):
-        return None
+        return {}
 
 
-def is_current(program, kit):
-    return key_kept(program) == key_of(program, kit)
+def is_kept(program, kit):
+    """Whether a program stands there that was built in this way, of whatever code."""
+    kept, now = key_kept(program), key_of(program, kit)
+    return all(kept.get(part) == now[part] for part in ("kit", "tools"))
 
 
-def changed_since(program, kit):
-    """The crates whose code isn't that of the program which stands there; none where there is no program."""
-    kept = key_kept(program)
-    if not kept:
-        return set()
-    now = key_of(program, kit)["crates"]
-    return {name for name in now if now[name] != kept["crates"].get(name)}
+def stale(program, kit):
+    """Those of a program's crates whose code, with all below, isn't what the program that stands there was built of."""
+    if not is_kept(program, kit):
+        return set(program.crates)
+    kept, now = key_kept(program)["crates"], key_of(program, kit)["crates"]
+    changed = {name for name in now if now[name] != kept.get(name)}
+    return {crate for crate in program.crates if crates.with_below(crate) & changed}
 
 
 def build(program, kit, room):
-    """Builds a program in a room, a folder outside the checkout, where it isn't there yet."""
-    if is_current(program, kit):
-        return Built(0)
+    """Builds a program in a room, a folder outside the checkout."""
     before = key_of(program, kit)
     os.makedirs(f"{room}/work")
     tree = write_joined(f"{room}/tree", program) if program.is_joined else TOP

@@ -45,7 +45,7 @@ class Run:
         self.kit = kit
         self.room = room
         self.board = Board(tests)
-        self.chosen = list(self.choose())
+        self.chosen = dict(self.choose())
         self.early = self.soonest()
         self.early_tests = self.of_parts(self.early.name) if self.early else []
         self.built = {}
@@ -106,16 +106,16 @@ class Run:
             yield self.run_hosts,
         for test in self.of_parts("memory"):
             yield self.run_refused, test
-        for program in self.chosen:
+        for program, mine in self.chosen.items():
             if self.built[program.name].is_done:
-                self.expect(natively.unlisted(program))
+                self.expect(natively.unlisted(program, mine))
         times = times_of_last_run()
         for test in sorted(self.tests, key=lambda it: -times.get(it.name, 0)):
             program = self.program_of(test.part)
             if program and self.built[program.name].is_done and test not in self.early_tests:
                 yield self.run_test, test, program
-        for program in self.chosen:
-            for crate in program.crates if self.built[program.name].is_slow_kit else []:
+        for program, mine in self.chosen.items():
+            for crate in mine if self.built[program.name].is_slow_kit else []:
                 yield self.run_by_rt, crate
 
     def build(self, name, label, making):
@@ -129,34 +129,44 @@ class Run:
         return built
 
     def build_program(self, program):
+        """Builds a program, unless what stands there is of the code that it is to run."""
+        if not programs.stale(program, self.kit) & self.chosen.get(program, set(program.crates)):
+            self.built[program.name] = Built()
+            return Built()
         room = f"{self.room}/{program.name}"
         return self.build(program.name, program.label, lambda: programs.build(program, self.kit, room))
 
     # Tests of crates.
 
     def choose(self):
-        """The programs of tests that are wanted: where of several crates in one only one is, and they aren't built, the
-        program of that crate alone."""
+        """The programs of tests that are wanted, each with the crates whose tests it is to run. A crate that was changed, or
+        is wanted, alone of those in one program gets one of its own; for the others what was built before still does."""
         wanted = {test.part for test in self.tests}
         if "memory" in wanted:
             wanted.add(parts.REFUSED_IN)
         for group in programs.groups():
-            mine = [crate for crate in group.crates if crate in wanted]
-            if len(mine) == 1 and group.is_joined and not programs.is_current(group, self.kit):
-                yield programs.alone(mine[0])
-            elif mine:
-                yield group
+            mine = wanted & set(group.crates)
+            stale = programs.stale(group, self.kit) & mine
+            has_own = {crate for crate in stale if not programs.stale(programs.alone(crate), self.kit)}
+            own = has_own if len(stale - has_own) != 1 else stale
+            for crate in own if group.is_joined else ():
+                yield programs.alone(crate), {crate}
+                mine.remove(crate)
+            if mine:
+                yield group, mine
 
     def soonest(self):
-        """The program that is built and run first: where crates were changed, that of the lowest crate of tests above them,
-        unless another that is wanted is as small."""
-        changed = set().union(*(programs.changed_since(it, self.kit) for it in self.chosen))
-        lowest = next((it for it in crates.crates_of_tests() if crates.with_below(it) & changed), None)
-        is_within = any(it.is_joined and lowest in it.crates for it in self.chosen)
-        return programs.alone(lowest) if is_within and self.of_parts(lowest) else None
+        """The program that is built beside the others and run first: after a change, that of the lowest crate of tests above
+        it, where others would be built with it."""
+        for program, mine in self.chosen.items():
+            if program.is_joined and programs.is_kept(program, self.kit):
+                stale = programs.stale(program, self.kit) & mine
+                lowest = [crate for crate in program.crates if crate in stale and self.of_parts(crate)]
+                return programs.alone(lowest[0]) if lowest else None
+        return None
 
     def program_of(self, crate):
-        return next((it for it in self.chosen if crate in it.crates), None)
+        return next((program for program, mine in self.chosen.items() if crate in mine), None)
 
     def expect(self, unlisted):
         """Takes tests that --list doesn't tell, where all of their crate are wanted."""
@@ -176,7 +186,7 @@ class Run:
     def build_tests(self, program):
         built = self.build_program(program)
         if not built.is_done and not built.is_slow_kit:
-            tests = [test for test in self.of_parts(*program.crates) if test not in self.early_tests]
+            tests = [test for test in self.of_parts(*self.chosen[program]) if test not in self.early_tests]
             self.board.add_unbuilt(program.label, tests, built.said)
 
     def run_test(self, test, program):
