@@ -1,6 +1,6 @@
 #!/bin/sh
 # Refuses each growth of memory in turn, in runs of worked scripts without workers and with two, of their traces, and of
-# what these replay to, and tells how they ended. No gate calls it.
+# what these replay to, and tells how they ended. No gate calls it, but for each tenth growth of `settled`.
 #
 # By a small library of its own over the C library's allocator each growth alone is refused, then each and all after it,
 # and then each second, third, tenth and thirty-seventh. (`rt try --fail-alloc N` refuses one, and builds anew for each N.)
@@ -8,9 +8,9 @@
 # Each run is to end with code 6, one line that says so and nothing written, or with the script's whole output, within
 # 20 seconds. PROGRAM is the program, by default crates/strokes/out/strokes. The status is 1 where a run did otherwise.
 #
-#     tools/fail-alloc.sh settled
+#     tools/fail-alloc.sh settled [STEP]
 #
-# refuses in place of that each growth alone in a test of desk_tests that settles worked scripts on desks, and settles a desk
+# refuses in place of that each STEPth growth (each, where it isn't given) alone in a test of desk_tests that settles worked scripts on desks, and settles a desk
 # once more that answered NoMemory. It is to pass each time: each desk has its script's pictures then. TESTS is the program of
 # the crate's tests, by default what rt test made in crates/desk_tests.
 here=$(cd "$(dirname "$0")/.." && pwd) || exit 70
@@ -127,14 +127,15 @@ built() {
     done
 }
 
-# Until there are no more growths to refuse.
+# settled STEP: until there are no more growths to refuse.
 settled() {
     [ -x "$tests" ] || { echo "fail-alloc: $tests isn't there: rt test in crates/desk_tests makes it" >&2; exit 70; }
     shim
-    name=scripts::a_settled_desk_has_the_pixmaps_of_its_script
-    n=0 passed=0
+    # (in a program of the tests of several crates its name begins with that of the crate)
+    name=$("$tests" --list | sed -n 's/^\(.*scripts::a_settled_desk_has_the_pixmaps_of_its_script\): test$/\1/p')
+    [ -n "$name" ] || { echo "fail-alloc: $tests has no test of settled desks" >&2; exit 70; }
+    n=1 passed=0
     while :; do
-        n=$((n + 1))
         env FAIL_TELL=1 FAIL_AT=$n LD_PRELOAD="$tmp/shim.so" timeout 60 "$tests" "$name" >"$tmp/out" 2>"$tmp/err"
         code=$?
         grep -q refused "$tmp/err" || break
@@ -144,12 +145,13 @@ settled() {
             status=1
             echo "ODD growth $n of $name: code $code, told: $(head -c 200 "$tmp/err")"
         fi
+        n=$((n + $1))
     done
-    echo "$name: growths up to $((n - 1)), of which each was refused alone: it passed $passed times"
+    echo "$name: growths up to $((n - 1)), of which each ${1}th was refused alone: it passed $passed times"
 }
 
 case ${1:-built} in
-settled) settled ;;
+settled) settled "${2:-1}" ;;
 *) built ;;
 esac
 exit $status

@@ -1,0 +1,123 @@
+"""The tests that are none of a crate: programs with what they are to write, scripts of tools/, hosts, refused growths."""
+import os
+import shutil
+
+import crates
+import processes
+from crates import TOP, Test
+from programs import Built
+from results import Result
+
+# How many random scripts the hosts paint; of the growths of memory each which is refused; and when a script is too late.
+SCRIPTS = "5"
+GROWTHS = "10"
+SECONDS = 900
+# The hosts, with their compilers.
+COMPILERS = {"paint": "cc", "paint_cpp": "c++", "paint_rs": "rustc", "paint_py": "cc"}
+# The crate that has the test in which growths are refused.
+REFUSED_IN = "desk_tests"
+
+
+def other(part, name, place):
+    return Test(f"{part}::{name}", part, place)
+
+
+def scripts():
+    return [other("tools", name, f"tools/{name}") for name in ("launcher-test", "docs-check", "header-check")]
+
+
+def of_main(crate):
+    return other("programs", crate, f"crates/{crate}/src/main.rt")
+
+
+def of_programs():
+    return [of_main(crate) for crate in sorted(crates.programs(), key=crates.weight, reverse=True)]
+
+
+def hosts():
+    return [other("hosts", name, f"examples/embed/{name.replace('_py', '.py')}") for name in COMPILERS]
+
+
+def refused():
+    return other("memory", "refused_growths", "tools/fail-alloc.sh")
+
+
+def everything():
+    of_crates = [test for crate in crates.crates_of_tests() for test in crates.tests_of(crate)]
+    return [*of_crates, *of_programs(), *scripts(), *hosts(), refused()]
+
+
+def missing(test):
+    """What a test needs that isn't there, if so."""
+    needs = {"hosts": ["cc", "ar"], "memory": ["cc"]}.get(test.part, [])
+    if test.part == "hosts":
+        needs = [*needs, COMPILERS[test.name_in_crate]]
+    words = {"cc": os.environ.get("CC"), "c++": os.environ.get("CXX")}
+    words = [words.get(it) or it for it in needs]
+    gone = [it for it in words if not shutil.which(it.split()[0])]
+    return f"no {gone[0]} is there" if gone else None
+
+
+def result_of(test, ended, told=None, **more):
+    """The result of a test that is a program's whole run."""
+    how = "passed" if ended.status == 0 and not told else "failed"
+    late = f"it hadn't ended after {ended.seconds:.0f} seconds\n" if ended.is_late else ""
+    told = late + (told or f"status {ended.status}\n{ended.out.decode(errors='replace')}{ended.said}")
+    return Result(test, how, "" if how == "passed" else told.replace(f"{TOP}/", ""), seconds=ended.seconds, **more)
+
+
+def of_script(test):
+    return result_of(test, processes.run([f"{TOP}/{test.place}"], seconds=SECONDS))
+
+
+def bytes_of(path, missing=b""):
+    if not os.path.isfile(path):
+        return missing
+    with open(path, "rb") as it:
+        return it.read()
+
+
+def of_program(test, words, **how):
+    """Whether a program writes for the crate's stdin what its stdout has, and ends with its status."""
+    folder = f"{TOP}/crates/{test.name_in_crate}"
+    ended = processes.run(words, given=bytes_of(f"{folder}/stdin"), seconds=SECONDS, **how)
+    want = bytes_of(f"{folder}/stdout")
+    status = int(bytes_of(f"{folder}/status", b"0"))
+    if ended.status == status and ended.out == want:
+        return Result(test, "passed", seconds=ended.seconds)
+    told = f"status {ended.status} for {status}; it wrote {shown(ended.out)}\nfor {shown(want)}\n{ended.said}"
+    return result_of(test, ended, told, place=f"crates/{test.name_in_crate}/stdout")
+
+
+def shown(text):
+    return repr(text if len(text) <= 200 else text[:200] + b"..")[1:]
+
+
+def built_hosts():
+    """Builds the C library, unless it is there, and the hosts."""
+    ended = processes.run([f"{TOP}/examples/embed/build.sh"], seconds=SECONDS)
+    return Built(min(ended.status, 1), ended.said, ended.seconds)
+
+
+def of_hosts(tests):
+    """Compares what the hosts paint with what the command does, and tells which of them painted something else."""
+    words = [f"{TOP}/examples/embed/compare.sh", SCRIPTS]
+    ended = processes.run(words, seconds=SECONDS, PROGRAM=f"{TOP}/out/unproved/strokes")
+    odd = {}
+    for it in ended.out.decode(errors="replace").split("ODD ")[1:]:
+        odd[host_of(it)] = odd.get(host_of(it), "") + f"ODD {it}"
+    if ended.status != 0 and not odd:
+        return [result_of(test, ended) for test in tests]
+    return [result_of(test, ended, odd[name]) if (name := test.name_in_crate) in odd else Result(test, "passed") for test in tests]
+
+
+def host_of(told):
+    """The host of which a line of compare.sh tells."""
+    words = told.split(": code")[0]
+    return next((name for name in ("paint_cpp", "paint_rs") if f"/{name} " in words), "paint_py" if "paint.py" in words else "paint")
+
+
+def of_refused(test, program):
+    """Refuses some of the growths of memory in a test of desks, each in a run of its own."""
+    ended = processes.run([f"{TOP}/tools/fail-alloc.sh", "settled", GROWTHS], seconds=SECONDS, TESTS=program.path)
+    return result_of(test, ended)
