@@ -176,6 +176,7 @@ fn widen_jobs(updates: &mut Updates, group: u16, jobs: &[(Kind, Job)])
 fn bound_of(jobs: &[(Kind, Job)]) -> Rect
     requires some { 1 ≤ length jobs.now }
     requires checked { All (λ j. checks j.1 ≡ true) jobs.now }
+    requires limits { All (λ j. within_limits j.1 ≡ true) jobs.now }
     requires points { All (λ j. is_point_op j.1 ≡ true) jobs.now }
     ensures { IsLeastRound jobs.now result }
 {
