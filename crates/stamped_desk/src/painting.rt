@@ -148,10 +148,10 @@ fn paint_all(
         ≡ take (to - from) (drop from (tiles_of painting.now.job))) }
     ensures made { IfOk result (λ v. All (IsMadeOf painting.now.job painting.now.shot) v.items) }
 {
-    let to = to.min(painting.tile_count());
-    let mut made = Vec::with_capacity(alloc, to.saturating_sub(from))?;
+    let end = to.min(painting.tile_count()).max(from);
+    let mut made = Vec::with_capacity(alloc, end - from)?;
     let mut plain = None;
-    for i in from..to {
+    for i in from..end {
         let whole = painting.paint_like(alloc, i, &mut plain)?;
         made.push(whole)?;
     }
