@@ -75,9 +75,11 @@ pub record IsRoundFirst (jobs : Jobs) (i : ℕ) (b : Area) : Type 0 where
 side_more : (a b : ℤ) (n m : ℕ) → 1 ≤ n → 1 ≤ nat_abs (int_max (a +ℤ pos n) (b +ℤ pos m) -ℤ int_min a b)
 side_more a b n m h = grind (arith, ints)
 
-module _ (jobs : Jobs) (i : ℕ) (x : Kind × Job) (b : Area) (h : i < length jobs) (at : x ≡ get_or jobs i x) (fits : within_limits x.1 ≡ true) (written : writes x.1 ≡ b ∷ []) where
+module _ (jobs : Jobs) (i : ℕ) (x : Kind × Job) (b : Area) (h : i < length jobs) (at : x ≡ get_or jobs i x) (fits : All (λ (j : Kind × Job). within_limits j.1 ≡ true) jobs) (written : writes x.1 ≡ b ∷ []) where
   own_sides : HasPoints b
-  own_sides = (subst (AllByRecursion HasPoints) written (written_some x.1 fits)).0
+  own_sides =
+      let own = subst (λ (y : Kind × Job). within_limits y.1 ≡ true) (sym at) (All-get_or (λ (j : Kind × Job). within_limits j.1 ≡ true) jobs i x h fits) in
+      (subst (AllByRecursion HasPoints) written (written_some x.1 own)).0
 
   own_least : (a : Area) → All (λ (j : Kind × Job). WritesWithin a j.1) jobs → AllIn b a
   own_least a all p e =
