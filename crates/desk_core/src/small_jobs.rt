@@ -10,9 +10,9 @@ use std::slice;
 
 impl Desk {
     /// Paints jobs of the stroke at the head in place, where no job is at work: the next one and some behind it
-    /// that write within one tile alone and needn't wait for what is to be composed. It tells a rectangle round
-    /// all that they write. None where it painted none. It is for who is alone with the desk, since pixels are
-    /// painted in the call.
+    /// that write within one tile alone and needn't wait for what is to be composed. It tells the least
+    /// rectangle round all that they write. None where it painted none. It is for who is alone with the desk, since
+    /// pixels are painted in the call.
     ///
     /// # Errors
     /// `NoMemory`; all is as it was.

@@ -1,30 +1,37 @@
 -- Jobs before a barrier, and what jobs write one after another.
 use Rattle.std.proofs.Common.{◌≡◌, ℕ, suc, zero, ◌+◌, ◌<◌, ◌≤◌, Bool, true, false, ◌||◌, Some, List, [], ◌∷◌, ◌++◌, length, take, drop, get_or, refl, sym, ap, ◌∙◌, subst, arith, eqb}
-use Rattle.std.specs.Prelude.{All, slice_get}
+use borrow.Author.Differences.{ints}
+use Rattle.std.specs.Prelude.{All, slice_get, ℤ, pos, ◌+ℤ◌, ◌-ℤ◌, nat_abs}
+use Rattle.std.specs.Int.{int_max, int_min}
+use Rattle.std.specs.List.{AllByRecursion}
 use Rattle.std.proofs.lemmas.Bool.Decides.{nat_tests}
 use Rattle.std.proofs.lemmas.List.{drop_more, drop_all, length-take, take_all}
-use Rattle.std.proofs.lemmas.Grind.{take_at_read}
-use Rattle.std.proofs.lemmas.List.Elements.{All-append, All-drop, All-from_recursion, All-nil, All-take, All-weaker}
+use Rattle.std.proofs.lemmas.List.Elements.{All-drop, All-get_or, All-more, All-nil, All-take, All-weaker}
 use Rattle.std.proofs.lemmas.Option.{get_or_from_slice_get}
 use Rattle.geom_core.specs.Areas.{Area, holds}
 use Rattle.geom_core.specs.Grid.{tile}
 use Rattle.geom_core.specs.Keys.{IsWorldKey}
 use Rattle.geom_core.specs.Overlaps.{bound}
 use Rattle.geom_core.specs.Rects.{any_holds}
-use Rattle.geom_core.proofs.Bounds.{bound_first, bound_second}
+use Rattle.geom_core.specs.Laws.{AllIn, IsLeastAround}
+use Rattle.geom_core.proofs.Bounds.{least_bound}
+use Rattle.geom_core.proofs.Tests.{or-false}
 use Rattle.doc_model.specs.declared.canvas.Patch.{Patch}
 use Rattle.doc_model.specs.declared.job.Job.{Job}
 use Rattle.doc_model.specs.declared.job.Kind.{Kind}
 use Rattle.doc_model.specs.Jobs.{writes}
+use Rattle.doc_model.specs.Lawful.{within_limits}
 use Rattle.doc_model.specs.Strokes.{Jobs}
 use Rattle.job_core.specs.Points.{Spot, spot, is_point_op, is_within, IsPointJob, IsPointWork, IsRun}
 use Rattle.job_core.proofs.Runs.{front_taken, front_all}
+use Rattle.job_core.proofs.Values.{HasPoints}
+use Rattle.desk_state.proofs.Meeting.{written_some}
 use Rattle.desk_steps.specs.Archives.{Archive, with_painted}
 use Rattle.update_queue.specs.Waiting.{Waiting, waiting}
 use Rattle.machine_model.specs.Effects.{updates_with_all, writes_of}
 use Rattle.machine_model.specs.Guards.{is_bar}
 use Rattle.desk_events.specs.declared.small_jobs.Laid.{Laid}
-use Rattle.desk_events.specs.SmallJobs.{NoBarBehind, LaysRun, WritesWithin}
+use Rattle.desk_events.specs.SmallJobs.{IsLeastRound, NoBarBehind, LaysRun, WritesWithin}
 
 -- one more job that is none
 pub no_bar_more : (jobs : Jobs) (i : ℕ) (x : Kind × Job) → x ≡ get_or jobs i x → is_bar x.0 ≡ false → ((k : ℕ) (j : Kind × Job) → suc k < i → slice_get jobs (suc k) ≡ Some j → is_bar j.0 ≡ false)
@@ -57,32 +64,51 @@ widened_more jobs i g x u new whole h at is so_far =
 pub widened_all : (jobs : Jobs) (i g : ℕ) (u whole : Waiting) → length jobs ≤ i → waiting u.canvas (updates_with_all u.canvas g (writes_of (drop i jobs)) u.patches) ≡ whole → u ≡ whole
 widened_all jobs i g u whole h so_far = ap (λ js. waiting u.canvas (updates_with_all u.canvas g (writes_of js) u.patches)) (sym (drop_all i jobs h)) ∙ so_far
 
--- ---- a rectangle round what jobs write
+-- ---- the least rectangle round what jobs write
 
-pub none_bound : (jobs : Jobs) (a : Area) → All (λ (j : Kind × Job). WritesWithin a j.1) (take 0 jobs)
-none_bound jobs a = All-nil (λ (j : Kind × Job). WritesWithin a j.1)
+-- the rectangle has what the first of the jobs write, and lies in each that has what all of them write
+pub record IsRoundFirst (jobs : Jobs) (i : ℕ) (b : Area) : Type 0 where
+  pub within : All (λ (j : Kind × Job). WritesWithin b j.1) (take i jobs)
+  pub least : (a : Area) → All (λ (j : Kind × Job). WritesWithin a j.1) jobs → AllIn b a
+  pub sides : HasPoints b
 
--- one more job's
-pub bound_more : (jobs : Jobs) (i : ℕ) (x : Kind × Job) (a b c : Area) → i < length jobs → x ≡ get_or jobs i x → writes x.1 ≡ b ∷ [] → c ≡ bound a b → All (λ (j : Kind × Job). WritesWithin a j.1) (take i jobs) → All (λ (j : Kind × Job). WritesWithin c j.1) (take (i + 1) jobs)
-bound_more jobs i x a b c h at written is so_far =
-    subst (λ (js : Jobs). All (λ (j : Kind × Job). WritesWithin c j.1) js) (sym longer)
-    (subst (λ (d : Area). All (λ (j : Kind × Job). WritesWithin d j.1) (take i jobs ++ x ∷ [])) (sym is)
-    (All-append (λ (j : Kind × Job). WritesWithin (bound a b) j.1) (take i jobs) (x ∷ [])
-    (All-weaker (λ (j : Kind × Job). WritesWithin a j.1) (λ (j : Kind × Job). WritesWithin (bound a b) j.1) (λ j w p e. bound_first a b p (w p e)) (take i jobs) so_far)
-    (All-from_recursion (λ (j : Kind × Job). WritesWithin (bound a b) j.1) (x ∷ []) (own, tt))))
-  where
-    longer : take (i + 1) jobs ≡ take i jobs ++ x ∷ []
-    longer = (take_at_read jobs i x h).1 ∙ ap (λ (y : Kind × Job). take i jobs ++ y ∷ []) (sym at)
+side_more : (a b : ℤ) (n m : ℕ) → 1 ≤ n → 1 ≤ nat_abs (int_max (a +ℤ pos n) (b +ℤ pos m) -ℤ int_min a b)
+side_more a b n m h = grind (arith, ints)
 
-    lone : (t : Bool) → (t || false) ≡ true → t ≡ true
-    lone true e = e
-    lone false e = e
+module _ (jobs : Jobs) (i : ℕ) (x : Kind × Job) (b : Area) (h : i < length jobs) (at : x ≡ get_or jobs i x) (fits : All (λ (j : Kind × Job). within_limits j.1 ≡ true) jobs) (written : writes x.1 ≡ b ∷ []) where
+  own_sides : HasPoints b
+  own_sides =
+      let own = subst (λ (y : Kind × Job). within_limits y.1 ≡ true) (sym at) (All-get_or (λ (j : Kind × Job). within_limits j.1 ≡ true) jobs i x h fits) in
+      (subst (AllByRecursion HasPoints) written (written_some x.1 own)).0
 
-    own : WritesWithin (bound a b) x.1
-    own p e = bound_second a b p (lone (holds b p) (ap (λ (rects : List Area). any_holds rects p) (sym written) ∙ e))
+  own_least : (a : Area) → All (λ (j : Kind × Job). WritesWithin a j.1) jobs → AllIn b a
+  own_least a all p e =
+      subst (λ (y : Kind × Job). WritesWithin a y.1) (sym at) (All-get_or (λ (j : Kind × Job). WritesWithin a j.1) jobs i x h all) p
+      (ap (λ (rects : List Area). any_holds rects p) written ∙ or-false (holds b p) ∙ e)
 
-pub all_bound : (jobs : Jobs) (i : ℕ) (a : Area) → length jobs ≤ i → All (λ (j : Kind × Job). WritesWithin a j.1) (take i jobs) → All (λ (j : Kind × Job). WritesWithin a j.1) jobs
-all_bound jobs i a h so_far = subst (λ (js : Jobs). All (λ (j : Kind × Job). WritesWithin a j.1) js) (take_all i jobs h) so_far
+  -- that of one job
+  pub round_one : IsRoundFirst jobs 0 b
+  round_one = record { within = All-nil (λ (j : Kind × Job). WritesWithin b j.1); least = own_least; sides = own_sides }
+
+  -- one more job's
+  pub round_more : (a c : Area) → c ≡ bound a b → IsRoundFirst jobs i a → IsRoundFirst jobs (i + 1) c
+  round_more a c is r = subst (IsRoundFirst jobs (i + 1)) (sym is) (record {
+    within = All-more (λ (j : Kind × Job). WritesWithin (bound a b) j.1) jobs i x h
+        (All-weaker (λ (j : Kind × Job). WritesWithin a j.1) (λ (j : Kind × Job). WritesWithin (bound a b) j.1) (λ j w p e. l.first p (w p e)) (take i jobs) r.within)
+        (subst (λ (y : Kind × Job). WritesWithin (bound a b) y.1) at own);
+    least = λ d all. l.least d (r.least d all) (own_least d all);
+    sides = (side_more a.x b.x a.w b.w r.sides.0, side_more a.y b.y a.h b.h r.sides.1);
+  })
+    where
+      l : IsLeastAround a b (bound a b)
+      l = least_bound a b r.sides.0 r.sides.1 own_sides.0 own_sides.1
+
+      own : WritesWithin (bound a b) x.1
+      own p e = l.second p (sym (or-false (holds b p)) ∙ ap (λ (rects : List Area). any_holds rects p) (sym written) ∙ e)
+
+-- that of all
+pub round_all : (jobs : Jobs) (i : ℕ) (b : Area) → length jobs ≤ i → IsRoundFirst jobs i b → IsLeastRound jobs b
+round_all jobs i b h r = record { within = subst (λ (js : Jobs). All (λ (j : Kind × Job). WritesWithin b j.1) js) (take_all i jobs h) r.within; least = r.least }
 
 -- jobs of a run are point operations
 pub are_points : (jobs front : Jobs) (laid : Laid) (old new : Archive) → front ≡ take laid.count jobs → LaysRun jobs laid old new → All (λ (j : Kind × Job). is_point_op j.1 ≡ true) front

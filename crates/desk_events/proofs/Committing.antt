@@ -18,7 +18,7 @@ use Rattle.desk_state.proofs.Places.{IsPaintingAs, painting_as}
 use Rattle.slot_work.specs.Lacking.{IsOfJob, AreLacking}
 use Rattle.slot_work.proofs.Lackings.{lacking_of_job}
 use Rattle.desk_events.specs.AtWork.{HasJob}
-use Rattle.desk_events.specs.Commits.{AreOfWork, MayCommit}
+use Rattle.desk_events.specs.Commits.{AreOfWork, HasMade, MayCommit}
 use Rattle.desk_events.proofs.AtWork.{same_job}
 
 -- ---- the job in the slot
@@ -30,14 +30,23 @@ module _ (s : State) (place serial : ℕ) (w : Painter) (tiles : List Entire) (h
   pub of_own : AreOfWork s place serial tiles → All (IsOfJob w.job (layer_of w.shot)) tiles
   of_own of = of (painter_of w) has.runs has.drawn
 
-  pub own_of : All (IsOfJob w.job (layer_of w.shot)) tiles → AreOfWork s place serial tiles
-  own_of all p runs drawn = subst (λ (q : state.Painter). All (IsOfJob q.job q.shot) tiles) (same_job s place (painter_of w) p has.runs runs) all
+  pub made_is : All (IsOfJob w.job (layer_of w.shot)) tiles → HasMade s place serial tiles
+  made_is all = record { painter = painter_of w; runs = has.runs; drawn = has.drawn; made = all }
+
+  pub made_own : HasMade s place serial tiles → All (IsOfJob w.job (layer_of w.shot)) tiles
+  made_own m = subst (λ (q : state.Painter). All (IsOfJob q.job q.shot) tiles) (sym (same_job s place (painter_of w) m.painter has.runs m.runs)) m.made
 
   pub commit_lacks : MayCommit s place serial tiles → AreLacking w.job (layer_of w.shot) w.published tiles
   commit_lacks m = subst (λ (q : state.Painter). AreLacking q.job q.shot q.published tiles) (sym (same_job s place (painter_of w) m.painter has.runs m.runs)) m.lacking
 
-  pub commit_own : MayCommit s place serial tiles → All (IsOfJob w.job (layer_of w.shot)) tiles
-  commit_own m = lacking_of_job w.job (layer_of w.shot) w.published tiles (commit_lacks m)
+module _ (s : State) (place serial : ℕ) (tiles : List Entire) where
+  -- tiles that the job at work made are of it, if it is at work
+  pub made_of_work : HasMade s place serial tiles → AreOfWork s place serial tiles
+  made_of_work m p runs drawn = subst (λ (q : state.Painter). All (IsOfJob q.job q.shot) tiles) (same_job s place m.painter p m.runs runs) m.made
+
+  -- those that it lacks it has made
+  pub lacking_made : MayCommit s place serial tiles → HasMade s place serial tiles
+  lacking_made m = record { painter = m.painter; runs = m.runs; drawn = m.drawn; made = lacking_of_job m.painter.job m.painter.shot m.painter.published tiles m.lacking }
 
 -- a job that lacks none may end
 pub may_end_now : (d : Parts) (place serial : ℕ) → IsDesk d → MayCommit (state_of d) place serial [] → Enabled (state_of d) (End place)

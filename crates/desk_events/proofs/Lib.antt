@@ -9,8 +9,8 @@ pub mod FreeSlots
 mod PairRuns
 pub mod OwnTiles
 pub mod Untouched
-mod Committing
-mod WalkedRows
+pub mod Committing
+pub mod WalkedRows
 pub mod Ending
 mod SmallJobs
 mod Barriers

@@ -1,5 +1,5 @@
 -- A pass over the slots for a walk of another sort.
-use Rattle.std.proofs.Common.{◌≡◌, ◌<◌, ◌≤◌, ◌+◌, ◌↔◌, ℕ, suc, zero, Bool, true, false, Option, Some, List, [], ◌∷◌, length, map, drop, refl, subst, sym, ◌∙◌, arith}
+use Rattle.std.proofs.Common.{◌≡◌, ◌<◌, ◌≤◌, ◌+◌, ◌↔◌, ℕ, suc, zero, Bool, true, false, Option, Some, None, List, [], ◌∷◌, length, map, drop, refl, ap, subst, sym, ◌∙◌, arith}
 use Rattle.std.specs.Prelude.{IsTrue, slice_get}
 use Rattle.std.specs.List.{AllByRecursion}
 use Rattle.std.proofs.lemmas.List.{drop_all}
@@ -11,12 +11,19 @@ use Rattle.slot_core.specs.declared.Busy.{Busy}
 use Rattle.slot_core.specs.Busy.{work_at}
 use Rattle.desk_state.specs.declared.work.Work.{Work}
 use Rattle.desk_state.specs.Parts.{slot_of}
-use Rattle.slot_work.proofs.SlotPoints.{slot_of_work, slot_there}
-use Rattle.desk_events.specs.AtWork.{WalksAs}
+use Rattle.slot_work.proofs.SlotPoints.{busy_is, slot_of_work, slot_there}
+use Rattle.desk_events.specs.AtWork.{WalksAs, patch_of}
 
 -- what is told of the work is told of its slot
 pub told_at : (slots : List (Option (Busy Work))) (place : ℕ) (walk : model.Walk) (o : Option Work) (slot : Slot) (b : Bool) → o ≡ work_at place slots → (IsTrue b ↔ WalksAs walk (slot_of_work o)) → slice_get (map slot_of slots) place ≡ Some slot → IsTrue b ↔ WalksAs walk slot
 told_at slots place walk o slot b is told at = subst (λ (t : Slot). IsTrue b ↔ WalksAs walk t) (slot_there slots place o slot is at) told
+
+-- the patch of the walk in a place is that of its slot
+pub patch_there : (slots : List (Option (Busy Work))) (place : ℕ) (o : Option Work) → o ≡ work_at place slots → patch_of (Some (slot_of_work o)) ≡ patch_of (slice_get (map slot_of slots) place)
+patch_there [] place o h = ap (λ (p : Option Work). patch_of (Some (slot_of_work p))) h
+patch_there (None ∷ slots) zero o h = ap (λ (p : Option Work). patch_of (Some (slot_of_work p))) h
+patch_there (Some b ∷ slots) zero o h = ap (λ (p : Option Work). patch_of (Some (slot_of_work p))) h ∙ ap (λ (slot : Slot). patch_of (Some slot)) (busy_is b)
+patch_there (x ∷ slots) (suc place) o h = patch_there slots place o h
 
 -- if those from a place on are so, all are
 abbrev pub RestDecides : model.Walk → ℕ → List Slot → Type 0

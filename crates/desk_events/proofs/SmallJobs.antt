@@ -1,6 +1,6 @@
 -- Jobs that write within one tile alone: what the desk does in one hold is the machine's events.
 use borrow.Author.Differences.{ints}
-use Rattle.std.proofs.Common.{◌≡◌, ℕ, suc, zero, ◌+◌, ◌*◌, ◌<◌, ◌≤◌, Bool, true, false, ◌&&◌, ◌||◌, cond, Option, Some, None, List, [], ◌∷◌, ◌++◌, append-nil, length, take, drop, refl, sym, ap, ◌∙◌, subst, arith, eqb}
+use Rattle.std.proofs.Common.{◌≡◌, ◌↔◌, ℕ, suc, zero, ◌+◌, ◌*◌, ◌<◌, ◌≤◌, Bool, true, false, ◌&&◌, ◌||◌, cond, Option, Some, None, List, [], ◌∷◌, ◌++◌, append-nil, length, take, drop, refl, sym, ap, ◌∙◌, subst, arith, eqb}
 use Rattle.std.specs.Prelude.{All, IfSome, ℤ, pos, ◌+ℤ◌, ◌*ℤ◌, int_le, int_lt, slice_get, slice_set, ◌^◌, ◌-◌}
 use Rattle.std.proofs.lemmas.List.{length-take-le}
 use Rattle.std.proofs.lemmas.List.Elements.{All-from_recursion, recursion_from_All}
@@ -59,7 +59,7 @@ use Rattle.desk_state.proofs.Noting.{written_at}
 use Rattle.desk_state.proofs.Places.{set_twice, set_same}
 use Rattle.desk_state.proofs.Publishing.{published_same}
 use Rattle.desk_events.specs.declared.small_jobs.Laid.{Laid}
-use Rattle.desk_events.specs.SmallJobs.{small_events, WritesWithin, StartsWithin, PaintsSmall, NoBarBehind, IsAlone, LaysRun}
+use Rattle.desk_events.specs.SmallJobs.{small_events, WritesWithin, IsLeastRound, StartsWithin, PaintsSmall, NoBarBehind, IsAlone, LaysRun}
 use Rattle.desk_events.proofs.Barriers.{updates_with_all-append, front_get}
 
 -- ---- the tile of a job
@@ -333,25 +333,25 @@ one_desk d place key t n g j desk may = record {
     notes : (k : Key) → set.contains (set.insert w.keys key) k ≡ noted (kept_jobs t) (state_of d).slots (suc n) k
     notes k = set.contains-insert key_cmp_total w.keys key k ∙ ap (λ b. same_key k key || b) (w.notes k) ∙ ap (λ b. b || noted (kept_jobs t) (state_of d).slots n k) (sym (own k))
 
--- so many jobs in a row, which write within a rectangle alone
-abbrev pub RunWithin : Area → ℕ → Key → ℕ → State → State → Type 0
-RunWithin bound place key m old new = (run : Run old (small_events place key m) new) × StartsWithin bound place key m old new run
+-- so many jobs in a row, and each that starts writes what one of these writes
+abbrev pub RunOf : Jobs → ℕ → Key → ℕ → State → State → Type 0
+RunOf jobs place key m old new = (run : Run old (small_events place key m) new) × ((a : Area) → StartsWithin a place key m old new run ↔ AllByRecursion (λ (j : Kind × Job). WritesWithin a j.1) jobs)
 
-more_within : (d : Parts) (place : ℕ) (key : Key) (t : Stroke) (n g : ℕ) (j : Kind × Job) (bound : Area) (m : ℕ) (new : State) → MayPaint d place key t n g j → WritesWithin bound j.1 → RunWithin bound place key m (ended d t place key n j) new → RunWithin bound place key (suc m) (state_of d) new
-more_within d place key t n g j bound m new may inside rest = (
+more_run : (d : Parts) (place : ℕ) (key : Key) (t : Stroke) (n g : ℕ) (j : Kind × Job) (jobs : Jobs) (m : ℕ) (new : State) → MayPaint d place key t n g j → RunOf jobs place key m (ended d t place key n j) new → RunOf (j ∷ jobs) place key (suc m) (state_of d) new
+more_run d place key t n g j jobs m new may rest = (
   (started d t place n j, start_one d place key t n g j may, (laid d t place key n j, publish_one d place key t n g j may, (ended d t place key n j, end_one d place key t n g j may, rest.0))),
-  (inside, rest.1),
+  (λ a. ((λ starts. (starts.0, (rest.1 a).0 starts.1)), (λ writes. (writes.0, (rest.1 a).1 writes.1)))),
 )
 
 -- its events, and then those of others
-one_then : (d : Parts) (place : ℕ) (key : Key) (t : Stroke) (n g : ℕ) (j : Kind × Job) (bound : Area) (m : ℕ) (new : State) → IsDesk d → MayPaint d place key t n g j → WritesWithin bound j.1 → RunWithin bound place key m (state_of (after_job d key n g j)) new → RunWithin bound place key (suc m) (state_of d) new
-one_then d place key t n g j bound m new desk may inside rest =
-    more_within d place key t n g j bound m new may inside (subst (λ s. RunWithin bound place key m s new) (sym (ended_is d place key t n g j desk may)) rest)
+one_then : (d : Parts) (place : ℕ) (key : Key) (t : Stroke) (n g : ℕ) (j : Kind × Job) (jobs : Jobs) (m : ℕ) (new : State) → IsDesk d → MayPaint d place key t n g j → RunOf jobs place key m (state_of (after_job d key n g j)) new → RunOf (j ∷ jobs) place key (suc m) (state_of d) new
+one_then d place key t n g j jobs m new desk may rest =
+    more_run d place key t n g j jobs m new may (subst (λ s. RunOf jobs place key m s new) (sym (ended_is d place key t n g j desk may)) rest)
 
 -- ---- jobs in a row
 
 -- so are these jobs in turn, none but the first of which is a barrier
-record MayPaintAll (d : Parts) (place : ℕ) (key : Key) (t : Stroke) (n g : ℕ) (bound : Area) (jobs : Jobs) : Type 0 where
+record MayPaintAll (d : Parts) (place : ℕ) (key : Key) (t : Stroke) (n g : ℕ) (jobs : Jobs) : Type 0 where
   pub at_head : head_stroke (state_of d) ≡ Some t
   pub begun : d.way ≡ Some n
   pub not_cancelled : is_cancelled t ≡ false
@@ -364,7 +364,6 @@ record MayPaintAll (d : Parts) (place : ℕ) (key : Key) (t : Stroke) (n g : ℕ
   pub clear : NoBarBehind jobs
   pub each : AllByRecursion (λ (j : Kind × Job). IsPointJob key j.1) jobs
   pub within : AllByRecursion (λ (j : Kind × Job). is_within (tile key) j.1 ≡ true) jobs
-  pub inside : AllByRecursion (λ (j : Kind × Job). WritesWithin bound j.1) jobs
 
 -- the desk after them
 abbrev pub after_jobs : Parts → Key → ℕ → ℕ → Jobs → Parts
@@ -375,8 +374,8 @@ after_jobs d key n g jobs = record d {
   next = d.next + length jobs;
 }
 
-first_of : (d : Parts) (place : ℕ) (key : Key) (t : Stroke) (n g : ℕ) (bound : Area) (j : Kind × Job) (jobs : Jobs) → MayPaintAll d place key t n g bound (j ∷ jobs) → MayPaint d place key t n g j
-first_of d place key t n g bound j jobs may = record {
+first_of : (d : Parts) (place : ℕ) (key : Key) (t : Stroke) (n g : ℕ) (j : Kind × Job) (jobs : Jobs) → MayPaintAll d place key t n g (j ∷ jobs) → MayPaint d place key t n g j
+first_of d place key t n g j jobs may = record {
   at_head = may.at_head;
   begun = may.begun;
   not_cancelled = may.not_cancelled;
@@ -397,8 +396,8 @@ both : (b : Bool) → b ≡ true → b ≡ false → ⊥
 both true e h = cc
 both false e h = cc
 
-rest_of : (d : Parts) (place : ℕ) (key : Key) (t : Stroke) (n g : ℕ) (bound : Area) (j : Kind × Job) (jobs : Jobs) → IsDesk d → MayPaintAll d place key t n g bound (j ∷ jobs) → MayPaintAll (after_job d key n g j) place key t (suc n) g bound jobs
-rest_of d place key t n g bound j jobs desk may = record {
+rest_of : (d : Parts) (place : ℕ) (key : Key) (t : Stroke) (n g : ℕ) (j : Kind × Job) (jobs : Jobs) → IsDesk d → MayPaintAll d place key t n g (j ∷ jobs) → MayPaintAll (after_job d key n g j) place key t (suc n) g jobs
+rest_of d place key t n g j jobs desk may = record {
   at_head = may.at_head;
   begun = refl;
   not_cancelled = may.not_cancelled;
@@ -411,7 +410,6 @@ rest_of d place key t n g bound j jobs desk may = record {
   clear = λ i k h. may.clear (suc i) k h;
   each = may.each.1;
   within = may.within.1;
-  inside = may.inside.1;
 }
   where
     shift : (i : ℕ) → n + suc i ≡ suc n + i
@@ -459,28 +457,28 @@ more_is d key t n g j jobs w = λ i. record d {
     more m l = omega arith
 
 -- the desk stays one by a run of such jobs
-pub record IsSmallRun (d new : Parts) (bound : Area) (place : ℕ) (key : Key) (m : ℕ) : Type 0 where
+pub record IsSmallRun (d new : Parts) (jobs : Jobs) (place : ℕ) (key : Key) (m : ℕ) : Type 0 where
   pub desk : IsDesk new
-  pub run : RunWithin bound place key m (state_of d) (state_of new)
+  pub run : RunOf jobs place key m (state_of d) (state_of new)
 
 -- one, and then the others
-jobs_more : (d : Parts) (place : ℕ) (key : Key) (t : Stroke) (n g : ℕ) (bound : Area) (j k : Kind × Job) (rest : Jobs) → IsDesk d → MayPaintAll d place key t n g bound (j ∷ k ∷ rest)
-    → IsSmallRun (after_job d key n g j) (after_jobs (after_job d key n g j) key (suc n) g (k ∷ rest)) bound place key (suc (length rest)) → IsSmallRun d (after_jobs d key n g (j ∷ k ∷ rest)) bound place key (suc (suc (length rest)))
-jobs_more d place key t n g bound j k rest desk may others =
-    subst (λ new. IsSmallRun d new bound place key (suc (suc (length rest)))) (more_is d key t n g j (k ∷ rest) (gone d t n desk may.begun may.at_head)) (record {
+jobs_more : (d : Parts) (place : ℕ) (key : Key) (t : Stroke) (n g : ℕ) (j k : Kind × Job) (rest : Jobs) → IsDesk d → MayPaintAll d place key t n g (j ∷ k ∷ rest)
+    → IsSmallRun (after_job d key n g j) (after_jobs (after_job d key n g j) key (suc n) g (k ∷ rest)) (k ∷ rest) place key (suc (length rest)) → IsSmallRun d (after_jobs d key n g (j ∷ k ∷ rest)) (j ∷ k ∷ rest) place key (suc (suc (length rest)))
+jobs_more d place key t n g j k rest desk may others =
+    subst (λ new. IsSmallRun d new (j ∷ k ∷ rest) place key (suc (suc (length rest)))) (more_is d key t n g j (k ∷ rest) (gone d t n desk may.begun may.at_head)) (record {
       desk = others.desk;
-      run = one_then d place key t n g j bound (suc (length rest)) _ desk (first_of d place key t n g bound j (k ∷ rest) may) may.inside.0 others.run;
+      run = one_then d place key t n g j (k ∷ rest) (suc (length rest)) _ desk (first_of d place key t n g j (k ∷ rest) may) others.run;
     })
 
 -- all of them, one after another
-jobs_run : (jobs : Jobs) (d : Parts) (place : ℕ) (key : Key) (t : Stroke) (n g : ℕ) (bound : Area) (j : Kind × Job) → IsDesk d → MayPaintAll d place key t n g bound (j ∷ jobs) → IsSmallRun d (after_jobs d key n g (j ∷ jobs)) bound place key (suc (length jobs))
-jobs_run [] d place key t n g bound j desk may =
-    subst (λ new. IsSmallRun d new bound place key 1) (last_is d key n g j) (record {
-      desk = one_desk d place key t n g j desk (first_of d place key t n g bound j [] may);
-      run = one_then d place key t n g j bound 0 (state_of (after_job d key n g j)) desk (first_of d place key t n g bound j [] may) may.inside.0 (refl, tt);
+jobs_run : (jobs : Jobs) (d : Parts) (place : ℕ) (key : Key) (t : Stroke) (n g : ℕ) (j : Kind × Job) → IsDesk d → MayPaintAll d place key t n g (j ∷ jobs) → IsSmallRun d (after_jobs d key n g (j ∷ jobs)) (j ∷ jobs) place key (suc (length jobs))
+jobs_run [] d place key t n g j desk may =
+    subst (λ new. IsSmallRun d new (j ∷ []) place key 1) (last_is d key n g j) (record {
+      desk = one_desk d place key t n g j desk (first_of d place key t n g j [] may);
+      run = one_then d place key t n g j [] 0 (state_of (after_job d key n g j)) desk (first_of d place key t n g j [] may) (refl, λ a. ((λ u. tt), (λ u. tt)));
     })
-jobs_run (k ∷ rest) d place key t n g bound j desk may = jobs_more d place key t n g bound j k rest desk may
-    (jobs_run rest (after_job d key n g j) place key t (suc n) g bound k (one_desk d place key t n g j desk (first_of d place key t n g bound j (k ∷ rest) may)) (rest_of d place key t n g bound j (k ∷ rest) desk may))
+jobs_run (k ∷ rest) d place key t n g j desk may = jobs_more d place key t n g j k rest desk may
+    (jobs_run rest (after_job d key n g j) place key t (suc n) g k (one_desk d place key t n g j desk (first_of d place key t n g j (k ∷ rest) may)) (rest_of d place key t n g j (k ∷ rest) desk may))
 
 -- ---- what the desk's calls tell
 
@@ -532,10 +530,9 @@ abbrev pub after_laid : Parts → Archive → Waiting → ℕ → ℕ → Parts
 after_laid d store updates n count = record d { store = store; updates = updates; way = Some (n + count); next = d.next + count }
 
 -- jobs that were painted in one hold
-pub laid_run : (d : Parts) (n g : ℕ) (jobs : Jobs) (laid : Laid) (bound : Area) (store : Archive) (updates : Waiting) → IsDesk d → (alone : IsAlone (state_of d)) → d.way ≡ Some n → ((s : Stroke) → head_stroke (state_of d) ≡ Some s → g ≡ parent_of s.layer d.store.present)
-    → AreNext d n jobs → LaysRun jobs laid d.store store → updates ≡ waiting d.updates.canvas (updates_with_all d.updates.canvas g (writes_of (take laid.count jobs)) d.updates.patches)
-    → All (λ (j : Kind × Job). WritesWithin bound j.1) (take laid.count jobs) → IsSmallRun d (after_laid d store updates n laid.count) bound alone.place laid.key laid.count
-laid_run d n g jobs laid bound store updates desk alone way told next run widened inside = go (take laid.count jobs) refl
+pub laid_run : (d : Parts) (n g : ℕ) (jobs : Jobs) (laid : Laid) (store : Archive) (updates : Waiting) → IsDesk d → (alone : IsAlone (state_of d)) → d.way ≡ Some n → ((s : Stroke) → head_stroke (state_of d) ≡ Some s → g ≡ parent_of s.layer d.store.present)
+    → AreNext d n jobs → LaysRun jobs laid d.store store → updates ≡ waiting d.updates.canvas (updates_with_all d.updates.canvas g (writes_of (take laid.count jobs)) d.updates.patches) → IsSmallRun d (after_laid d store updates n laid.count) (take laid.count jobs) alone.place laid.key laid.count
+laid_run d n g jobs laid store updates desk alone way told next run widened = go (take laid.count jobs) refl
   where
     s : StartStep (state_of d) alone.place alone.enabled.0
     s = alone.enabled.1
@@ -546,7 +543,7 @@ laid_run d n g jobs laid bound store updates desk alone way told next run widene
     long : length (take laid.count jobs) ≡ laid.count
     long = length-take-le laid.count jobs run.few
 
-    may : (js : Jobs) → take laid.count jobs ≡ js → MayPaintAll d alone.place laid.key s.stroke n g bound js
+    may : (js : Jobs) → take laid.count jobs ≡ js → MayPaintAll d alone.place laid.key s.stroke n g js
     may js is = record {
       at_head = s.at_head;
       begun = way;
@@ -560,7 +557,6 @@ laid_run d n g jobs laid bound store updates desk alone way told next run widene
       clear = λ i j h. next.clear i j (front_get laid.count jobs (suc i) j (ap (λ (ks : Jobs). slice_get ks (suc i)) is ∙ h));
       each = recursion_from_All (λ (j : Kind × Job). IsPointJob laid.key j.1) js (subst (All (λ (j : Kind × Job). IsPointJob laid.key j.1)) is run.each);
       within = recursion_from_All (λ (j : Kind × Job). is_within (tile laid.key) j.1 ≡ true) js (subst (All (λ (j : Kind × Job). is_within (tile laid.key) j.1 ≡ true)) is run.within);
-      inside = recursion_from_All (λ (j : Kind × Job). WritesWithin bound j.1) js (subst (All (λ (j : Kind × Job). WritesWithin bound j.1)) is inside);
     }
       where
         follow : (i : ℕ) (j : Kind × Job) → slice_get js i ≡ Some j → slice_get (kept_jobs s.stroke) (n + i) ≡ Some j
@@ -585,19 +581,28 @@ laid_run d n g jobs laid bound store updates desk alone way told next run widene
         count : length js ≡ laid.count
         count = ap length (sym is) ∙ long
 
-    go : (js : Jobs) → take laid.count jobs ≡ js → IsSmallRun d (after_laid d store updates n laid.count) bound alone.place laid.key laid.count
+    go : (js : Jobs) → take laid.count jobs ≡ js → IsSmallRun d (after_laid d store updates n laid.count) js alone.place laid.key laid.count
     go [] is = absurd (let empty : length (take laid.count jobs) ≡ 0 = ap length is in omega (arith, run.some, empty, long))
     go (j ∷ js) is =
-        subst (λ new. IsSmallRun d new bound alone.place laid.key laid.count) (all (j ∷ js) is)
-        (subst (λ m. IsSmallRun d (after_jobs d laid.key n g (j ∷ js)) bound alone.place laid.key m) (ap length (sym is) ∙ long) (jobs_run js d alone.place laid.key s.stroke n g bound j desk (may (j ∷ js) is)))
+        subst (λ new. IsSmallRun d new (j ∷ js) alone.place laid.key laid.count) (all (j ∷ js) is)
+        (subst (λ m. IsSmallRun d (after_jobs d laid.key n g (j ∷ js)) (j ∷ js) alone.place laid.key m) (ap length (sym is) ∙ long) (jobs_run js d alone.place laid.key s.stroke n g j desk (may (j ∷ js) is)))
 
 -- what was laid, where something was
 pub laid_there : (jobs : Jobs) (laid : Laid) (o : Option Laid) (old new : Archive) → o ≡ Some laid → IfSome o (λ (l : Laid). LaysRun jobs l old new) → LaysRun jobs laid old new
 laid_there jobs laid o old new is told = subst (λ (p : Option Laid). IfSome p (λ (l : Laid). LaysRun jobs l old new)) is told
 
 -- so they were painted
-pub paints_small : (d new : Parts) (place count : ℕ) (key : Key) (bound : Area) → 1 ≤ count → IsSmallRun d new bound place key count → PaintsSmall (state_of d) bound (state_of new)
-paints_small d new place count key bound some small = record { place = place; key = key; count = count; some = some; run = small.run.0; within = small.run.1 }
+pub paints_small : (d new : Parts) (jobs : Jobs) (place count : ℕ) (key : Key) (bound : Area) → no_painter (state_of d) ≡ true → 1 ≤ count → IsSmallRun d new jobs place key count → IsLeastRound jobs bound → PaintsSmall (state_of d) bound (state_of new)
+paints_small d new jobs place count key bound idle some small round = record {
+  place = place;
+  key = key;
+  count = count;
+  idle = idle;
+  some = some;
+  run = small.run.0;
+  within = (small.run.1 bound).1 (recursion_from_All (λ (j : Kind × Job). WritesWithin bound j.1) jobs round.within);
+  least = λ a starts. round.least a (All-from_recursion (λ (j : Kind × Job). WritesWithin a j.1) jobs ((small.run.1 a).0 starts));
+}
 
 -- serials fit, so many more too
 pub serials_fit : (d : Parts) → IsDesk d → d.next + 4096 < 2 ^ 64

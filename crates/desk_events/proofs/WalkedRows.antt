@@ -24,9 +24,9 @@ use Rattle.desk_state.specs.After.{busy_walker}
 use Rattle.desk_state.proofs.Keeping.{held}
 use Rattle.desk_state.proofs.WalkPlaces.{walking_at}
 use Rattle.slot_work.specs.LaidTiles.{laid_as, lacking, pairs_at, Lays, LaysFront, LaysSome}
-use Rattle.slot_work.specs.OfWalk.{IsRowOfWalk}
+use Rattle.slot_work.specs.OfWalk.{IsRowOfWalk, ReadsAlike}
 use Rattle.walker_core.specs.Sameness.{ReadTheSame}
-use Rattle.desk_events.specs.Commits.{MayPublishRow, ReadsAsWork, RunsFront, lacking_at, pair_events, row_events}
+use Rattle.desk_events.specs.Commits.{HasRead, MayPublishRow, ReadsAsWork, RunsFront, lacking_at, pair_events, row_events}
 use Rattle.desk_events.proofs.AtWork.{same_walk}
 use Rattle.desk_events.proofs.PairRuns.{IsRun, own_at, next_lacking, front_next, walk_run}
 
@@ -36,11 +36,23 @@ module _ (s : State) (place serial : ℕ) (w : Walker) (c : Composition) (key : 
   pub row_may : w.serial ≡ serial → IsRowOfWalk w.inputs c key → MayPublishRow s place serial c key
   row_may drawn of = record { walker = walker_of w; runs = there; drawn = drawn; of = of }
 
-  pub own_reads : ReadTheSame w.inputs c.readings key → ReadsAsWork s place serial c key
-  own_reads same q runs drawn = subst (λ (q : state.Walker). ReadTheSame (readings q.patch q.shot) c.readings key) (same_walk s place (walker_of w) q there runs) same
+  pub read_is : w.serial ≡ serial → ReadsAlike w.inputs c key → HasRead s place serial c key
+  read_is drawn alike = record { walker = walker_of w; runs = there; drawn = drawn; alike = alike }
+
+  pub read_own : HasRead s place serial c key → ReadsAlike w.inputs c key
+  read_own m = subst (λ (q : state.Walker). ReadsAlike (readings q.patch q.shot) c key) (sym (same_walk s place (walker_of w) m.walker there m.runs)) m.alike
 
   pub row_of : MayPublishRow s place serial c key → IsRowOfWalk w.inputs c key
   row_of m = subst (λ (q : state.Walker). IsRowOfWalk (readings q.patch q.shot) c key) (sym (same_walk s place (walker_of w) m.walker there m.runs)) m.of
+
+module _ (s : State) (place serial : ℕ) (c : Composition) (key : Key) where
+  -- what the walk at work has read is read as it reads, if it is at work
+  pub read_as_work : HasRead s place serial c key → ReadsAsWork s place serial c key
+  read_as_work m q runs drawn = subst (λ (q : state.Walker). ReadTheSame (readings q.patch q.shot) c.readings key) (same_walk s place m.walker q m.runs runs) m.alike.same
+
+  -- what it may publish it has read
+  pub row_read : MayPublishRow s place serial c key → HasRead s place serial c key
+  row_read m = record { walker = m.walker; runs = m.runs; drawn = m.drawn; alike = record { in_patch = m.of.in_patch; same = m.of.of.same } }
 
 -- ---- the events
 

@@ -1,11 +1,12 @@
 -- The work in a slot, as it is kept.
-use Rattle.std.specs.Prelude.{◌≡◌, ℕ, true, Some, slice_get}
+use Rattle.std.specs.Prelude.{◌≡◌, ℕ, true, Option, Some, None, slice_get}
 use Rattle.std.specs.List.{list_any}
 use Rattle.geom_core.specs.Grid.{Key, same_key}
 use Rattle.doc_model.specs.Jobs.{reads, checks}
 use Rattle.doc_model.specs.Lawful.{within_limits}
 use Rattle.doc_model.specs.Strokes.{Stroke}
 use Rattle.machine_model.specs.State as state
+use Rattle.doc_model.specs.declared.canvas.Patch.{Patch}
 use Rattle.doc_model.specs.declared.canvas.Walk.{Walk}
 use Rattle.machine_model.specs.State.{Slot, State, Paints, Walks, head_stroke}
 use Rattle.desk_state.specs.declared.work.Painter.{Painter}
@@ -46,3 +47,8 @@ HasNoWalk s place serial = (w : state.Walker) → slice_get s.slots place ≡ So
 abbrev pub WalksAs : Walk → Slot → Type 0
 WalksAs walk (Walks w) = w.patch.walk ≡ walk
 WalksAs walk slot = Unit {0}
+
+-- the patch of the walk in a slot
+abbrev pub patch_of : Option Slot → Option Patch
+patch_of (Some (Walks w)) = Some w.patch
+patch_of slot = None

@@ -12,11 +12,18 @@ use Rattle.walker_core.specs.Sameness.{ReadTheSame}
 use Rattle.walker_core.specs.Composing.{Composition}
 use Rattle.slot_work.specs.Lacking.{IsOfJob, AreLacking}
 use Rattle.slot_work.specs.LaidTiles.{lacking, pairs_at}
-use Rattle.slot_work.specs.OfWalk.{IsRowOfWalk}
+use Rattle.slot_work.specs.OfWalk.{IsRowOfWalk, ReadsAlike}
 
 -- if the job with that serial is at work in the slot, each of the tiles was made of it and from the pixels that it was started with
 abbrev pub AreOfWork : State → ℕ → ℕ → List Entire → Type 0
 AreOfWork s place serial tiles = (w : Painter) → slice_get s.slots place ≡ Some (Paints w) → w.serial ≡ serial → All (IsOfJob w.job w.shot) tiles
+
+-- the job with that serial is at work in the slot, and so it is of these tiles
+pub record HasMade (s : State) (place serial : ℕ) (tiles : List Entire) : Type 0 where
+  pub painter : Painter
+  pub runs : slice_get s.slots place ≡ Some (Paints painter)
+  pub drawn : painter.serial ≡ serial
+  pub made : All (IsOfJob painter.job painter.shot) tiles
 
 -- the job with that serial is at work in the slot, and the tiles are just those that it lacks, made of it and from the pixels that it was started with
 pub record MayCommit (s : State) (place serial : ℕ) (tiles : List Entire) : Type 0 where
@@ -47,6 +54,13 @@ pair_events place (p ∷ ps) = WalkPublish place p.0 p.1 ∷ pair_events place p
 -- if the walk with that serial is at work in the slot, what was composed read the same in the tile
 abbrev pub ReadsAsWork : State → ℕ → ℕ → Composition → Key → Type 0
 ReadsAsWork s place serial c key = (w : Walker) → slice_get s.slots place ≡ Some (Walks w) → w.serial ≡ serial → ReadTheSame (readings w.patch w.shot) c.readings key
+
+-- the walk with that serial is at work in the slot, its patch has points in the tile, and what was composed read the same there
+pub record HasRead (s : State) (place serial : ℕ) (c : Composition) (key : Key) : Type 0 where
+  pub walker : Walker
+  pub runs : slice_get s.slots place ≡ Some (Walks walker)
+  pub drawn : walker.serial ≡ serial
+  pub alike : ReadsAlike (readings walker.patch walker.shot) c key
 
 -- the walk with that serial is at work in the slot, its patch has points in the tile, and all its groups were composed there, of the same as the walk reads
 pub record MayPublishRow (s : State) (place serial : ℕ) (c : Composition) (key : Key) : Type 0 where

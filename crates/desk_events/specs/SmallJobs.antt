@@ -3,6 +3,7 @@ use Rattle.std.specs.Prelude.{All, ◌≡◌, ◌≤◌, ℕ, suc, zero, true, f
 use Rattle.geom_core.specs.Areas.{Area, holds, Point}
 use Rattle.geom_core.specs.Grid.{Key, tile}
 use Rattle.geom_core.specs.Keys.{IsWorldKey}
+use Rattle.geom_core.specs.Laws.{AllIn}
 use Rattle.geom_core.specs.Rects.{any_holds}
 use Rattle.doc_model.specs.declared.job.Job.{Job}
 use Rattle.doc_model.specs.declared.job.Kind.{Kind}
@@ -27,19 +28,26 @@ small_events place key (suc n) = Start place ∷ Publish place key ∷ End place
 abbrev pub WritesWithin : Area → Job → Type 0
 WritesWithin bound job = (p : Point) → any_holds (writes job) p ≡ true → holds bound p ≡ true
 
--- so it is of each job that starts in such a run
+-- so it is of each of the jobs, and the rectangle lies in any other such one
+pub record IsLeastRound (jobs : Jobs) (bound : Area) : Type 0 where
+  pub within : All (λ (j : Kind × Job). WritesWithin bound j.1) jobs
+  pub least : (a : Area) → All (λ (j : Kind × Job). WritesWithin a j.1) jobs → AllIn bound a
+
+-- each job that starts in such a run writes in the rectangle alone
 abbrev pub StartsWithin : (bound : Area) (place : ℕ) (key : Key) (n : ℕ) (old new : State) → Run old (small_events place key n) new → Type 0
 StartsWithin bound place key zero old new run = Unit {0}
 StartsWithin bound place key (suc n) old new run = WritesWithin bound run.1.job.1 × StartsWithin bound place key n run.2.2.0 new run.2.2.2
 
--- some jobs of the stroke at the head, the next one first, were painted so, and all that they write lies in the rectangle
+-- no job was at work, and some of the stroke at the head, the next one first, were painted so; the rectangle is the least round all that they write
 pub record PaintsSmall (old : State) (bound : Area) (new : State) : Type 0 where
   pub place : ℕ
   pub key : Key
   pub count : ℕ
+  pub idle : no_painter old ≡ true
   pub some : 1 ≤ count
   pub run : Run old (small_events place key count) new
   pub within : StartsWithin bound place key count old new run
+  pub least : (a : Area) → StartsWithin a place key count old new run → AllIn bound a
 
 -- the next job may start, and no job is at work
 pub record IsAlone (s : State) : Type 0 where

@@ -2,7 +2,7 @@
 
 ghost use Rattle.std.specs.Prelude.{◌≡◌, ◌↔◌, true, false, IsTrue, OnOk, OnErr};
 ghost use Rattle.machine_model.specs.Step.{Run};
-ghost use Rattle.desk_events.specs.Commits.{MayPublishRow, ReadsAsWork, RunsFront, row_events};
+ghost use Rattle.desk_events.specs.Commits.{HasRead, MayPublishRow, ReadsAsWork, RunsFront, row_events};
 
 use crate::machine::Machine;
 use crate::tickets::SlotId;
@@ -15,10 +15,7 @@ impl Machine {
     /// Whether the walk with that serial is at work in the slot, its patch has points in the tile, and what was
     /// composed read the same there. No memory.
     pub fn reads_as_work(&self, slot: SlotId, composed: &Composed<'_>, key: TileKey) -> bool
-        ensures some { result ≡ true
-            → ReadsAsWork self.now slot.place slot.serial composed.now key }
-        ensures none { result ≡ false
-            → MayPublishRow self.now slot.place slot.serial composed.now key → ⊥ }
+        ensures { IsTrue result ↔ HasRead self.now slot.place slot.serial composed.now key }
     {
         match self.walker(slot) {
             Some(walker) => reads_alike(&walker.inputs, composed, key),

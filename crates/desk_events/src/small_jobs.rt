@@ -10,7 +10,7 @@ ghost use Rattle.job_core.specs.Points.{is_point_op};
 ghost use Rattle.machine_model.specs.Effects.{updates_with_all, writes_of};
 ghost use Rattle.machine_model.specs.Guards.{is_bar as is_barrier};
 ghost use Rattle.update_queue.specs.Waiting.{waiting};
-ghost use Rattle.desk_events.specs.SmallJobs.{PaintsSmall, IsAlone, NoBarBehind, LaysRun, WritesWithin};
+ghost use Rattle.desk_events.specs.SmallJobs.{PaintsSmall, IsAlone, IsLeastRound, NoBarBehind, LaysRun};
 
 use crate::machine::Machine;
 use desk_state::Choice;
@@ -36,7 +36,7 @@ pub(crate) struct Laid {
 impl Machine {
     /// Paints jobs of the stroke at the head in place, the next one first: some in a row that write within
     /// one tile alone and needn't wait for what is to be composed. Each starts in a slot, publishes its tile
-    /// and ends. It tells a rectangle round all that they write. None where a job is at work, or the next one
+    /// and ends. It tells the least rectangle round all that they write. None where a job is at work, or the next one
     /// mayn't start or is none of these.
     ///
     /// # Errors
@@ -172,12 +172,13 @@ fn widen_jobs(updates: &mut Updates, group: u16, jobs: &[(Kind, Job)])
     }
 }
 
-/// A rectangle round all that the jobs write.
+/// The least rectangle round all that the jobs write.
 fn bound_of(jobs: &[(Kind, Job)]) -> Rect
     requires some { 1 ≤ length jobs.now }
     requires checked { All (λ j. checks j.1 ≡ true) jobs.now }
+    requires limits { All (λ j. within_limits j.1 ≡ true) jobs.now }
     requires points { All (λ j. is_point_op j.1 ≡ true) jobs.now }
-    ensures { All (λ j. WritesWithin result j.1) jobs.now }
+    ensures { IsLeastRound jobs.now result }
 {
     let mut bound = written(&jobs[0].1);
     for entry in jobs {

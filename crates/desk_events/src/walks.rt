@@ -2,7 +2,7 @@
 
 ghost use Rattle.std.specs.Prelude.{◌≡◌, ◌↔◌, IsTrue, OnErr, IfOk, IfSome, IfNone, Some, false, slice_get};
 ghost use Rattle.std.specs.List.{AllByRecursion};
-ghost use Rattle.machine_model.specs.State.{Slot, Walker as At, head_stroke, Free, Walks};
+ghost use Rattle.machine_model.specs.State.{Slot, head_stroke, Free};
 ghost use Rattle.machine_model.specs.Guards.{is_exclusive};
 ghost use Rattle.machine_model.specs.Event.{WalkStart};
 ghost use Rattle.machine_model.specs.Step.{Step};
@@ -10,7 +10,7 @@ ghost use Rattle.machine_model.specs.Walking.{IsGroupOf};
 ghost use Rattle.machine_model.specs.Walks.{walk_shot};
 ghost use Rattle.walker_core.specs.Readings.{readings};
 ghost use Rattle.desk_state.specs.Choices.{WalksWait, CanWalk};
-ghost use Rattle.desk_events.specs.AtWork.{WalksAs};
+ghost use Rattle.desk_events.specs.AtWork.{WalksAs, patch_of};
 ghost use Rattle.desk_events.specs.Tickets.{IsWalkTicket};
 
 use crate::machine::Machine;
@@ -60,10 +60,9 @@ impl Machine {
         }
     }
 
-    /// The patch of the walk in a slot.
+    /// The patch of the walk in a slot. None exactly where no walk is at work in it.
     pub fn walk_patch(&self, place: u8) -> Option<Patch>
-        ensures { (w : At) → slice_get self.now.slots place ≡ Some (Walks w)
-            → result ≡ Some w.patch }
+        ensures { result ≡ patch_of (slice_get self.now.slots place) }
     {
         match self.slots.work(place) {
             Some(Work::Walk(walker)) => Some(walker.inputs.patch()),

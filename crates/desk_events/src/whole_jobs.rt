@@ -6,7 +6,7 @@ ghost use Rattle.machine_model.specs.Event.{Publish, End};
 ghost use Rattle.machine_model.specs.Step.{Step};
 ghost use Rattle.desk_state.specs.Enabled.{Enabled};
 ghost use Rattle.desk_steps.specs.declared.exchanging.Base.TheVariants.{Known};
-ghost use Rattle.desk_events.specs.Commits.{AreOfWork, MayCommit, TakesWhole};
+ghost use Rattle.desk_events.specs.Commits.{AreOfWork, HasMade, MayCommit, TakesWhole};
 ghost use Rattle.desk_events.specs.Sparing.{IsPriorAt, StandsAs};
 
 use crate::machine::Machine;
@@ -21,8 +21,7 @@ impl Machine {
     /// Whether the job with that serial is at work in the slot, and each of the tiles was made of it and
     /// from the pixels that it was started with. No memory.
     pub fn are_of_work(&self, slot: SlotId, tiles: &[Whole]) -> bool
-        ensures some { result ≡ true → AreOfWork self.now slot.place slot.serial tiles.now }
-        ensures none { result ≡ false → MayCommit self.now slot.place slot.serial tiles.now → ⊥ }
+        ensures { IsTrue result ↔ HasMade self.now slot.place slot.serial tiles.now }
     {
         match self.painter(slot) {
             Some(painter) => are_of_job(painter, tiles),

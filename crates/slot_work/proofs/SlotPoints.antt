@@ -27,7 +27,8 @@ slot_of_work None = Free
 slot_of_work (Some (Paint w)) = Paints (painter_of w)
 slot_of_work (Some (Walk w)) = Walks (walker_of w)
 
-busy_is : (b : Busy Work) → slot_of_work (Some b.work) ≡ slot_of (Some b)
+-- what is at work in a place, and its slot
+pub busy_is : (b : Busy Work) → slot_of_work (Some b.work) ≡ slot_of (Some b)
 busy_is b = go b.work refl
   where
     go : (x : Work) → b.work ≡ x → slot_of_work (Some x) ≡ slot_of (Some b)

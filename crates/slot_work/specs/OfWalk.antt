@@ -17,3 +17,8 @@ pub record IsRowOfWalk (r : Readings) (c : Composition) (key : Key) : Type 0 whe
   pub world : IsWorldKey key
   pub in_patch : list_any (same_key key) (keys_of r.patch.rect) ≡ true
   pub of : IsOfWalkAt r c key
+
+-- the walk's patch has points in the tile, and what was composed read the same there
+pub record ReadsAlike (r : Readings) (c : Composition) (key : Key) : Type 0 where
+  pub in_patch : list_any (same_key key) (keys_of r.patch.rect) ≡ true
+  pub same : ReadTheSame r c.readings key

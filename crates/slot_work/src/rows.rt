@@ -1,6 +1,6 @@
 //! What a walk composed comes to the desk, tile by tile.
 
-ghost use Rattle.std.specs.Prelude.{◌≡◌, true, false, OnOk, OnErr, [], ◌∷◌};
+ghost use Rattle.std.specs.Prelude.{◌≡◌, ◌↔◌, IsTrue, true, false, OnOk, OnErr, [], ◌∷◌};
 ghost use Rattle.std.specs.List.{list_all, list_any};
 ghost use Rattle.geom_core.specs.Keys.{IsWorldKey};
 ghost use Rattle.walker_core.specs.Readings.{path_in};
@@ -8,7 +8,7 @@ ghost use Rattle.walker_core.specs.Composing.{has_pair};
 ghost use Rattle.walker_core.specs.Sameness.{ReadTheSame};
 ghost use Rattle.slot_work.specs.LaidTiles.{Lays, LaysFront, LaysSome, laid_in, pairs_at};
 ghost use Rattle.machine_model.specs.Guards.{same_pair};
-ghost use Rattle.slot_work.specs.OfWalk.{IsOfWalkAt, IsRowOfWalk};
+ghost use Rattle.slot_work.specs.OfWalk.{IsOfWalkAt, IsRowOfWalk, ReadsAlike};
 
 use crate::walking::{is_tile_of, lay_composed};
 use desk_state::{Newest, has_pair as was_published};
@@ -18,8 +18,7 @@ use walker_core::{Composed, Inputs};
 
 /// Whether a walk's patch has points in the tile, and what was composed read the same there. No memory.
 pub fn reads_alike(inputs: &Inputs, composed: &Composed<'_>, key: TileKey) -> bool
-    ensures some { result ≡ true → ReadTheSame inputs.now composed.now.readings key }
-    ensures none { result ≡ false → IsRowOfWalk inputs.now composed.now key → ⊥ }
+    ensures { IsTrue result ↔ ReadsAlike inputs.now composed.now key }
 {
     is_tile_of(&inputs.patch().rect, key) && inputs.same_in(composed.inputs(), key)
 }

@@ -1,8 +1,9 @@
 //! A job that was taken.
 
-ghost use Rattle.std.specs.Prelude.{All, ◌≡◌, [], true, Some, IfOk, IfSome, length};
+ghost use Rattle.std.specs.Prelude.{All, ◌≡◌, ◌-◌, [], true, Some, IfOk, IfSome, length, take, drop};
 ghost use Rattle.doc_model.specs.Jobs.{checks, reads};
 ghost use Rattle.doc_model.specs.Lawful.{within_limits};
+ghost use Rattle.slot_work.specs.Lacking.{keys_of_tiles};
 ghost use Rattle.whole_tiles.specs.Plans.{tiles_of};
 ghost use Rattle.desk_core.specs.declared.tickets.Taken.TheVariants as taken;
 ghost use Rattle.stamped_desk.specs.Stamped.{IsMadeOf, batch};
@@ -109,13 +110,15 @@ impl<J: StampNaming> StampedPainting<J> {
         Ok(StampedTiles::of_job(self.slot, self.since, tiles, stamp))
     }
 
-    /// Its tiles from one place of the list to before another, painted whole. Where a fill leaves one pixel all
-    /// over neighbours, they share one tile.
+    /// Its tiles from one place of the list to before another, or to its end, painted whole and in the list's order.
+    /// Where a fill leaves one pixel all over neighbours, they share one tile.
     ///
     /// # Errors
     /// `NoMemory`.
     pub fn paint(&self, alloc: Global, from: usize, to: usize) -> Result<StampedTiles<J>, NoMemory>
         ensures slot { IfOk result (λ b. b.slot ≡ self.now.slot) }
+        ensures keys { IfOk result (λ b. keys_of_tiles b.tiles
+            ≡ take (to - from) (drop from (tiles_of self.now.work))) }
         ensures made { IfOk result (λ b. All (IsMadeOf self.now.work self.now.shot) b.tiles) }
     {
         let tiles = paint_all(alloc, &self.painting, from, to)?;
@@ -134,19 +137,21 @@ fn copy_of<J: StampNaming>(stamp: &Option<Stamp<J, Taken>>) -> Option<Stamp<J, T
     }
 }
 
-/// The tiles of a job from one place of the list to before another, painted whole.
+/// The tiles of a job from one place of the list to before another, or to its end, painted whole.
 fn paint_all(
     alloc: Global,
     painting: &Painting,
     from: usize,
     to: usize,
 ) -> Result<Vec<Whole>, NoMemory>
-    ensures { IfOk result (λ v. All (IsMadeOf painting.now.job painting.now.shot) v.items) }
+    ensures keys { IfOk result (λ v. keys_of_tiles v.items
+        ≡ take (to - from) (drop from (tiles_of painting.now.job))) }
+    ensures made { IfOk result (λ v. All (IsMadeOf painting.now.job painting.now.shot) v.items) }
 {
-    let to = to.min(painting.tile_count());
-    let mut made = Vec::with_capacity(alloc, to.saturating_sub(from))?;
+    let end = to.min(painting.tile_count()).max(from);
+    let mut made = Vec::with_capacity(alloc, end - from)?;
     let mut plain = None;
-    for i in from..to {
+    for i in from..end {
         let whole = painting.paint_like(alloc, i, &mut plain)?;
         made.push(whole)?;
     }

@@ -1,11 +1,12 @@
-use Rattle.desk_events.proofs.WalkedRows.{own_reads, row_of}
+use Rattle.desk_events.proofs.Exactly.{refuses}
+use Rattle.desk_events.proofs.WalkedRows.{read_is, read_own}
 use Rattle.desk_events.proofs.machine.Machine.reads_as_work.Goals as goal
 
-pub returns-in-Some-clause-some : goal.returns-in-Some-clause-some
-returns-in-Some-clause-some c h = own_reads c.args.self.now c.args.slot.place c.args.slot.serial c.in-Some.walker.now c.args.composed.now c.args.key c.in-Some.ensures.some.runs (c.reads_alike.ensures.some h)
+pub returns-in-Some : goal.returns-in-Some
+returns-in-Some c = (
+  (λ t. read_is c.args.self.now c.args.slot.place c.args.slot.serial c.in-Some.walker.now c.args.composed.now c.args.key c.in-Some.ensures.some.runs c.in-Some.ensures.some.drawn (c.reads_alike.ensures.0 t)),
+  (λ m. c.reads_alike.ensures.1 (read_own c.args.self.now c.args.slot.place c.args.slot.serial c.in-Some.walker.now c.args.composed.now c.args.key c.in-Some.ensures.some.runs m)),
+)
 
-pub returns-in-Some-clause-none : goal.returns-in-Some-clause-none
-returns-in-Some-clause-none c h m = c.reads_alike.ensures.none h (row_of c.args.self.now c.args.slot.place c.args.slot.serial c.in-Some.walker.now c.args.composed.now c.args.key c.in-Some.ensures.some.runs m)
-
-pub returns-in-None-clause-none : goal.returns-in-None-clause-none
-returns-in-None-clause-none c h m = c.in-None.ensures.none m.walker m.runs m.drawn
+pub returns-in-None : goal.returns-in-None
+returns-in-None c = refuses (λ m. c.in-None.ensures.none m.walker m.runs m.drawn)
