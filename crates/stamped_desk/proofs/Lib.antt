@@ -1,3 +1,4 @@
+mod ListParts
 mod Prefixes
 mod Adding
 mod Heading
