@@ -20,7 +20,7 @@ use std::str::FromStr;
 const WORKERS: u8 = 4;
 
 /// What a run writes.
-#[derive(Clone, Copy, Debug, PartialEq, Eq)]
+#[derive(Clone, Copy)]
 pub enum Emit {
     /// A pixmap for each export.
     Picture,
@@ -35,7 +35,7 @@ pub enum Emit {
 }
 
 /// What the words ask for.
-#[derive(Clone, Copy, Debug, PartialEq, Eq)]
+#[derive(Clone, Copy)]
 pub struct Choice {
     /// What is written.
     pub emit: Emit,
@@ -59,7 +59,7 @@ pub enum ChoiceError {
 }
 
 /// A text names nothing that can be written.
-#[derive(Clone, Copy, Debug, PartialEq, Eq)]
+#[derive(Clone, Copy)]
 pub struct UnknownEmit;
 
 impl FromStr for Emit {

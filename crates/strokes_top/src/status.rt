@@ -8,7 +8,7 @@ use script_text::Cause;
 use trace_core::TraceCause;
 
 /// How a run ended.
-#[derive(Clone, Copy, Debug, PartialEq, Eq)]
+#[derive(Clone, Copy)]
 pub enum Status {
     /// The output was written, and no entry of the script was refused.
     Done,
