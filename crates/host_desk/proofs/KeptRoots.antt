@@ -1,5 +1,5 @@
 -- Events that leave the root's cache as it is.
-use Rattle.std.proofs.Common.{◌≡◌, ℕ, zero, suc, true, Bool, false, Result, Ok, Err, List, [], ◌∷◌, refl, ap, ◌∙◌}
+use Rattle.std.proofs.Common.{◌≡◌, ℕ, zero, suc, true, Bool, false, Result, Ok, Err, List, [], ◌∷◌, refl, subst, ap, ◌∙◌}
 use Rattle.std.specs.Ordering.{nat_cmp}
 use Rattle.std.specs.FinMap.{FinMap}
 use Rattle.geom_core.specs.Areas.{Area, Point}
@@ -18,7 +18,10 @@ use Rattle.machine_model.specs.Step.{Run, Step}
 use Rattle.filmed_caches.proofs.FilmedRoot.{root_kept}
 use Rattle.desk_state.specs.Choices.{DoesAtOnce, is_done_at_once}
 use Rattle.desk_events.specs.SmallJobs.{PaintsSmall, small_events}
+use Rattle.host_lines.specs.declared.answer.Answer.TheVariants as answer
+use Rattle.host_pieces.specs.declared.piece.Piece.TheVariants as piece
 use Rattle.host_pieces.specs.Giving.{RootStays}
+use Rattle.host_desk.specs.Taking.{Took}
 
 same : (s t : State) → t.caches ≡ s.caches → RootStays s t
 same s t e p = ap (λ (c : FinMap nat_cmp Layer). at (cache c 0) p) e
@@ -68,9 +71,11 @@ at_once s t (WalkStart place q) h step = cc
 at_once s t (WalkPublish place g k) h step = cc
 at_once s t (WalkEnd place) h step = cc
 
--- what a take does at once
-pub did_keeps : (s t : State) (before now : ℕ) → DoesAtOnce s t before now → RootStays s t
-did_keeps s t before now did = at_once s t did.event did.at_once did.step
+-- so what a take does at once leaves it
+pub did_took : (d s t : State) (before now : ℕ) → d ≡ s → DoesAtOnce d t before now → Took s answer.Again piece.Empty t
+did_took d s t before now is did =
+    let told : DoesAtOnce s t before now = subst (λ (x : State). DoesAtOnce x t before now) is did in
+    (refl, (before, now, told), at_once s t told.event told.at_once told.step)
 
 pub start_keeps : (s t : State) (place : ℕ) → Step s (Start place) t → RootStays s t
 start_keeps s t place step = same s t (ap (λ (x : State). x.caches) step.new_is)

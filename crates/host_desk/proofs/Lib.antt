@@ -4,5 +4,5 @@ pub mod FedJobs
 pub mod FedLines
 pub mod FedScripts
 pub mod KeptPoints
-mod KeptRoots
+pub mod KeptRoots
 pub mod WrittenLines

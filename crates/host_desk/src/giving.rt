@@ -52,6 +52,7 @@ impl Host {
 
     /// Paints a few small jobs of the stroke at the head, where no other thread wants the desk. `Done` where it
     /// painted some; `Nothing`; `NoMemory`. The root's picture stays: what was painted waits to be composed.
+    #[tactic(auto, using(crate::proofs::KeptRoots::small_keeps))]
     pub fn small(&mut self) -> Answer
         ensures { Painted self.old result self.new }
     {

@@ -6,7 +6,7 @@ use Rattle.desk_state.specs.Choices.{HeadWaits, MayWant}
 use Rattle.host_pieces.specs.declared.piece.Piece.TheVariants as piece
 use Rattle.host_desk.specs.Taking.{Started}
 use Rattle.host_pieces.specs.Walks.{WalkWork}
-use Rattle.host_desk.proofs.KeptRoots.{start_keeps, walk_start_keeps}
+use Rattle.host_desk.proofs.KeptRoots.{did_took, start_keeps, walk_start_keeps}
 use Rattle.host_desk.proofs.host.Host.take_on.Goals as goal
 
 pub new-requires-clause-checked : goal.new-requires-clause-checked
@@ -32,6 +32,9 @@ returns-in-Ok-Walk g c =
       subst (λ (w : WalkWork). Started c.args.self.now (piece.Walk w) c.take.new.self) (sym c.new-in-Ok-Walk.ensures) (step, told.1, subst HeadWaits c.self.view_is last, refl),
       walk_start_keeps c.args.self.now c.take.new.self c.in-Ok-Walk.ticket.slot.place c.in-Ok-Walk.ticket.inputs.patch step,
     )
+
+pub returns-in-Ok-Did : goal.returns-in-Ok-Did
+returns-in-Ok-Did g c = did_took _ c.args.self.now _ _ _ c.self.view_is (c.in-Ok-Did.ensures.did (ap Ok c.in-Ok-Did.field-0-is))
 
 pub returns : goal.returns
 returns g c = (refl, subst MayWant c.self.view_is c.in-Err.ensures.err.0, c.in-Err.ensures.err.1 ∙ c.self.view_is)
