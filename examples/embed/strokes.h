@@ -9,8 +9,8 @@
  *  1. One call at a time on one desk, under a lock of the host's own; so also on one piece, and on one shot. Any thread may
  *     make any call. Calls on different handles may run side by side: a piece and a shot need no lock of the desk.
  *  2. A handle begins as zeros, which is shut: `strokes_desk desk = {0};`, in C++ `{}`. After that these calls alone write it.
- *     It is passed by its address and never copied, unless the copy alone is used from then on. It isn't read while a call on
- *     it runs.
+ *     It is passed by its address. It may be moved, which is to copy it and to use the copy alone from then on. It isn't read or
+ *     moved while a call on it runs.
  *  3. A pointer is good: not NULL, not even at a length of 0, and with as many items as its length says. What a call writes
  *     overlaps nothing else that it is passed.
  *  4. No call is made in a signal handler, or in the child of a fork of a process that has threads.
@@ -241,16 +241,18 @@ strokes_answer strokes_redo(strokes_desk *desk);
 
 /* Takes what can be done next into a shut piece.
  * OK: the piece has work; AGAIN, IDLE, SETTLED, as above, and the piece stays shut; SHUT: the desk is; IN_USE: the piece has
- * work, which is to be given back, or let go, before; NO_MEMORY: nothing was taken, and desk and piece are as they were. */
+ * work, which is to be given back, or let go, before; NO_MEMORY: nothing was taken, and desk and piece are as they were.
+ * Whatever it answers, no pixel of the root's picture changes. */
 strokes_answer strokes_take(strokes_desk *desk, strokes_piece *piece);
 
 /* Gives some of a piece's work to another piece, which is shut, for a thread that has none: one of so many equal shares, so of
  * a piece for n threads n, n - 1 and so on to 2, or more where that would be too little for a thread. What composes the picture
- * anew can be shared, before any of it is done; each of the pieces is then worked on and given back, in any order. The desk
- * has a slot for all of them together. No lock is wanted.
- * OK: the other piece has work; SHUT: the piece is; IN_USE: the other one has work; NO_MEMORY; NOTHING: there is too little
- * work, or some of it is done, or it is of another kind, or there was no memory for that when it was taken. But for OK both are
- * as they were. */
+ * anew can be shared, before any of it is done: the last of its tiles go to the other piece, so many as a share has, and at
+ * least so many as 15,000 points are laid for, by an estimate that is made when the work is taken. Each of the pieces is then
+ * worked on and given back, in any order. The desk has a slot for all of them together. No lock is wanted.
+ * OK: the other piece has work; SHUT: the piece is; IN_USE: the other one has work; NO_MEMORY; NOTHING: `shares` is 0 or 1, or
+ * the other piece would have more than half of the tiles, or some of the work is done, or it is of another kind, or there was no
+ * memory for parts of it when it was taken. But for OK both are as they were. */
 strokes_answer strokes_share(strokes_piece *piece, uint32_t shares, strokes_piece *other);
 
 /* Does a piece's work: paints the tiles of a job, or composes the picture anew where something changed. No lock is wanted.
@@ -262,14 +264,17 @@ strokes_answer strokes_work(strokes_piece *piece);
  * root's picture changed, so this is what a screen draws anew. It has no points where nothing is to be drawn.
  * SHUT: the desk or the piece is; UNDONE; then nothing changed. STRANGER: close the piece, unless it is another desk's; what
  * was composed may be stored up to the first tile that the desk doesn't wait for, of a job nothing is. NO_MEMORY: some of it
- * may be stored, and the same call goes on. In all of these the piece has its work. */
+ * may be stored, and the same call goes on: if the desk waited for the piece, it waits for what the piece has now. In all of
+ * these the piece has its work, and outside the rectangle that OK would have told no pixel of the root's picture changed, at
+ * NO_MEMORY if the desk waits for the piece. */
 strokes_answer strokes_give(strokes_desk *desk, strokes_piece *piece, strokes_rect *drawn);
 
 /* Lets a piece go, whatever it has. The entry that it was for then waits for strokes_settle. A shut one stays shut. */
 void strokes_close_piece(strokes_piece *piece);
 
 /* Paints a few small jobs of the stroke whose turn it is, in the call: for a host of one thread, before each take.
- * OK: some were painted; ask again. NOTHING; SHUT; NO_MEMORY. */
+ * OK: some were painted; ask again. NOTHING; SHUT; NO_MEMORY. Whatever it answers, no pixel of the root's picture changes: what
+ * was painted waits to be composed. */
 strokes_answer strokes_small(strokes_desk *desk);
 
 /* Whether all strokes are closed.
@@ -278,8 +283,8 @@ strokes_answer strokes_all_closed(strokes_desk *desk);
 
 /* Does all that is left, in the call, also work whose piece is out or was let go: that piece is a stranger then. Draw all of
  * the canvas anew.
- * OK: the desk is settled; STROKE_LEFT: some stroke is open, and nothing changed; SHUT; NO_MEMORY: some of it was done, and
- * the same call goes on. */
+ * OK: the desk is settled, and the root's picture is that of the document; STROKE_LEFT: some stroke is open, and nothing
+ * changed; SHUT; NO_MEMORY: some of it may be done, and the same call goes on. */
 strokes_answer strokes_settle(strokes_desk *desk);
 
 /* ---- What is there

@@ -76,7 +76,7 @@ root_found caches (g ∷ gs) = go (eq_by_cmp nat_cmp 0 g) refl (root_found cache
     go false e rest = kept (eq_by_cmp nat_cmp 0 g) (Some (cache caches g)) _ e ∙ rest
 
 -- the root's cache stays
-root_kept : (caches : FinMap nat_cmp Layer) (doc : Doc) → cache (caches_for caches doc) 0 ≡ cache caches 0
+pub root_kept : (caches : FinMap nat_cmp Layer) (doc : Doc) → cache (caches_for caches doc) 0 ≡ cache caches 0
 root_kept caches doc = ap (λ o. unwrap_or o (plain clear)) (ap (λ m. map.get m 0) (sym (for_doc caches doc (order doc ++ 0 ∷ []) refl)) ∙ map.get-from_entries nat_cmp_total (kept_entries caches (order doc ++ 0 ∷ [])) 0 ∙ root_found caches (order doc))
 
 pub marked_kept : (caches : FinMap nat_cmp Layer) (doc : Doc) (frames : List Scene) (laid : Grid) → IsMarked caches frames laid → IsMarked (caches_for caches doc) frames laid

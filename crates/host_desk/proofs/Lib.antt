@@ -4,4 +4,5 @@ pub mod FedJobs
 pub mod FedLines
 pub mod FedScripts
 pub mod KeptPoints
+pub mod KeptRoots
 pub mod WrittenLines

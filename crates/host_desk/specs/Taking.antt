@@ -14,6 +14,7 @@ use Rattle.host_lines.specs.declared.answer.Answer.{Answer}
 use Rattle.host_lines.specs.declared.answer.Answer.TheVariants as answer
 use Rattle.host_pieces.specs.declared.piece.Piece.{Piece}
 use Rattle.host_pieces.specs.declared.piece.Piece.TheVariants as piece
+use Rattle.host_pieces.specs.Giving.{RootStays}
 use Rattle.host_pieces.specs.Jobs.{IsOfTicket}
 use Rattle.host_pieces.specs.Walks.{patch_keys, walk_work}
 
@@ -21,7 +22,7 @@ use Rattle.host_pieces.specs.Walks.{patch_keys, walk_work}
 abbrev pub Started : State → Piece → State → Type 0
 Started s piece.Empty t = ⊥
 Started s (piece.Job j) t = (k : PaintTicket) × IsOfTicket k j × Step s (Start k.slot.place) t × IsPaintTicket k t
-Started s (piece.Walk w) t = Step s (WalkStart w.ticket.slot.place w.ticket.inputs.patch) t × IsWalkTicket w.ticket t × HeadWaits s × (w ≡ walk_work w.ticket (patch_keys w.ticket) [])
+Started s (piece.Walk w) t = Step s (WalkStart w.ticket.slot.place w.ticket.inputs.patch) t × IsWalkTicket w.ticket t × HeadWaits s × (w ≡ walk_work w.ticket (patch_keys w.ticket) [] w.load)
 
 -- nothing may be done before work at hand ends or commands come, and with nothing at hand commands have to come
 pub record Idles (s : State) : Type 0 where
@@ -34,10 +35,10 @@ pub record IsAllDone (s : State) : Type 0 where
   pub meaning : HasMeaning s
   pub picture : ShowsPicture s
 
--- what was taken
+-- what was taken; no pixel of the root's picture changed
 abbrev pub Took : State → Answer → Piece → State → Type 0
-Took s answer.Done p t = Started s p t
-Took s answer.Again p t = (p ≡ piece.Empty) × ((before now : ℕ) × DoesAtOnce s t before now)
+Took s answer.Done p t = Started s p t × RootStays s t
+Took s answer.Again p t = (p ≡ piece.Empty) × ((before now : ℕ) × DoesAtOnce s t before now) × RootStays s t
 Took s answer.Idle p t = (p ≡ piece.Empty) × Idles s × (t ≡ s)
 Took s answer.Settled p t = (p ≡ piece.Empty) × IsAllDone s × (t ≡ s)
 Took s answer.NoMemory p t = (p ≡ piece.Empty) × MayWant s × (t ≡ s)

@@ -6,11 +6,12 @@ ghost use Rattle.doc_model.specs.Feeding.{is_closed_entry};
 ghost use Rattle.doc_model.specs.Strokes.{entries};
 ghost use Rattle.host_lines.specs.declared.answer.Answer.TheVariants as answers;
 ghost use Rattle.host_pieces.specs.declared.piece.Piece.TheVariants as pieces;
-ghost use Rattle.host_pieces.specs.Giving.{ChangesWithin, WorkGiven, WorkKept};
+ghost use Rattle.host_pieces.specs.Giving.{StaysOutside, WorkGiven, WorkKept};
 ghost use Rattle.host_pieces.specs.Pieces.{SameWork, patch_in};
 ghost use Rattle.host_desk.specs.Settling.{AllDone, Painted};
 
 use crate::host::Host;
+use desk_core::settled_shows_picture;
 use geom_core::Rect;
 use host_lines::Answer;
 use host_pieces::Piece;
@@ -24,7 +25,8 @@ impl Host {
     /// patch, or none.
     ///
     /// It answers `Done`, and the piece is empty; `Shut` where it was; `Undone`; `Stranger` where the desk doesn't
-    /// wait for it; `NoMemory`, and with what the piece keeps the same call goes on.
+    /// wait for it; `NoMemory`, and with what the piece keeps the same call goes on. Whatever it answers, the root's
+    /// picture stays outside the rectangle of the piece's work.
     pub fn give(&mut self, piece: &mut Piece) -> (Answer, Option<Rect>)
         ensures given { WorkGiven self.old piece.old result.0 self.new }
 
@@ -34,10 +36,10 @@ impl Host {
             → WorkKept self.old self.new piece.old result.0 piece.new }
         ensures same { (result.0 ≡ answers.Done → ⊥) → SameWork piece.old piece.new }
 
-        // The rectangle. The root's picture is as it was outside.
+        // The rectangle. The root's picture is as it was outside, whatever the answer.
         ensures patch { result.0 ≡ answers.Done → result.1 ≡ patch_in piece.old }
         ensures drawn { (result.0 ≡ answers.Done → ⊥) → result.1 ≡ None }
-        ensures within { result.0 ≡ answers.Done → ChangesWithin result.1 self.old self.new }
+        ensures within { StaysOutside self.old piece.old result.0 self.new }
     {
         let drawn = piece.patch();
         let answer = piece.give_to(self.alloc, &mut self.desk);
@@ -49,7 +51,8 @@ impl Host {
     }
 
     /// Paints a few small jobs of the stroke at the head, where no other thread wants the desk. `Done` where it
-    /// painted some; `Nothing`; `NoMemory`.
+    /// painted some; `Nothing`; `NoMemory`. The root's picture stays: what was painted waits to be composed.
+    #[tactic(auto, using(crate::proofs::KeptRoots::small_keeps))]
     pub fn small(&mut self) -> Answer
         ensures { Painted self.old result self.new }
     {
@@ -68,7 +71,8 @@ impl Host {
     }
 
     /// Does all that is left, in the call, also the work of pieces that are out. `Done` where the desk is settled
-    /// then; `Fault` where a stroke is open, and nothing changed; `NoMemory`, and the same call goes on.
+    /// then, and the root's picture is that of the document; `Fault` where a stroke is open, and nothing changed;
+    /// `NoMemory`, and the same call goes on.
     pub fn settle(&mut self) -> Answer
         ensures { AllDone self.old result self.new }
     {
@@ -88,7 +92,10 @@ impl Host {
     {
         let mut steps = Steps::<L>::new(blank);
         match self.desk.settle(&mut steps) {
-            Ok(()) => Answer::Done,
+            Ok(()) => {
+                settled_shows_picture(&self.desk);
+                Answer::Done
+            }
             Err(_) => Answer::NoMemory,
         }
     }

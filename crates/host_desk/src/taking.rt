@@ -15,7 +15,7 @@ impl Host {
     /// Takes what can be done next. There is a piece exactly where it answers `Done`; it wants no memory for the
     /// piece. `Again`: something was done in the call; `Idle`: nothing can be done before work is given back or
     /// commands are fed, and with nothing at work only commands help; `Settled`; `NoMemory`, only where what may be
-    /// done next takes memory, and all is as it was.
+    /// done next takes memory, and all is as it was. Whatever it answers, the root's picture stays.
     pub fn take(&mut self) -> (Answer, Piece)
         ensures { Took self.old result.0 result.1 self.new }
     {

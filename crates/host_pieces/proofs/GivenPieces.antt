@@ -1,5 +1,5 @@
 -- What a piece has that was given and wasn't taken.
-use Rattle.std.proofs.Common.{◌≡◌, List, refl, subst, inl, inr}
+use Rattle.std.proofs.Common.{◌≡◌, ℕ, List, refl, subst, inl, inr}
 use Rattle.geom_core.specs.Grid.{Key}
 use Rattle.machine_model.specs.State.{State}
 use Rattle.walker_core.specs.Composing.{Composition, composition}
@@ -16,12 +16,12 @@ pub kept_others : (s t : State) (old new : JobPiece) → new.slot ≡ old.slot �
 kept_others s t old new slot others = record { slot = slot; same = λ other. absurd (other refl); others = λ _. others }
 
 -- all of a walk's tiles were composed, as they were given
-module _ (s mid t : State) (k : WalkTicket) (keys tiles : List Key) (slot : SlotId) (c : Composition) (w : WalkWork) (is : walk_work k keys tiles ≡ w) (named : slot ≡ k.slot) (of : c ≡ composition k.inputs tiles) (done : HasAllRows w) where
+module _ (s mid t : State) (k : WalkTicket) (keys tiles : List Key) (load : ℕ) (slot : SlotId) (c : Composition) (w : WalkWork) (is : walk_work k keys tiles load ≡ w) (named : slot ≡ k.slot) (of : c ≡ composition k.inputs tiles) (done : HasAllRows w) where
   -- and published
-  pub walk_stored : (again : List Key) (a : Answer) → again ≡ tiles → RowsGiven slot c keys s mid → WalkEnded mid (walk_work k keys again) a t → WalkGiven s w a t
+  pub walk_stored : (again : List Key) (a : Answer) → again ≡ tiles → RowsGiven slot c keys s mid → WalkEnded mid (walk_work k keys again load) a t → WalkGiven s w a t
   walk_stored again a same given ended =
       subst (λ (x : WalkWork). HasAllRows x → WalkGiven s x a t) is
-      (λ all. inl (all, inl (mid, subst (λ (d : Composition). RowsGiven k.slot d keys s mid) of (subst (λ (x : SlotId). RowsGiven x c keys s mid) named given), subst (λ ts. WalkEnded mid (walk_work k keys ts) a t) same ended))) done
+      (λ all. inl (all, inl (mid, subst (λ (d : Composition). RowsGiven k.slot d keys s mid) of (subst (λ (x : SlotId). RowsGiven x c keys s mid) named given), subst (λ ts. WalkEnded mid (walk_work k keys ts load) a t) same ended))) done
 
   -- and memory ended
   pub walk_breaks : BreaksOff s slot c keys t → WalkGiven s w answer.NoMemory t

@@ -100,3 +100,15 @@ away rect o (k ∷ ks) p out = (
   (λ t h. out (in_within rect (rounded (Some (widened o (tile k))) ks) p h (stays_in (Some (widened o (tile k))) ks p (in_widened o (tile k) p (in_own_tile k p t))))),
   away rect (Some (widened o (tile k))) ks p out,
 )
+
+module _ (rect : Area) (p : Point) where
+  -- one of them, and those from the first on
+  pub away_at : (ks : List Key) (i : ℕ) (k : Key) → IsAway rect p ks → slice_get ks i ≡ Some k → in_tile k p ≡ true → holds rect p ≡ true → ⊥
+  away_at [] i k out at t h = absurd (let none : None ≡ Some k = at in cc)
+  away_at (m ∷ ks) zero k out at t h = let same : m ≡ k = cc in out.0 (subst (λ (q : Key). in_tile q p ≡ true) (sym same) t) h
+  away_at (m ∷ ks) (suc i) k out at t h = away_at ks i k out.1 at t h
+
+  pub away_taken : (ks : List Key) (n : ℕ) → IsAway rect p ks → IsAway rect p (take n ks)
+  away_taken ks zero out = tt
+  away_taken [] (suc n) out = tt
+  away_taken (m ∷ ks) (suc n) out = (out.0, away_taken ks n out.1)

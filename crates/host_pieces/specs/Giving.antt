@@ -21,6 +21,7 @@ use Rattle.host_pieces.specs.declared.piece.Piece.{Piece}
 use Rattle.host_pieces.specs.declared.piece.Piece.TheVariants as piece
 use Rattle.host_pieces.specs.declared.job_piece.JobPiece.{JobPiece}
 use Rattle.host_pieces.specs.Jobs.{are_made}
+use Rattle.host_pieces.specs.Pieces.{patch_in}
 use Rattle.host_pieces.specs.Walks.{HasAllRows, IsWhole, WalkWork, composed_by}
 
 -- ---- jobs
@@ -30,8 +31,8 @@ abbrev pub TilesGiven : State → SlotId → Option (List Entire) → Answer →
 TilesGiven s slot (Some tiles) answer.Done t = MayCommit s slot.place slot.serial tiles × Run s (commit_events slot.place tiles) t
 TilesGiven s slot (Some tiles) answer.Stranger t = (MayCommit s slot.place slot.serial tiles → ⊥) × (t ≡ s)
 TilesGiven s slot (Some tiles) answer.NoMemory t = RunsFront s (commit_events slot.place tiles) t
-TilesGiven s slot None answer.Undone t = t ≡ s
-TilesGiven s slot tiles a t = ⊥
+TilesGiven s slot (Some tiles) a t = ⊥
+TilesGiven s slot None a t = (a ≡ answer.Undone) × (t ≡ s)
 
 -- a job was given, and what its piece has
 abbrev pub JobGiven : State → JobPiece → Answer → State → Type 0
@@ -110,21 +111,45 @@ PartGiven s w keys a t =
 abbrev pub WalkGiven : State → WalkWork → Answer → State → Type 0
 WalkGiven s w a t = (HasAllRows w × PartGiven s w w.keys a t) ⊎ ((HasAllRows w → ⊥) × (a ≡ answer.Undone) × (t ≡ s))
 
+-- the desk waits for all tiles of a walk's piece, as they were composed
+abbrev pub AwaitsWalk : State → WalkWork → Type 0
+AwaitsWalk s w = (i : ℕ) (key : Key) → slice_get w.keys i ≡ Some key → MayPublishRow s w.ticket.slot.place w.ticket.slot.serial (composed_by w) key
+
+-- what a walk's piece has then: what it had; and after want of memory the desk waits for it still, if it waited before
+pub record WalkKept (s t : State) (old : WalkWork) (a : Answer) (new : WalkWork) : Type 0 where
+  pub same : new ≡ old
+  pub goes_on : a ≡ answer.NoMemory → AwaitsWalk s old → AwaitsWalk t old
+
 -- ---- pieces
 
 -- a piece was given
 abbrev pub WorkGiven : State → Piece → Answer → State → Type 0
-WorkGiven s piece.Empty answer.Shut t = t ≡ s
-WorkGiven s piece.Empty a t = ⊥
+WorkGiven s piece.Empty a t = (a ≡ answer.Shut) × (t ≡ s)
 WorkGiven s (piece.Job j) a t = JobGiven s j a t
 WorkGiven s (piece.Walk w) a t = WalkGiven s w a t
 
 -- what the piece has then, if it still has work: what it had, but of a job for which memory ended
 abbrev pub WorkKept : State → State → Piece → Answer → Piece → Type 0
 WorkKept s t (piece.Job j) a (piece.Job k) = JobKept s t j a k
+WorkKept s t (piece.Walk v) a (piece.Walk w) = WalkKept s t v a w
 WorkKept s t p a q = q ≡ p
 
--- the root's cache changed within the rectangle alone, or nowhere
+-- ---- the root's picture
+
+-- no pixel of the root's cache changed
+abbrev pub RootStays : State → State → Type 0
+RootStays s t = (p : Point) → at (cache t.caches 0) p ≡ at (cache s.caches 0) p
+
+-- it changed within the rectangle alone, or nowhere
 abbrev pub ChangesWithin : Option Area → State → State → Type 0
-ChangesWithin None s t = (p : Point) → at (cache t.caches 0) p ≡ at (cache s.caches 0) p
+ChangesWithin None s t = RootStays s t
 ChangesWithin (Some rect) s t = (p : Point) → holds rect p ≡ false → at (cache t.caches 0) p ≡ at (cache s.caches 0) p
+
+-- the desk waits for the work, if it is a walk
+abbrev pub Awaits : State → Piece → Type 0
+Awaits s (piece.Walk w) = AwaitsWalk s w
+Awaits s p = Unit {0}
+
+-- whatever the answer, the root's cache changed within the work's rectangle alone; after want of memory so it is if the desk waits for the work
+abbrev pub StaysOutside : State → Piece → Answer → State → Type 0
+StaysOutside s p a t = (a ≡ answer.NoMemory → Awaits s p) → ChangesWithin (patch_in p) s t

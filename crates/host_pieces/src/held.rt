@@ -1,8 +1,9 @@
 //! A walk's ticket, which several pieces may have.
 
-ghost use Rattle.std.specs.Prelude.{◌≡◌, IfSome};
+ghost use Rattle.std.specs.Prelude.{◌≡◌, IfOk};
 
 use desk_core::WalkTicket;
+use geom_core::NoMemory;
 use std::alloc::Global;
 use std::marker::Model;
 use std::sync::Arc;
@@ -56,18 +57,27 @@ impl Held {
         }
     }
 
-    /// The same ticket for another piece. None where it is for one alone.
-    pub(crate) fn share(&self) -> Option<Held>
-        ensures { IfSome result (λ h. h ≡ self.now) }
+    /// Whether it is for one piece alone.
+    pub(crate) fn is_for_one(&self) -> bool {
+        match &self.by {
+            Holding::One(_) => true,
+            Holding::Parts(_) => false,
+        }
+    }
+
+    /// The same ticket for another piece.
+    ///
+    /// # Errors
+    /// `NoMemory`, also where it is for one piece alone.
+    pub(crate) fn share(&self) -> Result<Held, NoMemory>
+        ensures { IfOk result (λ h. h ≡ self.now) }
     {
         let Holding::Parts(ticket) = &self.by else {
-            return None;
+            return Err(NoMemory);
         };
-        match Arc::try_clone(ticket) {
-            Ok(ticket) => Some(Held {
-                by: Holding::Parts(ticket),
-            }),
-            Err(_) => None,
-        }
+        let ticket = Arc::try_clone(ticket)?;
+        Ok(Held {
+            by: Holding::Parts(ticket),
+        })
     }
 }

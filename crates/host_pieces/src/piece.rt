@@ -35,18 +35,19 @@ impl Piece {
     }
 
     /// Gives some of a walk's tiles to a piece for another thread: one of so many equal shares, or more where that is
-    /// too little work. It answers `Done`; `Shut` where it has no work; `Nothing` where it has a job, or a walk of which
-    /// something is composed or that isn't worth another thread. There is another piece exactly where it answers
-    /// `Done`, and all is as it was where it doesn't.
+    /// too little for a thread. It answers `Done`; `Shut` where it has no work; `Nothing` where it has a job, or a walk of
+    /// which something is composed or half of the tiles is too little, and at 0 or 1 shares; `NoMemory`. There is another
+    /// piece exactly where it answers `Done`, and all is as it was where it doesn't.
     pub fn share(&mut self, alloc: Global, shares: u32) -> (Answer, Piece)
-        ensures { Shared self.old result.0 result.1 self.new }
+        ensures { Shared shares self.old result.0 result.1 self.new }
     {
         match self {
             Piece::Empty => (Answer::Shut, Piece::Empty),
             Piece::Job(_) => (Answer::Nothing, Piece::Empty),
             Piece::Walk(walk) => match walk.share(alloc, shares) {
-                Some(part) => (Answer::Done, Piece::Walk(part)),
-                None => (Answer::Nothing, Piece::Empty),
+                Ok(Some(part)) => (Answer::Done, Piece::Walk(part)),
+                Ok(None) => (Answer::Nothing, Piece::Empty),
+                Err(_) => (Answer::NoMemory, Piece::Empty),
             },
         }
     }

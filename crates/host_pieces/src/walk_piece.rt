@@ -1,8 +1,8 @@
 //! A walk that a thread holds.
 
-ghost use Rattle.std.specs.Prelude.{◌≡◌, ◌≤◌, ◌↔◌, IsTrue, IfSome, IfNone, OnOk, [], length};
+ghost use Rattle.std.specs.Prelude.{◌≡◌, ◌≤◌, ◌↔◌, IsTrue, IsSome, IfSome, IfOk, OnErr, OnOk, Ok, None, [], length};
 ghost use Rattle.walker_core.specs.Composing.{tiles_in};
-ghost use Rattle.host_pieces.specs.Walks.{AreFirstRows, HasAllRows, IsParted, IsWhole, WalksOn, area_in, patch_keys, walk_work};
+ghost use Rattle.host_pieces.specs.Walks.{AreFirstRows, HasAllRows, IsParted, IsWhole, WalksOn, area_in, patch_keys, share_of, share_size as size_by, tiles_worth, walk_work};
 
 use crate::held::Held;
 use crate::part::Part;
@@ -12,7 +12,7 @@ use std::alloc::Global;
 use std::marker::Model;
 use walker_core::{Inputs, Rows};
 
-/// The least work that is worth another thread, as a count of points that are laid.
+/// A part is worth another thread where so many points are laid for it.
 const WORTH: u64 = 15_000;
 
 /// A walk with what it reads, some of the tiles of its patch, and what is composed of them: the first ones.
@@ -21,6 +21,9 @@ pub struct WalkPiece {
     pub(crate) held: Held,
     pub(crate) part: Part,
     pub(crate) rows: Rows,
+    /// About how many points are laid to compose the whole patch, or 0 where there was no memory for parts of the walk.
+    /// It decides what is worth a thread, and no clause says how near it is.
+    load: u64,
 }
 
 impl Model for WalkPiece {
@@ -33,7 +36,7 @@ impl Model for WalkPiece {
     ghost use Rattle.walker_core.specs.Composing.{tiles_in};
     ghost use Rattle.host_pieces.specs.Walks.{IsPartOfWalk, walk_work};
 
-    ghost view = { λ w. walk_work w.held w.part.keys (tiles_in w.rows) };
+    ghost view = { λ w. walk_work w.held w.part.keys (tiles_in w.rows) w.load };
 
     ghost invariant = { λ w. IsPartOfWalk w.held w.part w.rows };
 }
@@ -41,13 +44,16 @@ impl Model for WalkPiece {
 impl WalkPiece {
     /// A walk with all tiles of its patch, of which nothing is composed.
     pub fn new(alloc: Global, ticket: WalkTicket) -> WalkPiece
-        ensures { result ≡ walk_work ticket (patch_keys ticket) [] }
+        ensures { result ≡ walk_work ticket (patch_keys ticket) [] result.load }
     {
         let part = Part::whole(ticket.inputs.patch().rect);
+        let held = Held::new(alloc, ticket);
+        let load = load_of(&held);
         WalkPiece {
-            held: Held::new(alloc, ticket),
+            held,
             part,
             rows: Rows::none(alloc),
+            load,
         }
     }
 
@@ -85,31 +91,71 @@ impl WalkPiece {
     }
 
     /// Gives its last tiles to another piece: one of so many equal shares, or what is worth a thread where that is
-    /// more. None where some of its tiles are composed, or less than that would be left for it.
-    pub(crate) fn share(&mut self, alloc: Global, shares: u32) -> Option<WalkPiece>
-        ensures parted { IfSome result (IsParted self.old self.new) }
-        ensures same { IfNone result (self.new ≡ self.old) }
+    /// more. None where there are fewer than two shares, some of its tiles are composed, or that is more than half of
+    /// them.
+    ///
+    /// # Errors
+    /// `NoMemory`; all is as it was.
+    pub(crate) fn share(
+        &mut self,
+        alloc: Global,
+        shares: u32,
+    ) -> Result<Option<WalkPiece>, NoMemory>
+        ensures parted { IfOk result (λ o. IfSome o (IsParted shares self.old self.new)) }
+        ensures none { result ≡ Ok None → share_of shares self.old ≡ None }
+        ensures same { result ≡ Ok None → self.new ≡ self.old }
+        ensures err { OnErr result (IsSome (share_of shares self.old)) }
+        ensures kept { OnErr result (self.new ≡ self.old) }
     {
-        let tiles = self.part.len();
-        let given = self.worth().max(tiles / shares.max(1)).max(1);
-        if self.rows.len() > 0 || given > tiles / 2 {
+        let Some(count) = self.share_len(shares) else {
+            return Ok(None);
+        };
+        let held = self.held.share()?;
+        Ok(Some(WalkPiece {
+            held,
+            part: self.part.split_off(count),
+            rows: Rows::none(alloc),
+            load: self.load,
+        }))
+    }
+
+    /// How many tiles it gives away.
+    fn share_len(&self, shares: u32) -> Option<u32>
+        ensures { result ≡ share_of shares self.now }
+    {
+        if shares < 2 || self.rows.len() > 0 {
             return None;
         }
-        let held = self.held.share()?;
-        Some(WalkPiece {
-            held,
-            part: self.part.split_off(given),
-            rows: Rows::none(alloc),
-        })
+        let size = self.share_size(shares);
+        if size > u64::from(self.part.len() / 2) {
+            return None;
+        }
+        Some(size as u32)
+    }
+
+    /// How many tiles one of so many equal shares has, but no fewer than are worth a thread.
+    fn share_size(&self, shares: u32) -> u64
+        requires { 2 ≤ shares }
+        ensures { result ≡ size_by shares self.now }
+    {
+        self.worth().max(u64::from(self.part.len() / shares).max(1))
     }
 
     /// About how many tiles of its walk are worth a thread.
-    fn worth(&self) -> u32 {
-        let inputs = &self.held.ticket().inputs;
-        let tiles = u64::from(inputs.patch().rect.tile_count());
-        let worth = WORTH.saturating_mul(tiles) / inputs.load().max(1);
-        worth.min(tiles) as u32
+    fn worth(&self) -> u64
+        ensures { result ≡ tiles_worth self.now }
+    {
+        let rect = self.held.ticket().inputs.patch().rect;
+        WORTH * u64::from(rect.tile_count()) / self.load.max(1)
     }
+}
+
+/// About how many points are laid to compose a walk's patch, or 0 where its ticket is for one piece alone.
+fn load_of(held: &Held) -> u64 {
+    if held.is_for_one() {
+        return 0;
+    }
+    held.ticket().inputs.load()
 }
 
 /// Composes the tiles of a part of a walk of which the first are there already.

@@ -65,7 +65,7 @@ kept_rect answer.SecondLine d old other = refl
 -- nor is there a piece
 pub took_none : (s : State) (a : Answer) (p : Piece) (t : State) → (a ≡ answer.Done → ⊥) → Took s a p t → Took s a piece.Empty t
 took_none s answer.Done p t other h = absurd (other refl)
-took_none s answer.Again p t other h = (refl, h.1)
+took_none s answer.Again p t other h = (refl, h.1, h.2)
 took_none s answer.Idle p t other h = (refl, h.1, h.2)
 took_none s answer.Settled p t other h = (refl, h.1, h.2)
 took_none s answer.Nothing p t other h = h
@@ -81,22 +81,22 @@ took_none s (answer.Fault c) p t other h = h
 took_none s answer.SecondLine p t other h = h
 
 -- nor a piece that shares
-pub shared_none : (p : Piece) (a : Answer) (other q : Piece) → (a ≡ answer.Done → ⊥) → Shared p a other q → Shared p a piece.Empty q
-shared_none p answer.Done other q unlike h = absurd (unlike refl)
-shared_none p answer.Nothing other q unlike h = (h.0, refl, h.2)
-shared_none p answer.Shut other q unlike h = (h.0, refl, h.2)
-shared_none p answer.Again other q unlike h = absurd h
-shared_none p answer.Idle other q unlike h = absurd h
-shared_none p answer.Settled other q unlike h = absurd h
-shared_none p answer.NoMemory other q unlike h = absurd h
-shared_none p answer.InUse other q unlike h = absurd h
-shared_none p answer.Undone other q unlike h = absurd h
-shared_none p answer.Stranger other q unlike h = absurd h
-shared_none p answer.Outside other q unlike h = absurd h
-shared_none p answer.NoRoom other q unlike h = absurd h
-shared_none p answer.Full other q unlike h = absurd h
-shared_none p (answer.Fault c) other q unlike h = absurd h
-shared_none p answer.SecondLine other q unlike h = absurd h
+pub shared_none : (shares : ℕ) (p : Piece) (a : Answer) (other q : Piece) → (a ≡ answer.Done → ⊥) → Shared shares p a other q → Shared shares p a piece.Empty q
+shared_none shares p answer.Done other q unlike h = absurd (unlike refl)
+shared_none shares p answer.Nothing other q unlike h = (h.0, h.1, refl, h.3)
+shared_none shares p answer.Shut other q unlike h = (h.0, refl, h.2)
+shared_none shares p answer.Again other q unlike h = absurd h
+shared_none shares p answer.Idle other q unlike h = absurd h
+shared_none shares p answer.Settled other q unlike h = absurd h
+shared_none shares p answer.NoMemory other q unlike h = (h.0, refl, h.2)
+shared_none shares p answer.InUse other q unlike h = absurd h
+shared_none shares p answer.Undone other q unlike h = absurd h
+shared_none shares p answer.Stranger other q unlike h = absurd h
+shared_none shares p answer.Outside other q unlike h = absurd h
+shared_none shares p answer.NoRoom other q unlike h = absurd h
+shared_none shares p answer.Full other q unlike h = absurd h
+shared_none shares p (answer.Fault c) other q unlike h = absurd h
+shared_none shares p answer.SecondLine other q unlike h = absurd h
 
 -- no text was written
 pub text_refused : (s : State) (next : ℕ) (out : List ℕ) (written : ℕ) (a : Answer) (out' : List ℕ) → TextTold s next out (Err a) out' → TextGiven s next out written a next out' written

@@ -25,7 +25,7 @@ use Rattle.host_lines.specs.Lines.{has_more, line_fault, said}
 use Rattle.host_pieces.specs.declared.piece.Piece.{Piece}
 use Rattle.host_pieces.specs.declared.piece.Piece.TheVariants as piece
 use Rattle.host_desk.specs.Feeding.{Fed, command_fault}
-use Rattle.host_pieces.specs.Giving.{ChangesWithin, WorkGiven, WorkKept}
+use Rattle.host_pieces.specs.Giving.{ChangesWithin, StaysOutside, WorkGiven, WorkKept}
 use Rattle.host_desk.specs.Opening.{OpensScript}
 use Rattle.host_pieces.specs.Pieces.{SameWork, patch_in}
 use Rattle.host_pieces.specs.Pieces as pieces
@@ -93,23 +93,23 @@ WorkedOn old code new =
     ⊎ ((p q : Piece) × (a : Answer) × (old ≡ p ∷ []) × (new ≡ q ∷ []) × (code ≡ code_of a) × pieces.Worked p a q)
 
 -- some of a piece's tiles came into a shut piece; one with work stays; or there was no memory for a piece, and nothing was shared
-abbrev pub SharedInto : Piece → List Piece → Answer → Piece → List Piece → Type 0
-SharedInto p old a q new =
+abbrev pub SharedInto : ℕ → Piece → List Piece → Answer → Piece → List Piece → Type 0
+SharedInto shares p old a q new =
     (HasNoRoom old a × (new ≡ old) × (q ≡ p))
-    ⊎ ((other : Piece) × (old ≡ []) × (new ≡ other ∷ []) × (a ≡ answer.Done) × pieces.Shared p a other q)
-    ⊎ ((old ≡ []) × (new ≡ []) × ((a ≡ answer.Done) → ⊥) × pieces.Shared p a piece.Empty q)
+    ⊎ ((other : Piece) × (old ≡ []) × (new ≡ other ∷ []) × (a ≡ answer.Done) × pieces.Shared shares p a other q)
+    ⊎ ((old ≡ []) × (new ≡ []) × ((a ≡ answer.Done) → ⊥) × pieces.Shared shares p a piece.Empty q)
 
-abbrev pub SharedOut : List Piece → List Piece → ℕ → List Piece → List Piece → Type 0
-SharedOut old held code new holds =
+abbrev pub SharedOut : ℕ → List Piece → List Piece → ℕ → List Piece → List Piece → Type 0
+SharedOut shares old held code new holds =
     ((old ≡ []) × (new ≡ []) × (holds ≡ held) × (code ≡ code_of answer.Shut))
-    ⊎ ((p q : Piece) × (a : Answer) × (old ≡ p ∷ []) × (new ≡ q ∷ []) × (code ≡ code_of a) × SharedInto p held a q holds)
+    ⊎ ((p q : Piece) × (a : Answer) × (old ≡ p ∷ []) × (new ≡ q ∷ []) × (code ≡ code_of a) × SharedInto shares p held a q holds)
 
--- a piece was given: the desk has it, and the rectangle outside of which no pixel of the root's picture changed is told; or the piece keeps its work
+-- a piece was given: the desk has it, and the rectangle outside of which no pixel of the root's picture changed is told; or the piece keeps its work, and no pixel changed outside of that one either
 abbrev pub GivenFrom : State → List Piece → StrokesRect → Answer → State → List Piece → StrokesRect → Type 0
 GivenFrom s old drawn a t new draws =
     ((old ≡ []) × (new ≡ []) × (draws ≡ drawn) × (a ≡ answer.Shut) × (t ≡ s))
     ⊎ ((p : Piece) × (old ≡ p ∷ []) × (new ≡ []) × (draws ≡ rect_by (patch_in p)) × (a ≡ answer.Done) × WorkGiven s p a t × ChangesWithin (patch_in p) s t)
-    ⊎ ((p q : Piece) × (old ≡ p ∷ []) × (new ≡ q ∷ []) × (draws ≡ drawn) × ((a ≡ answer.Done) → ⊥) × WorkGiven s p a t × SameWork p q × WorkKept s t p a q)
+    ⊎ ((p q : Piece) × (old ≡ p ∷ []) × (new ≡ q ∷ []) × (draws ≡ drawn) × ((a ≡ answer.Done) → ⊥) × WorkGiven s p a t × SameWork p q × WorkKept s t p a q × StaysOutside s p a t)
 
 abbrev pub GavePiece : List State → List Piece → StrokesRect → ℕ → List State → List Piece → StrokesRect → Type 0
 GavePiece old held drawn code new holds draws =

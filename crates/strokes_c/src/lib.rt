@@ -215,7 +215,8 @@ pub extern "C" fn strokes_share(
     shares: u32,
     other: &mut PieceHandle,
 ) -> u32
-    ensures { SharedOut piece.old.value other.old.value result piece.new.value other.new.value }
+    ensures { SharedOut shares piece.old.value other.old.value
+        result piece.new.value other.new.value }
 {
     let Some(mut work) = piece.take_out(alloc) else {
         return Answer::Shut.code();
@@ -227,7 +228,7 @@ pub extern "C" fn strokes_share(
 
 /// Gives some of the tiles of a piece's walk to a piece that is shut.
 fn share(alloc: Global, work: &mut Piece, shares: u32, other: &mut PieceHandle) -> Answer
-    ensures { SharedInto work.old other.old.value result work.new other.new.value }
+    ensures { SharedInto shares work.old other.old.value result work.new other.new.value }
 {
     let mut room = match room_for(alloc, other) {
         Ok(room) => room,

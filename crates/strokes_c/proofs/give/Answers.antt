@@ -1,7 +1,5 @@
-use Rattle.std.proofs.Common.{rules, ◌≡◌, [], ◌∷◌, ◌∙◌, Option, refl, sym, subst, ap, inl, inr}
-use Rattle.geom_core.specs.Areas.{Area}
+use Rattle.std.proofs.Common.{rules, ◌≡◌, [], ◌∷◌, ◌∙◌, refl, sym, ap, inl, inr}
 use Rattle.host_lines.specs.declared.answer.Answer.TheVariants as answer
-use Rattle.host_pieces.specs.Giving.{ChangesWithin}
 use Rattle.host_pieces.specs.Pieces.{patch_in}
 use Rattle.strokes_c.proofs.CalledDesks.{is_done, not_done}
 use Rattle.host_lines.specs.Structs.{rect_by}
@@ -22,7 +20,7 @@ returns-then-eq c =
       c.rect_of.ensures ∙ ap rect_by patch,
       done,
       c.give-answer.ensures.given,
-      subst (λ (d : Option Area). ChangesWithin d c.args.host.now c.give-answer.new.self) patch (c.give-answer.ensures.within done),
+      c.give-answer.ensures.within (λ e. let wrong : answer.Done ≡ answer.NoMemory = sym done ∙ e in cc),
     ))
 
 pub returns : goal.returns
@@ -30,4 +28,4 @@ returns c =
     let old : c.args.piece.now.value ≡ c.deref_mut.result.now ∷ [] = search rules in
     let new : c.put.new.self.value ≡ c.give-answer.new.piece ∷ [] = search rules in
     let other = not_done c.give-answer.result.0 (sym c.eq.ensures ∙ c.if-eq.false) in
-    inr (inr (c.deref_mut.result.now, c.give-answer.new.piece, old, new, refl, other, c.give-answer.ensures.given, c.give-answer.ensures.same other, c.give-answer.ensures.kept other))
+    inr (inr (c.deref_mut.result.now, c.give-answer.new.piece, old, new, refl, other, c.give-answer.ensures.given, c.give-answer.ensures.same other, c.give-answer.ensures.kept other, c.give-answer.ensures.within))

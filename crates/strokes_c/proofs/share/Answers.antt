@@ -13,4 +13,4 @@ returns c =
     let not = not_done c.share-answer.result.0 (sym c.eq.ensures ∙ c.if-eq.false) in
     let old : c.args.other.now.value ≡ [] = search rules in
     let new : c.room_for.new.piece.value ≡ [] = search rules in
-    inr (inr (old, new, not, shared_none c.args.work.now c.share-answer.result.0 c.share-answer.result.1 c.share-answer.new.self not c.share-answer.ensures))
+    inr (inr (old, new, not, shared_none c.args.shares c.args.work.now c.share-answer.result.0 c.share-answer.result.1 c.share-answer.new.self not c.share-answer.ensures))
