@@ -4,7 +4,7 @@ ghost use Rattle.std.specs.Prelude.{◌≡◌};
 ghost use Rattle.script_text.specs.Script.{Contents};
 ghost use Rattle.crew_run.specs.Front.{IsFront, nothing};
 
-use crate::effort::{WORTH_TWO, load_of};
+use crate::effort::{ALONE, WORTH_TWO, load_of};
 use crate::feeding::feed_ahead;
 use crate::pieces::{Piece, Walking};
 use crate::work::{Tiles, WalkRows, Work};
@@ -226,15 +226,17 @@ impl<J: Following + StampNaming> Board<J> {
         Ok(Next::Work(Work::Paint { tiles, leaves }))
     }
 
-    /// The first tiles of a new walk. Whoever looks next finds those that are left, or another walk.
+    /// The first tiles of a new walk. Something worth another thread is left where tiles of it are, or where
+    /// it is much work and another walk may start beside it.
     fn begin_walk(&mut self, walk: StampedWalk<J>) -> Result<Next<J>, NoMemory> {
-        let is_large = walk.ticket().inputs.patch().rect.points() > WORTH_TWO;
+        let is_large = walk.ticket().inputs.load() > ALONE;
         let mut walk = Walking::new(Arc::new(self.alloc, walk)?, self.threads);
         if !walk.ranges.is_open() {
             return Err(NoMemory);
         }
         let rows = walk.give()?;
-        let leaves = is_large || walk.ranges.is_open();
+        let leaves =
+            walk.ranges.is_open() || (is_large && self.desk.desk().walk_place().is_some());
         self.walks.push(walk)?;
         Ok(Next::Work(Work::Compose { rows, leaves }))
     }
