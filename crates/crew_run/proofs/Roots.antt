@@ -41,7 +41,7 @@ use Rattle.desk_events.specs.SmallJobs.{PaintsSmall, small_events}
 use Rattle.desk_core.specs.Commits.{Brings, Commits, PublishesRow, commit_events}
 use Rattle.desk_core.specs.declared.answers.Published.{Published}
 use Rattle.desk_core.specs.declared.answers.Published.TheVariants as answers
-use Rattle.crew_run.specs.Watched.{Seen, ShowsRoot, ShowsRootBut, OwesAll, SeesTheSame, KeepsRoot}
+use Rattle.crew_run.specs.Watched.{Seen, SeesRoot, SeesRootBut, OwesAll, SeesTheSame, KeepsRoot}
 
 -- ---- the tree changes
 
@@ -217,18 +217,18 @@ at_once_root {old = old} {new = new} did = λ p. step_root p old new did.event (
 -- ---- what is shown
 
 -- the root stays
-pub still_shown : {seen : Seen} {old new : State} → KeepsRoot old new → ShowsRoot seen old → ShowsRoot seen new
+pub still_shown : {seen : Seen} {old new : State} → KeepsRoot old new → SeesRoot seen old → SeesRoot seen new
 still_shown {seen = seen} same shows = λ p. subst (λ c. IfSome (seen p) (λ d. d ≡ c)) (sym (same p)) (shows p)
 
 -- a row of a walk is published
-pub row_shown : {E : Type 0} {seen : Seen} (old new : State) (place serial : ℕ) (c : Composition) (key : Key) (r : Result Published E) → PublishesRow old place serial c key r new → ShowsRoot seen old → ShowsRootBut key seen new
+pub row_shown : {E : Type 0} {seen : Seen} (old new : State) (place serial : ℕ) (c : Composition) (key : Key) (r : Result Published E) → PublishesRow old place serial c key r new → SeesRoot seen old → SeesRootBut key seen new
 row_shown {seen = seen} old new place serial c key r row shows = λ p out.
     subst (λ d. IfSome (seen p) (λ e. e ≡ d)) (sym (brings_root p _ (row_events old place key) old r new (untouched_pairs p place key (lacking_at (slice_get old.slots place) key) out (row_of_key p (slice_get old.slots place) key)) row)) (shows p)
 
 -- all is owed
-pub owed_shown : {seen : Seen} (s : State) → OwesAll seen → ShowsRoot seen s
+pub owed_shown : {seen : Seen} (s : State) → OwesAll seen → SeesRoot seen s
 owed_shown s owes = λ p. subst (λ (o : Option Rgba). IfSome o (λ c. c ≡ at (cache s.caches 0) p)) (sym (owes p)) tt
 
 -- the same is shown
-pub same_shown : {old new : Seen} (s : State) → SeesTheSame old new → ShowsRoot old s → ShowsRoot new s
+pub same_shown : {old new : Seen} (s : State) → SeesTheSame old new → SeesRoot old s → SeesRoot new s
 same_shown s same shows = λ p. subst (λ (o : Option Rgba). IfSome o (λ c. c ≡ at (cache s.caches 0) p)) (sym (same p)) (shows p)

@@ -13,12 +13,12 @@ abbrev pub Seen : Type 0
 Seen = Point → Option Rgba
 
 -- each pixel that is shown is that of the root's cache
-abbrev pub ShowsRoot : Seen → State → Type 0
-ShowsRoot seen s = (p : Point) → IfSome (seen p) (λ c. c ≡ at (cache s.caches 0) p)
+abbrev pub SeesRoot : Seen → State → Type 0
+SeesRoot seen s = (p : Point) → IfSome (seen p) (λ c. c ≡ at (cache s.caches 0) p)
 
 -- so is each outside that tile
-abbrev pub ShowsRootBut : Key → Seen → State → Type 0
-ShowsRootBut key seen s = (p : Point) → in_tile key p ≡ false → IfSome (seen p) (λ c. c ≡ at (cache s.caches 0) p)
+abbrev pub SeesRootBut : Key → Seen → State → Type 0
+SeesRootBut key seen s = (p : Point) → in_tile key p ≡ false → IfSome (seen p) (λ c. c ≡ at (cache s.caches 0) p)
 
 -- all is owed
 abbrev pub OwesAll : Seen → Type 0

@@ -3,7 +3,7 @@
 ghost use Rattle.std.specs.Prelude.{◌≡◌};
 ghost use Rattle.script_text.specs.Script.{Contents};
 ghost use Rattle.crew_run.specs.Front.{IsFront, nothing};
-ghost use Rattle.crew_run.specs.Watched.{ShowsRoot};
+ghost use Rattle.crew_run.specs.Watched.{SeesRoot};
 
 use crate::effort::{ALONE, WORTH_TWO, load_of};
 use crate::feeding::feed_ahead;
@@ -54,7 +54,7 @@ pub(crate) struct Board<J: Following + StampNaming, W: Watching> {
     of: PhantomData<J>,
     ghost canvas_is: { desk.canvas ≡ J.script.canvas },
     ghost front: { IsFront desk.fed J.script.commands },
-    ghost shows: { ShowsRoot (W.seen watch) desk },
+    ghost shows: { SeesRoot (W.seen watch) desk },
 }
 
 /// What is to be done with the tiles that a thread brought.
@@ -85,7 +85,7 @@ impl<J: Following + StampNaming, W: Watching> Board<J, W> {
     pub(crate) fn new(alloc: Global, desk: StampedDesk<J>, watch: W, threads: usize) -> Board<J, W>
         requires canvas { desk.canvas ≡ J.script.canvas }
         requires front { IsFront desk.fed J.script.commands }
-        requires shows { ShowsRoot (W.seen watch) desk }
+        requires shows { SeesRoot (W.seen watch) desk }
     {
         Board {
             alloc,

@@ -3,7 +3,7 @@
 ghost use Rattle.std.specs.Prelude.{◌≡◌, ◌≤◌, ◌<◌, ◌-◌, ◌^◌, length, IfOk};
 ghost use Rattle.crew_run.specs.Front.{IsFront};
 ghost use Rattle.crew_run.specs.Painted.{IsPaintedBy};
-ghost use Rattle.crew_run.specs.Watched.{ShowsRoot};
+ghost use Rattle.crew_run.specs.Watched.{SeesRoot};
 
 use crate::board::{Board, Brought, Following, Next};
 use crate::feeding::finish;
@@ -255,7 +255,7 @@ pub fn run_watched<R: Threads + Wait + Sync, G: Gate, W: Watching + Send>(
     requires workers { workers ≤ 16 }
     requires few { length script.now.commands ≤ 2 ^ 32 - 1 }
     ensures painted { IfOk result.0 (λ d. IsPaintedBy script.now d) }
-    ensures shows { IfOk result.0 (λ d. ShowsRoot (W.seen result.1) d) }
+    ensures shows { IfOk result.0 (λ d. SeesRoot (W.seen result.1) d) }
 {
     match new_desk(alloc, script, workers + 1) {
         Ok(desk) => named_run::<Brand, Brand, R, G, W>(
@@ -305,7 +305,7 @@ fn named_run<
     requires parts { blank.parts ≡ L.parts }
     requires some { 0 < blank.parts }
     ensures painted { IfOk result.0 (λ d. IsPaintedBy script.now d) }
-    ensures shows { IfOk result.0 (λ d. ShowsRoot (W.seen result.1) d) }
+    ensures shows { IfOk result.0 (λ d. SeesRoot (W.seen result.1) d) }
 {
     let mut watch = watch;
     watch.owe_all();
@@ -342,7 +342,7 @@ fn settle_watched<L: Ledger, W: Watching>(
     requires front { IsFront desk.fed script.now.commands }
     requires few { length script.now.commands ≤ 2 ^ 32 - 1 }
     ensures painted { IfOk result.0 (λ d. IsPaintedBy script.now d) }
-    ensures shows { IfOk result.0 (λ d. ShowsRoot (W.seen result.1) d) }
+    ensures shows { IfOk result.0 (λ d. SeesRoot (W.seen result.1) d) }
 {
     let mut desk = desk;
     let mut watch = watch;

@@ -1,7 +1,7 @@
 //! Who watches the picture while it is painted.
 
 ghost use Rattle.std.specs.Prelude.{None};
-ghost use Rattle.crew_run.specs.Watched.{Seen, ShowsRoot, ShowsRootBut, OwesAll, SeesTheSame};
+ghost use Rattle.crew_run.specs.Watched.{Seen, SeesRoot, SeesRootBut, OwesAll, SeesTheSame};
 
 use desk_core::Desk;
 use geom_core::TileKey;
@@ -15,8 +15,8 @@ pub trait Watching: Drop {
 
     /// Takes over one tile of the root's cache, which may be new there, or owes it.
     fn composed(&mut self, desk: &Desk, key: TileKey)
-        requires { ShowsRootBut key (seen self.old) desk.now }
-        ensures { ShowsRoot (seen self.new) desk.now };
+        requires { SeesRootBut key (seen self.old) desk.now }
+        ensures { SeesRoot (seen self.new) desk.now };
 
     /// Lets others see what it took over, as far as it can.
     fn publish<R: Wait>(&mut self, rt: &R)
