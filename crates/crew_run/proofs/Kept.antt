@@ -32,7 +32,7 @@ step_keeps : (a b : State) (e : Event) → is_feed e ≡ false → Step a e b �
 step_keeps a b e other step = settles_keeps (goes_on a b e other step).settles
 
 at_once_keeps : {a b : State} {before now : ℕ} → DoesAtOnce a b before now → KeepsFed a b
-at_once_keeps did = settles_keeps (goes_at_once did).settles (at_once_root did)
+at_once_keeps {a = a} {b = b} {before = before} {now = now} did = settles_keeps (goes_at_once did).settles (at_once_root a b before now did)
 
 -- what is taken, with something beside it, or nothing for want of memory
 pub take_keeps : {X E : Type 0} (r : Result X E) (taken_of : X → Taken) (a b : State) (before now : ℕ)

@@ -9,10 +9,11 @@ use Rattle.std.specs.FinMap.{FinMap, find}
 use Rattle.std.proofs.lemmas.Bool.Decides.{nat_tests}
 use Rattle.std.proofs.lemmas.Cmp.{nat_cmp_total}
 use Rattle.pixel_core.specs.Rgba.{Rgba, clear}
-use Rattle.geom_core.specs.Areas.{Point}
+use Rattle.geom_core.specs.Areas.{Area, Point}
 use Rattle.geom_core.specs.Grid.{Key}
 use Rattle.geom_core.proofs.Tests.{taken, kept}
 use Rattle.doc_model.specs.declared.command.Command.{Command}
+use Rattle.doc_model.specs.declared.command.Outcome.TheVariants as outcome
 use Rattle.doc_model.specs.declared.tree.TreeFault.{TreeFault}
 use Rattle.doc_model.specs.Layers.{Layer, at, plain}
 use Rattle.doc_model.specs.Readers.{order}
@@ -22,7 +23,7 @@ use Rattle.doc_model.specs.Changes.{changed}
 use Rattle.doc_model.specs.Strokes.{Stroke, Entry, Strokes, Changes, Undoes, Redoes, Purges, Exports}
 use Rattle.whole_tiles.specs.Wholes.{Entire}
 use Rattle.machine_model.specs.State.{Child, Reach, Whole, Part, State, Slot, Free, Paints, Walks}
-use Rattle.machine_model.specs.Effects.{caches_for, moved_to, after_entry, after_change, after_undo, after_redo, after_finish}
+use Rattle.machine_model.specs.Effects.{caches_for, with_outcome, moved_to, after_entry, after_change, after_undo, after_redo, after_finish}
 use Rattle.machine_model.specs.EffectLaws.{ComposesTile}
 use Rattle.machine_model.specs.Event.{Event, Feed, Init, Start, Publish, End, Finish, Cancel, Act, WalkStart, WalkPublish, WalkEnd}
 use Rattle.machine_model.specs.Groups.{cache}
@@ -36,7 +37,7 @@ use Rattle.group_caches.proofs.Keeping.{for_doc}
 use Rattle.slot_work.specs.LaidTiles.{lacking, pairs_at}
 use Rattle.desk_state.specs.Choices.{DoesAtOnce, is_done_at_once}
 use Rattle.desk_state.specs.Enabled.{IsEnd, ends}
-use Rattle.desk_events.specs.Commits.{lacking_at, pair_events, row_events}
+use Rattle.desk_events.specs.Commits.{MayCommit, MayPublishRow, lacking_at, pair_events, row_events}
 use Rattle.desk_events.specs.SmallJobs.{PaintsSmall, small_events}
 use Rattle.desk_core.specs.Commits.{Brings, Commits, PublishesRow, commit_events}
 use Rattle.desk_core.specs.declared.answers.Published.{Published}
@@ -72,15 +73,15 @@ module _ (p : Point) where
 
   change_root : (s : State) (r : Result Doc TreeFault) → root (after_change s r) ≡ root s
   change_root s (Err fault) = refl
-  change_root s (Ok new) = moved_root _ new Whole
+  change_root s (Ok new) = moved_root (record (with_outcome s outcome.Done) { past = (s.base, Whole) ∷ s.past; future = [] }) new Whole
 
   undo_root : (s : State) (es : List (Doc × Reach)) → root (after_undo s es) ≡ root s
   undo_root s [] = refl
-  undo_root s (e ∷ es) = moved_root _ e.0 e.1
+  undo_root s (e ∷ es) = moved_root (record (with_outcome s outcome.Done) { past = es; future = (s.base, e.1) ∷ s.future }) e.0 e.1
 
   redo_root : (s : State) (es : List (Doc × Reach)) → root (after_redo s es) ≡ root s
   redo_root s [] = refl
-  redo_root s (e ∷ es) = moved_root _ e.0 e.1
+  redo_root s (e ∷ es) = moved_root (record (with_outcome s outcome.Done) { past = (s.base, e.1) ∷ s.past; future = es }) e.0 e.1
 
   act_root : (s : State) (entry : Entry) → root (after_entry s entry) ≡ root s
   act_root s (Strokes stroke) = refl
@@ -145,7 +146,7 @@ module _ (p : Point) where
 
   untouched_small : (place : ℕ) (key : Key) (n : ℕ) → Untouched (small_events place key n)
   untouched_small place key zero = tt
-  untouched_small place key (suc n) = (refl, refl, refl, untouched_small place key n)
+  untouched_small place key (suc n) = (refl, (refl, (refl, untouched_small place key n)))
 
   -- all pairs are of that tile
   abbrev OfKey : Key → List (ℕ × Key) → Type 0
@@ -203,32 +204,32 @@ fed_root (Ok x) old new c ok err = λ p. step_root p old new (Feed c) refl ok
 fed_root (Err e) old new c ok err = λ p. ap (root p) err
 
 pub commit_root : {E : Type 0} (old new : State) (place serial : ℕ) (tiles : List Entire) (r : Result Published E) → Commits old place serial tiles r new → KeepsRoot old new
-commit_root old new place serial tiles r h = λ p. brings_root p _ (commit_events place tiles) old r new (untouched_commit p place tiles) h
+commit_root old new place serial tiles r h = λ p. brings_root p (MayCommit old place serial tiles) (commit_events place tiles) old r new (untouched_commit p place tiles) h
 
-pub small_root : {old new : State} {bound : _} → PaintsSmall old bound new → KeepsRoot old new
-small_root {old = old} {new = new} small = λ p. run_root p (small_events small.place small.key small.count) old new (untouched_small p small.place small.key small.count) small.run
+pub small_root : (old new : State) (bound : Area) → PaintsSmall old bound new → KeepsRoot old new
+small_root old new bound small = λ p. run_root p (small_events small.place small.key small.count) old new (untouched_small p small.place small.key small.count) small.run
 
-pub end_root : {old new : State} {place : ℕ} → IsEnd old place new → KeepsRoot old new
-end_root {old = old} {new = new} {place = place} h = λ p. step_root p old new h.0 (untouched_end p place h.0 h.1) h.2
+pub end_root : (old new : State) (place : ℕ) → IsEnd old place new → KeepsRoot old new
+end_root old new place h = λ p. step_root p old new h.0 (untouched_end p place h.0 h.1) h.2
 
-pub at_once_root : {old new : State} {before now : ℕ} → DoesAtOnce old new before now → KeepsRoot old new
-at_once_root {old = old} {new = new} did = λ p. step_root p old new did.event (untouched_at_once p did.event did.at_once) did.step
+pub at_once_root : (old new : State) (before now : ℕ) → DoesAtOnce old new before now → KeepsRoot old new
+at_once_root old new before now did = λ p. step_root p old new did.event (untouched_at_once p did.event did.at_once) did.step
 
 -- ---- what is shown
 
 -- the root stays
-pub still_shown : {seen : Seen} {old new : State} → KeepsRoot old new → SeesRoot seen old → SeesRoot seen new
-still_shown {seen = seen} same shows = λ p. subst (λ c. IfSome (seen p) (λ d. d ≡ c)) (sym (same p)) (shows p)
+pub still_shown : (seen : Seen) (old new : State) → KeepsRoot old new → SeesRoot seen old → SeesRoot seen new
+still_shown seen old new same shows = λ p. subst (λ c. IfSome (seen p) (λ d. d ≡ c)) (sym (same p)) (shows p)
 
 -- a row of a walk is published
-pub row_shown : {E : Type 0} {seen : Seen} (old new : State) (place serial : ℕ) (c : Composition) (key : Key) (r : Result Published E) → PublishesRow old place serial c key r new → SeesRoot seen old → SeesRootBut key seen new
-row_shown {seen = seen} old new place serial c key r row shows = λ p out.
-    subst (λ d. IfSome (seen p) (λ e. e ≡ d)) (sym (brings_root p _ (row_events old place key) old r new (untouched_pairs p place key (lacking_at (slice_get old.slots place) key) out (row_of_key p (slice_get old.slots place) key)) row)) (shows p)
+pub row_shown : {E : Type 0} (seen : Seen) (old new : State) (place serial : ℕ) (c : Composition) (key : Key) (r : Result Published E) → PublishesRow old place serial c key r new → SeesRoot seen old → SeesRootBut key seen new
+row_shown seen old new place serial c key r row shows = λ p out.
+    subst (λ d. IfSome (seen p) (λ e. e ≡ d)) (sym (brings_root p (MayPublishRow old place serial c key) (row_events old place key) old r new (untouched_pairs p place key (lacking_at (slice_get old.slots place) key) out (row_of_key p (slice_get old.slots place) key)) row)) (shows p)
 
 -- all is owed
-pub owed_shown : {seen : Seen} (s : State) → OwesAll seen → SeesRoot seen s
-owed_shown s owes = λ p. subst (λ (o : Option Rgba). IfSome o (λ c. c ≡ at (cache s.caches 0) p)) (sym (owes p)) tt
+pub owed_shown : (seen : Seen) (s : State) → OwesAll seen → SeesRoot seen s
+owed_shown seen s owes = λ p. subst (λ (o : Option Rgba). IfSome o (λ c. c ≡ at (cache s.caches 0) p)) (sym (owes p)) tt
 
 -- the same is shown
-pub same_shown : {old new : Seen} (s : State) → SeesTheSame old new → SeesRoot old s → SeesRoot new s
-same_shown s same shows = λ p. subst (λ (o : Option Rgba). IfSome o (λ c. c ≡ at (cache s.caches 0) p)) (sym (same p)) (shows p)
+pub same_shown : (old new : Seen) (s : State) → SeesTheSame old new → SeesRoot old s → SeesRoot new s
+same_shown old new s same shows = λ p. subst (λ (o : Option Rgba). IfSome o (λ c. c ≡ at (cache s.caches 0) p)) (sym (same p)) (shows p)

@@ -219,6 +219,27 @@ fn together<
     });
 }
 
+/// The caller works alone up to the first work that is worth so many workers, and then beside them.
+fn work_all<
+    J: Following + StampNaming + Send + Sync,
+    L: Ledger,
+    R: Threads + Wait + Sync,
+    G: Gate,
+    W: Watching + Send,
+>(
+    crew: &Crew<'_, J, R, G, W>,
+    alloc: Global,
+    workers: u8,
+    steps: Steps<L>,
+) -> Steps<L> {
+    let mut caller = Worker { alloc, crew, steps };
+    if let Some(work) = caller.alone() {
+        together(&mut caller, workers, work);
+    }
+    let Worker { steps, .. } = caller;
+    steps
+}
+
 /// Paints a script by so many workers and the caller. What is promised holds if it returns: then it is
 /// the same for every number of workers and every order of their steps.
 ///
@@ -274,7 +295,6 @@ pub fn run_watched<R: Threads + Wait + Sync, G: Gate, W: Watching + Send>(
 }
 
 /// The crew of `run_watched`, with the script, the stamps and the ledger of the caller's steps under names.
-/// The caller works alone up to the first work that is worth the workers.
 fn named_run<
     'a,
     J: Following + StampNaming + Send + Sync,
@@ -317,15 +337,7 @@ fn named_run<
         board: Mutex::new(Board::new(alloc, desk, watch, usize::from(workers) + 1)),
         changed: Condvar::new(),
     };
-    let mut caller = Worker {
-        alloc,
-        crew: &crew,
-        steps: Steps::<L>::new(blank),
-    };
-    if let Some(work) = caller.alone() {
-        together(&mut caller, workers, work);
-    }
-    let Worker { mut steps, .. } = caller;
+    let mut steps = work_all(&crew, alloc, workers, Steps::<L>::new(blank));
     let Crew { board, .. } = crew;
     let (desk, watch) = board.into_inner().into_parts();
     settle_watched(desk, watch, script, &mut steps)
