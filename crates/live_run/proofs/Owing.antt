@@ -32,7 +32,7 @@ use Rattle.live_run.proofs.RootTiles.{all_published}
 
 -- ---- which tiles are owed
 
-owing : Key → Owed
+pub owing : Key → Owed
 owing k = record { key = k }
 
 same_false : (a b : Bool) → (a || b) ≡ false → (a ≡ false) × (b ≡ false)
@@ -184,6 +184,22 @@ total_is w = sym (length-append (updates_of (published w)) (pending w))
 
 pub same_total : (old new : Feed) → all_updates new ≡ all_updates old → total new ≡ total old
 same_total old new same = total_is new ∙ ap (λ (us : List Update). length us) same ∙ sym (total_is old)
+
+-- ---- a put
+
+pub put_total : {X E : Type 0} (r : Result X E) (old new : Feed) (u : Update) (most : ℕ) → published new ≡ published old → OnOk r (pending new ≡ pending old ++ u ∷ []) → OnErr r (pending new ≡ pending old) → total old + 1 ≤ most → total new ≤ most
+put_total (Ok x) old new u most same more none few =
+    let n : length (updates_of (published new)) ≡ length (updates_of (published old)) = ap (λ (rows : Rows). length (updates_of rows)) same in
+    let m : length (pending new) ≡ length (pending old) + 1 = ap (λ (us : List Update). length us) more ∙ length-append (pending old) (u ∷ []) in
+    omega arith
+put_total (Err e) old new u most same more none few =
+    let n : length (updates_of (published new)) ≡ length (updates_of (published old)) = ap (λ (rows : Rows). length (updates_of rows)) same in
+    let m : length (pending new) ≡ length (pending old) = ap (λ (us : List Update). length us) none in
+    omega arith
+
+pub put_none : {X E : Type 0} (r : Result X E) (old new : Feed) → published new ≡ published old → OnErr r (pending new ≡ pending old) → OnErr r (all_updates new ≡ all_updates old)
+put_none (Ok x) old new same none = tt
+put_none (Err e) old new same none = λ i. updates_of (same i) ++ none i
 
 -- ---- rows that begin with others
 

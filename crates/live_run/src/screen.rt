@@ -83,8 +83,8 @@ fn put_owed<K: Naming>(
     ensures laid { OnOk result
         (LaysDown owed.now (all_updates live.old) (all_updates live.new) desk.now) }
 {
-    for tile in owed {
-        put_tile(live, blank, desk, tile.key)?;
+    for i in 0..owed.len() {
+        put_tile(live, blank, desk, owed[i].key)?;
     }
     Ok(())
 }
