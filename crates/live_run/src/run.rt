@@ -71,10 +71,17 @@ pub fn paint_live<K: Naming + Send + Sync, R: Threads + Wait + Sync, G: Gate>(
     ensures err { OnErr result (StartsWith (published live.new) (published live.old)) }
 {
     let lent = Lent::new(live);
-    let (painted, _lent) = paint_lent::<K, Brand, R, G>(rt, alloc, script, workers, gate, lent);
-    let desk = painted?;
+    let done = paint_lent::<K, Brand, R, G>(rt, alloc, script, workers, gate, lent);
+    let desk = done.desk?;
     settled_shows_picture(&desk);
     Ok(desk)
+}
+
+/// What comes back of a painting: the desk, if there was memory, and the writer that was lent.
+#[derive(Drop)]
+struct Done<'w, K: Naming> {
+    desk: Result<Desk, NoMemory>,
+    lent: Lent<'w, K>,
 }
 
 /// Paints the script, shows what the crew composes, and at the end the whole canvas. The writer's reference, what
@@ -92,25 +99,31 @@ fn paint_lent<
     workers: u8,
     gate: &G,
     lent: Lent<'w, K>,
-) -> (Result<Desk, NoMemory>, Lent<'w, K>)
+) -> Done<'w, K>
     requires workers { workers ≤ 16 }
     requires few { length script.now.commands ≤ 2 ^ 32 - 1 }
     requires canvas { script.now.canvas ≡ B.canvas }
     requires before { published lent.writer.now ≡ B.before }
     requires reference { lent.writer.ghost_name ≡ B.reference }
-    ensures painted { IfOk result.0 (λ d. IsPaintedBy script.now d) }
-    ensures pending { IfOk result.0 (λ _. pending result.1.writer.now ≡ []) }
-    ensures root { IfOk result.0
-        (λ d. ShowsRoot (updates_of (published result.1.writer.now)) d) }
-    ensures goes_on { StartsWith (published result.1.writer.now) B.before }
-    ensures reference { result.1.writer.ghost_name ≡ B.reference }
+    ensures painted { IfOk result.desk (λ d. IsPaintedBy script.now d) }
+    ensures pending { IfOk result.desk (λ _. pending result.lent.writer.now ≡ []) }
+    ensures root { IfOk result.desk
+        (λ d. ShowsRoot (updates_of (published result.lent.writer.now)) d) }
+    ensures goes_on { StartsWith (published result.lent.writer.now) B.before }
+    ensures reference { result.lent.writer.ghost_name ≡ B.reference }
 {
     let _commands = script.commands();
     let Ok(blank) = Tile::clear(alloc) else {
-        return (Err(NoMemory), lent);
+        return Done {
+            desk: Err(NoMemory),
+            lent,
+        };
     };
     if lent.writer.count() > MOST {
-        return (Err(NoMemory), lent);
+        return Done {
+            desk: Err(NoMemory),
+            lent,
+        };
     }
     let screen: Screen<'w, K, B> = Screen::new(lent, blank, &script.canvas());
     let (painted, screen) = run_watched(rt, alloc, script, workers, gate, screen);
@@ -122,24 +135,27 @@ fn show_last<'w, K: Naming, B: Lending, R: Wait>(
     rt: &R,
     painted: Result<Desk, NoMemory>,
     screen: Screen<'w, K, B>,
-) -> (Result<Desk, NoMemory>, Lent<'w, K>)
+) -> Done<'w, K>
     requires canvas { IfOk painted (λ d. d.canvas ≡ B.canvas) }
     requires shows { IfOk painted (λ d. SeesRoot (seen_in screen.tiles screen.owed.items
         (all_updates screen.lent.writer.now)) d) }
-    ensures desk { IfOk result.0 (λ d. painted ≡ Ok d) }
-    ensures pending { IfOk result.0 (λ _. pending result.1.writer.now ≡ []) }
-    ensures root { IfOk result.0
-        (λ d. ShowsRoot (updates_of (published result.1.writer.now)) d) }
-    ensures goes_on { StartsWith (published result.1.writer.now) B.before }
-    ensures reference { result.1.writer.ghost_name ≡ B.reference }
+    ensures desk { IfOk result.desk (λ d. painted ≡ Ok d) }
+    ensures pending { IfOk result.desk (λ _. pending result.lent.writer.now ≡ []) }
+    ensures root { IfOk result.desk
+        (λ d. ShowsRoot (updates_of (published result.lent.writer.now)) d) }
+    ensures goes_on { StartsWith (published result.lent.writer.now) B.before }
+    ensures reference { result.lent.writer.ghost_name ≡ B.reference }
 {
     let mut screen = screen;
-    let shown = match painted {
+    let desk = match painted {
         Ok(desk) => match screen.lay_owed(rt, &desk) {
             Ok(()) => Ok(desk),
             Err(NoMemory) => Err(NoMemory),
         },
         Err(NoMemory) => Err(NoMemory),
     };
-    (shown, screen.into_lent())
+    Done {
+        desk,
+        lent: screen.into_lent(),
+    }
 }
