@@ -21,7 +21,7 @@ use Rattle.crew_run.specs.Watched.{KeepsRoot}
 use Rattle.crew_run.proofs.Roots.{at_once_root}
 
 keeps_same : {a b : State} → b ≡ a → KeepsFed a b
-keeps_same {a = a} e = subst (KeepsFed a) (sym e) (record { canvas = refl; fed = refl; root = λ p. refl })
+keeps_same {a = a} e = subst (KeepsFed a) (sym e) (record { canvas = refl; fed = refl; root = record { root = λ p. refl } })
 
 -- what is known of other events
 pub settles_keeps : {a b : State} → Settles a b → KeepsRoot a b → KeepsFed a b
@@ -32,7 +32,7 @@ step_keeps : (a b : State) (e : Event) → is_feed e ≡ false → Step a e b �
 step_keeps a b e other step = settles_keeps (goes_on a b e other step).settles
 
 at_once_keeps : {a b : State} {before now : ℕ} → DoesAtOnce a b before now → KeepsFed a b
-at_once_keeps {a = a} {b = b} {before = before} {now = now} did = settles_keeps (goes_at_once did).settles (at_once_root a b before now did)
+at_once_keeps did = settles_keeps (goes_at_once did).settles (at_once_root did)
 
 -- what is taken, with something beside it, or nothing for want of memory
 pub take_keeps : {X E : Type 0} (r : Result X E) (taken_of : X → Taken) (a b : State) (before now : ℕ)
@@ -47,8 +47,8 @@ take_keeps (Err e) taken_of a b before now paint walk did idle settled err = kee
 take_keeps (Ok x) taken_of a b before now paint walk did idle settled err = go (taken_of x) refl
   where
     go : (t : Taken) → taken_of x ≡ t → KeepsFed a b
-    go (taken.Paint t) is = let step : Step a (Start t.slot.place) b = (paint t is).0 in step_keeps a b (Start t.slot.place) refl step (λ p. ap (λ (s : State). at (cache s.caches 0) p) step.new_is)
-    go (taken.Walk t) is = let step : Step a (WalkStart t.slot.place t.inputs.patch) b = (walk t is).0 in step_keeps a b (WalkStart t.slot.place t.inputs.patch) refl step (λ p. ap (λ (s : State). at (cache s.caches 0) p) step.new_is)
+    go (taken.Paint t) is = let step : Step a (Start t.slot.place) b = (paint t is).0 in step_keeps a b (Start t.slot.place) refl step (record { root = λ p. ap (λ (s : State). at (cache s.caches 0) p) step.new_is })
+    go (taken.Walk t) is = let step : Step a (WalkStart t.slot.place t.inputs.patch) b = (walk t is).0 in step_keeps a b (WalkStart t.slot.place t.inputs.patch) refl step (record { root = λ p. ap (λ (s : State). at (cache s.caches 0) p) step.new_is })
     go taken.Did is = at_once_keeps (did is)
     go taken.Idle is = keeps_same (idle is).1
     go taken.Settled is = keeps_same (settled is).1

@@ -1,6 +1,6 @@
 -- Events that leave the root's cache at a point.
 use Rattle.std.proofs.Common.{◌≡◌, ℕ, suc, zero, Bool, true, false, cond, eqb, Option, Some, None, Ok, Err, List, [], ◌∷◌, ◌++◌, take, OnErr, refl, sym, ap, ◌∙◌, subst, arith}
-use Rattle.std.specs.Prelude.{Result, OnOk, IfSome, map, slice_get}
+use Rattle.std.specs.Prelude.{Result, OnOk, IfOk, IfSome, map, slice_get}
 use Rattle.std.specs.List.{list_any}
 use Rattle.std.specs.Option.{unwrap_or}
 use Rattle.std.specs.Ordering.{nat_cmp, eq_by_cmp}
@@ -199,37 +199,48 @@ module _ (p : Point) where
 
 -- ---- what is done under the lock
 
-pub fed_root : {X E : Type 0} (r : Result X E) (old new : State) (c : Command) → OnOk r (Step old (Feed c) new) → OnErr r (new ≡ old) → KeepsRoot old new
-fed_root (Ok x) old new c ok err = λ p. step_root p old new (Feed c) refl ok
-fed_root (Err e) old new c ok err = λ p. ap (root p) err
+pub fed_root : {X E : Type 0} {r : Result X E} {old new : State} {c : Command} → OnOk r (Step old (Feed c) new) → OnErr r (new ≡ old) → KeepsRoot old new
+fed_root {r = Ok x} {old = old} {new = new} {c = c} ok err = record { root = λ p. step_root p old new (Feed c) refl ok }
+fed_root {r = Err e} {old = old} {new = new} ok err = record { root = λ p. ap (root p) err }
 
 pub commit_root : {E : Type 0} (old new : State) (place serial : ℕ) (tiles : List Entire) (r : Result Published E) → Commits old place serial tiles r new → KeepsRoot old new
-commit_root old new place serial tiles r h = λ p. brings_root p (MayCommit old place serial tiles) (commit_events place tiles) old r new (untouched_commit p place tiles) h
+commit_root old new place serial tiles r h = record { root = λ p. brings_root p (MayCommit old place serial tiles) (commit_events place tiles) old r new (untouched_commit p place tiles) h }
 
-pub small_root : (old new : State) (bound : Area) → PaintsSmall old bound new → KeepsRoot old new
-small_root old new bound small = λ p. run_root p (small_events small.place small.key small.count) old new (untouched_small p small.place small.key small.count) small.run
+pub small_root : {old new : State} {bound : Area} → PaintsSmall old bound new → KeepsRoot old new
+small_root {old = old} {new = new} small = record { root = λ p. run_root p (small_events small.place small.key small.count) old new (untouched_small p small.place small.key small.count) small.run }
 
 pub end_root : (old new : State) (place : ℕ) → IsEnd old place new → KeepsRoot old new
-end_root old new place h = λ p. step_root p old new h.0 (untouched_end p place h.0 h.1) h.2
+end_root old new place h = record { root = λ p. step_root p old new h.0 (untouched_end p place h.0 h.1) h.2 }
 
-pub at_once_root : (old new : State) (before now : ℕ) → DoesAtOnce old new before now → KeepsRoot old new
-at_once_root old new before now did = λ p. step_root p old new did.event (untouched_at_once p did.event did.at_once) did.step
+pub at_once_root : {old new : State} {before now : ℕ} → DoesAtOnce old new before now → KeepsRoot old new
+at_once_root {old = old} {new = new} did = record { root = λ p. step_root p old new did.event (untouched_at_once p did.event did.at_once) did.step }
+
+pub same_root : {old new : State} → new ≡ old → KeepsRoot old new
+same_root e = record { root = λ p. ap (root p) e }
+
+-- small jobs may be painted, or none
+pub smalls_root : {E : Type 0} {r : Result (Option Area) E} {old new : State} → IfOk r (λ o. IfSome o (λ bound. PaintsSmall old bound new)) → (r ≡ Ok None → new ≡ old) → OnErr r (new ≡ old) → KeepsRoot old new
+smalls_root {r = Ok (Some bound)} some none err = small_root some
+smalls_root {r = Ok None} some none err = same_root (none refl)
+smalls_root {r = Err e} some none err = same_root err
 
 -- ---- what is shown
 
 -- the root stays
-pub still_shown : (seen : Seen) (old new : State) → KeepsRoot old new → SeesRoot seen old → SeesRoot seen new
-still_shown seen old new same shows = λ p. subst (λ c. IfSome (seen p) (λ d. d ≡ c)) (sym (same p)) (shows p)
+pub still_shown : {seen : Seen} {old new : State} → KeepsRoot old new → SeesRoot seen old → SeesRoot seen new
+still_shown {seen = seen} same shows = record { shows = λ p. subst (λ c. IfSome (seen p) (λ d. d ≡ c)) (sym (same.root p)) (shows.shows p) }
 
 -- a row of a walk is published
-pub row_shown : {E : Type 0} (seen : Seen) (old new : State) (place serial : ℕ) (c : Composition) (key : Key) (r : Result Published E) → PublishesRow old place serial c key r new → SeesRoot seen old → SeesRootBut key seen new
-row_shown seen old new place serial c key r row shows = λ p out.
-    subst (λ d. IfSome (seen p) (λ e. e ≡ d)) (sym (brings_root p (MayPublishRow old place serial c key) (row_events old place key) old r new (untouched_pairs p place key (lacking_at (slice_get old.slots place) key) out (row_of_key p (slice_get old.slots place) key)) row)) (shows p)
+pub row_shown : {E : Type 0} {seen : Seen} (old new : State) (place serial : ℕ) (c : Composition) (key : Key) (r : Result Published E) → PublishesRow old place serial c key r new → SeesRoot seen old → SeesRootBut key seen new
+row_shown {seen = seen} old new place serial c key r row shows = record {
+  shows = λ p out. subst (λ d. IfSome (seen p) (λ e. e ≡ d))
+      (sym (brings_root p (MayPublishRow old place serial c key) (row_events old place key) old r new (untouched_pairs p place key (lacking_at (slice_get old.slots place) key) out (row_of_key p (slice_get old.slots place) key)) row)) (shows.shows p);
+}
 
 -- all is owed
-pub owed_shown : (seen : Seen) (s : State) → OwesAll seen → SeesRoot seen s
-owed_shown seen s owes = λ p. subst (λ (o : Option Rgba). IfSome o (λ c. c ≡ at (cache s.caches 0) p)) (sym (owes p)) tt
+pub owed_shown : {seen : Seen} {s : State} → OwesAll seen → SeesRoot seen s
+owed_shown {s = s} all = record { shows = λ p. subst (λ (o : Option Rgba). IfSome o (λ c. c ≡ at (cache s.caches 0) p)) (sym (all.owes p)) tt }
 
 -- the same is shown
-pub same_shown : (old new : Seen) (s : State) → SeesTheSame old new → SeesRoot old s → SeesRoot new s
-same_shown old new s same shows = λ p. subst (λ (o : Option Rgba). IfSome o (λ c. c ≡ at (cache s.caches 0) p)) (sym (same p)) (shows p)
+pub same_shown : {old new : Seen} {s : State} → SeesTheSame old new → SeesRoot old s → SeesRoot new s
+same_shown {s = s} still shows = record { shows = λ p. subst (λ (o : Option Rgba). IfSome o (λ c. c ≡ at (cache s.caches 0) p)) (sym (still.same p)) (shows.shows p) }

@@ -13,21 +13,21 @@ abbrev pub Seen : Type 0
 Seen = Point → Option Rgba
 
 -- each pixel that is shown is that of the root's cache
-abbrev pub SeesRoot : Seen → State → Type 0
-SeesRoot seen s = (p : Point) → IfSome (seen p) (λ c. c ≡ at (cache s.caches 0) p)
+pub record SeesRoot (seen : Seen) (s : State) : Type 0 where
+  pub shows : (p : Point) → IfSome (seen p) (λ c. c ≡ at (cache s.caches 0) p)
 
 -- so is each outside that tile
-abbrev pub SeesRootBut : Key → Seen → State → Type 0
-SeesRootBut key seen s = (p : Point) → in_tile key p ≡ false → IfSome (seen p) (λ c. c ≡ at (cache s.caches 0) p)
+pub record SeesRootBut (key : Key) (seen : Seen) (s : State) : Type 0 where
+  pub shows : (p : Point) → in_tile key p ≡ false → IfSome (seen p) (λ c. c ≡ at (cache s.caches 0) p)
 
 -- all is owed
-abbrev pub OwesAll : Seen → Type 0
-OwesAll seen = (p : Point) → seen p ≡ None
+pub record OwesAll (seen : Seen) : Type 0 where
+  pub owes : (p : Point) → seen p ≡ None
 
 -- the same is shown
-abbrev pub SeesTheSame : Seen → Seen → Type 0
-SeesTheSame old new = (p : Point) → new p ≡ old p
+pub record SeesTheSame (old new : Seen) : Type 0 where
+  pub same : (p : Point) → new p ≡ old p
 
 -- the root's cache stays
-abbrev pub KeepsRoot : State → State → Type 0
-KeepsRoot old new = (p : Point) → at (cache new.caches 0) p ≡ at (cache old.caches 0) p
+pub record KeepsRoot (old new : State) : Type 0 where
+  pub root : (p : Point) → at (cache new.caches 0) p ≡ at (cache old.caches 0) p

@@ -159,6 +159,7 @@ impl<J: Following + StampNaming, W: Watching> Board<J, W> {
     /// New work, or one event. While jobs are at work for which the head waits nothing is composed: what they
     /// change would be composed again. Small jobs are painted in place where the caller is alone; where there
     /// are workers, each job is painted outside the lock.
+    #[tactic(auto, using(crate::proofs::Roots::still_shown, crate::proofs::Roots::smalls_root))]
     fn take<L: Ledger>(
         &mut self,
         script: &Script,
@@ -258,6 +259,7 @@ impl<J: Following + StampNaming, W: Watching> Board<J, W> {
     }
 
     /// Publishes all tiles of a job, and ends it. Where that can't be done the threads are to stop.
+    #[tactic(auto, using(crate::proofs::Roots::still_shown, crate::proofs::Roots::commit_root))]
     pub(crate) fn put_job(&mut self, made: &StampedTiles<J>) {
         self.jobs = self.jobs.saturating_sub(1);
         match self.desk.commit(made) {
@@ -268,6 +270,7 @@ impl<J: Following + StampNaming, W: Watching> Board<J, W> {
 
     /// Publishes tiles of a walk, of all its groups, and ends it where they are its last. Where that can't be
     /// done the threads are to stop.
+    #[tactic(auto, using(crate::proofs::Roots::same_shown))]
     pub(crate) fn put_rows<R: Wait>(&mut self, rt: &R, rows: &WalkRows<J>, composed: &Composed<'_>)
         requires { composed.now.readings ≡ rows.now.walk.value.inputs }
     {
@@ -284,6 +287,7 @@ impl<J: Following + StampNaming, W: Watching> Board<J, W> {
     }
 
     /// Publishes a tile of a walk, of all its groups, and tells who watches. `false` where that can't be done.
+    #[tactic(auto, using(crate::proofs::Roots::row_shown))]
     fn put_row(&mut self, rows: &WalkRows<J>, composed: &Composed<'_>, key: TileKey) -> bool
         requires { composed.now.readings ≡ rows.now.walk.value.inputs }
     {
@@ -293,6 +297,7 @@ impl<J: Following + StampNaming, W: Watching> Board<J, W> {
     }
 
     /// Ends a walk where these were its last tiles.
+    #[tactic(auto, using(crate::proofs::Roots::still_shown, crate::proofs::Roots::end_root, crate::proofs::Roots::same_root))]
     fn tell_done(&mut self, rows: &WalkRows<J>) {
         let slot = rows.walk.ticket().slot;
         let Some(i) = self.walks.iter().position(|w| w.serial() == slot.serial) else {

@@ -295,6 +295,7 @@ pub fn run_watched<R: Threads + Wait + Sync, G: Gate, W: Watching + Send>(
 }
 
 /// The crew of `run_watched`, with the script, the stamps and the ledger of the caller's steps under names.
+#[tactic(auto, using(crate::proofs::Roots::owed_shown))]
 fn named_run<
     'a,
     J: Following + StampNaming + Send + Sync,
@@ -344,6 +345,7 @@ fn named_run<
 }
 
 /// Does what is left of a script on the caller's thread, while all is owed.
+#[tactic(auto, using(crate::proofs::Roots::owed_shown))]
 fn settle_watched<L: Ledger, W: Watching>(
     desk: Desk,
     watch: W,

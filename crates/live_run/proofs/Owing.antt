@@ -112,28 +112,28 @@ shown_when tiles owed us s p on none h =
 
 -- a tile was put
 pub put_seen : {old new : List Update} {s : State} {key : Key} (tiles : Area) (owed less : List Owed) → PutsRoot old new s key → OwesBut key owed less → SeesRootBut key (seen_in tiles owed old) s → SeesRoot (seen_in tiles less new) s
-put_seen {old = old} {new = new} {s = s} {key = key} tiles owed less put but shows p = seen_when tiles less new s p (λ on none. go (in_tile key p) refl on none)
+put_seen {old = old} {new = new} {s = s} {key = key} tiles owed less put but seen = record { shows = λ p. seen_when tiles less new s p (λ on none. go p (in_tile key p) refl on none) }
   where
-    go : (b : Bool) → in_tile key p ≡ b → list_any (same_key (key_of p)) (keys_of tiles) ≡ true → owes less (key_of p) ≡ false → ShowsAt new s p
-    go true e on none = put_shows put p e
-    go false e on none = put_keeps put p e ∙ shown_when tiles owed old s p on (but (key_of p) none e) (shows p e)
+    go : (p : Point) (b : Bool) → in_tile key p ≡ b → list_any (same_key (key_of p)) (keys_of tiles) ≡ true → owes less (key_of p) ≡ false → ShowsAt new s p
+    go p true e on none = put_shows put p e
+    go p false e on none = put_keeps put p e ∙ shown_when tiles owed old s p on (but (key_of p) none e) (seen.shows p e)
 
 -- a tile wasn't put
 pub refused_seen : {old new : List Update} {s : State} {key : Key} (tiles : Area) (owed more : List Owed) → new ≡ old → OwesMore key tiles owed more → SeesRootBut key (seen_in tiles owed old) s → SeesRoot (seen_in tiles more new) s
-refused_seen {old = old} {new = new} {s = s} {key = key} tiles owed more same owing' shows p =
-    seen_when tiles more new s p (λ on none. ap (λ us. shown_at us p) same ∙ shown_when tiles owed old s p on (owing' (key_of p) on none).1 (shows p (owing' (key_of p) on none).0))
+refused_seen {old = old} {new = new} {s = s} {key = key} tiles owed more same owing' seen =
+    record { shows = λ p. seen_when tiles more new s p (λ on none. ap (λ us. shown_at us p) same ∙ shown_when tiles owed old s p on (owing' (key_of p) on none).1 (seen.shows p (owing' (key_of p) on none).0)) }
 
 -- all is owed
 pub each_owed : (tiles : Area) (owed : List Owed) (us : List Update) → OwesEach tiles owed → OwesAll (seen_in tiles owed us)
-each_owed tiles owed us each p = go (list_any (same_key (key_of p)) (keys_of tiles)) refl
+each_owed tiles owed us each = record { owes = λ p. go p (list_any (same_key (key_of p)) (keys_of tiles)) refl }
   where
-    go : (b : Bool) → list_any (same_key (key_of p)) (keys_of tiles) ≡ b → cond (b && not (owes owed (key_of p))) (Some (shown_at us p)) None ≡ None
-    go false e = refl
-    go true e = ap (λ b. cond (true && not b) (Some (shown_at us p)) None) (each (key_of p) e)
+    go : (p : Point) (b : Bool) → list_any (same_key (key_of p)) (keys_of tiles) ≡ b → cond (b && not (owes owed (key_of p))) (Some (shown_at us p)) None ≡ None
+    go p false e = refl
+    go p true e = ap (λ b. cond (true && not b) (Some (shown_at us p)) None) (each (key_of p) e)
 
 -- the same updates
 pub same_seen : (tiles : Area) (owed : List Owed) (old new : List Update) → new ≡ old → SeesTheSame (seen_in tiles owed old) (seen_in tiles owed new)
-same_seen tiles owed old new same p = ap (λ us. seen_in tiles owed us p) same
+same_seen tiles owed old new same = record { same = λ p. ap (λ us. seen_in tiles owed us p) same }
 
 -- ---- what is owed is laid down
 
@@ -160,11 +160,11 @@ lays_all old new s owed i past so = subst (λ xs. LaysDown xs old new s) (take_a
 
 -- then the updates show all tiles
 pub laid_shown : (tiles : Area) (owed : List Owed) (old new : List Update) (s : State) → SeesRoot (seen_in tiles owed old) s → LaysDown owed old new s → ShowsTiles new s (keys_of tiles)
-laid_shown tiles owed old new s shows lays p on = go (owes owed (key_of p)) refl
+laid_shown tiles owed old new s seen lays p on = go (owes owed (key_of p)) refl
   where
     go : (b : Bool) → owes owed (key_of p) ≡ b → ShowsAt new s p
     go true e = lays p (inl e)
-    go false e = lays p (inr (shown_when tiles owed old s p on e (shows p)))
+    go false e = lays p (inr (shown_when tiles owed old s p on e (seen.shows p)))
 
 -- ---- a publish
 

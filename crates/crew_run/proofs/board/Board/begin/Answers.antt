@@ -12,7 +12,7 @@ invariant_of-self g c =
     record {
       canvas_is = keeps.canvas ∙ c.args.self.now.canvas_is;
       front = subst (λ (fed : List Command). IsFront fed g.J.Following.script.commands) (sym keeps.fed) c.args.self.now.front;
-      shows = still_shown (g.W.Watching.seen c.args.self.now.watch) c.args.self.now.desk c.take.new.self keeps.root c.args.self.now.shows;
+      shows = still_shown keeps.root c.args.self.now.shows;
     }
 
 pub new-requires-clause-checked : goal.new-requires-clause-checked
