@@ -228,19 +228,22 @@ smalls_root {r = Err e} some none err = same_root err
 
 -- the root stays
 pub still_shown : {seen : Seen} {old new : State} → KeepsRoot old new → SeesRoot seen old → SeesRoot seen new
-still_shown {seen = seen} same shows = record { shows = λ p. subst (λ c. IfSome (seen p) (λ d. d ≡ c)) (sym (same.root p)) (shows.shows p) }
+still_shown same seen = record { shows = λ p c e. seen.shows p c e ∙ sym (same.root p) }
 
 -- a row of a walk is published
 pub row_shown : {E : Type 0} {seen : Seen} (old new : State) (place serial : ℕ) (c : Composition) (key : Key) (r : Result Published E) → PublishesRow old place serial c key r new → SeesRoot seen old → SeesRootBut key seen new
-row_shown {seen = seen} old new place serial c key r row shows = record {
-  shows = λ p out. subst (λ d. IfSome (seen p) (λ e. e ≡ d))
-      (sym (brings_root p (MayPublishRow old place serial c key) (row_events old place key) old r new (untouched_pairs p place key (lacking_at (slice_get old.slots place) key) out (row_of_key p (slice_get old.slots place) key)) row)) (shows.shows p);
+row_shown old new place serial c key r row seen = record {
+  shows = λ p d out e. seen.shows p d e
+      ∙ sym (brings_root p (MayPublishRow old place serial c key) (row_events old place key) old r new (untouched_pairs p place key (lacking_at (slice_get old.slots place) key) out (row_of_key p (slice_get old.slots place) key)) row);
 }
 
 -- all is owed
 pub owed_shown : {seen : Seen} {s : State} → OwesAll seen → SeesRoot seen s
-owed_shown {s = s} all = record { shows = λ p. subst (λ (o : Option Rgba). IfSome o (λ c. c ≡ at (cache s.caches 0) p)) (sym (all.owes p)) tt }
+owed_shown all = record { shows = λ p c e. absurd (none (sym (all.owes p) ∙ e)) }
+  where
+    none : {c : Rgba} → None ≡ Some c → ⊥
+    none h = cc
 
 -- the same is shown
 pub same_shown : {old new : Seen} {s : State} → SeesTheSame old new → SeesRoot old s → SeesRoot new s
-same_shown {s = s} still shows = record { shows = λ p. subst (λ (o : Option Rgba). IfSome o (λ c. c ≡ at (cache s.caches 0) p)) (sym (still.same p)) (shows.shows p) }
+same_shown still seen = record { shows = λ p c e. seen.shows p c (sym (still.same p) ∙ e) }

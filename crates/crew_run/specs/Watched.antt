@@ -1,5 +1,5 @@
 -- What somebody who watches shows of a desk's root.
-use Rattle.std.specs.Prelude.{◌≡◌, false, Option, None, IfSome}
+use Rattle.std.specs.Prelude.{◌≡◌, false, Option, Some, None}
 use Rattle.pixel_core.specs.Rgba.{Rgba}
 use Rattle.geom_core.specs.Areas.{Point}
 use Rattle.geom_core.specs.Grid.{Key}
@@ -14,11 +14,11 @@ Seen = Point → Option Rgba
 
 -- each pixel that is shown is that of the root's cache
 pub record SeesRoot (seen : Seen) (s : State) : Type 0 where
-  pub shows : (p : Point) → IfSome (seen p) (λ c. c ≡ at (cache s.caches 0) p)
+  pub shows : (p : Point) (c : Rgba) → seen p ≡ Some c → c ≡ at (cache s.caches 0) p
 
 -- so is each outside that tile
 pub record SeesRootBut (key : Key) (seen : Seen) (s : State) : Type 0 where
-  pub shows : (p : Point) → in_tile key p ≡ false → IfSome (seen p) (λ c. c ≡ at (cache s.caches 0) p)
+  pub shows : (p : Point) (c : Rgba) → in_tile key p ≡ false → seen p ≡ Some c → c ≡ at (cache s.caches 0) p
 
 -- all is owed
 pub record OwesAll (seen : Seen) : Type 0 where

@@ -1,8 +1,8 @@
 -- Tiles that are owed, put and laid down.
-use Rattle.std.proofs.Common.{◌≡◌, ℕ, suc, zero, ◌+◌, ◌*◌, ◌≤◌, Bool, true, false, not, ◌&&◌, ◌||◌, cond, List, [], ◌∷◌, ◌++◌, length, take, map, Option, Some, None, Result, Ok, Err, ◌⊎◌, inl, inr, refl, sym, ap, ◌∙◌, subst, append_assoc, append-nil, arith}
-use Rattle.std.specs.Prelude.{ℤ, pos, ◌+ℤ◌, ◌-ℤ◌, IfSome, OnOk, OnErr, slice_get, remove}
+use Rattle.std.proofs.Common.{◌≡◌, ℕ, suc, zero, ◌+◌, ◌*◌, ◌≤◌, Bool, true, false, not, ◌&&◌, ◌||◌, cond, List, [], ◌∷◌, ◌++◌, length, take, drop, map, Option, Some, None, Result, Ok, Err, ◌⊎◌, inl, inr, refl, sym, ap, ◌∙◌, subst, append_assoc, append-nil, arith}
+use Rattle.std.specs.Prelude.{ℤ, pos, ◌+ℤ◌, ◌-ℤ◌, OnOk, OnErr, slice_get, remove}
 use Rattle.std.specs.List.{list_any}
-use Rattle.std.proofs.lemmas.List.{length-append, take_all}
+use Rattle.std.proofs.lemmas.List.{length-append, take_all, take_at}
 use Rattle.std.proofs.lemmas.List.Folds.{list_any_more}
 use Rattle.std.proofs.lemmas.List.Sums.{fold-append}
 use Rattle.std.proofs.lemmas.Option.{slice_get_within, get_or_from_slice_get}
@@ -26,7 +26,7 @@ use Rattle.live_view.specs.Shown.{Rows, updates_of, newer, shown, with_row, Star
 use Rattle.live_view.specs.Views.{Feed, published, pending, all_updates, total}
 use Rattle.live_view.proofs.Keeping.{starts_self}
 use Rattle.live_run.specs.declared.owed.Owed.{Owed}
-use Rattle.live_run.specs.Owing.{owes, shown_at, seen_in, OwesBut, OwesMore, OwesEach, ShowsAt, LaysDown}
+use Rattle.live_run.specs.Owing.{owes, shown_at, seen_in, BeginsWith, OwesBut, OwesMore, OwesEach, ShowsAt, LaysDown}
 use Rattle.live_run.specs.Showing.{PutsRoot, ShowsTiles}
 use Rattle.live_run.proofs.RootTiles.{all_published}
 
@@ -97,18 +97,23 @@ module _ {old new : List Update} {s : State} {key : Key} (put : PutsRoot old new
 
 -- what isn't owed is shown
 seen_when : (tiles : Area) (owed : List Owed) (us : List Update) (s : State) (p : Point)
-    → (list_any (same_key (key_of p)) (keys_of tiles) ≡ true → owes owed (key_of p) ≡ false → ShowsAt us s p) → IfSome (seen_in tiles owed us p) (λ c. c ≡ at (cache s.caches 0) p)
-seen_when tiles owed us s p so = go (list_any (same_key (key_of p)) (keys_of tiles)) (owes owed (key_of p)) refl refl
+    → (list_any (same_key (key_of p)) (keys_of tiles) ≡ true → owes owed (key_of p) ≡ false → ShowsAt us s p) → (c : Rgba) → seen_in tiles owed us p ≡ Some c → c ≡ at (cache s.caches 0) p
+seen_when tiles owed us s p so c = go (list_any (same_key (key_of p)) (keys_of tiles)) (owes owed (key_of p)) refl refl
   where
-    go : (a b : Bool) → list_any (same_key (key_of p)) (keys_of tiles) ≡ a → owes owed (key_of p) ≡ b → IfSome (cond (a && not b) (Some (shown_at us p)) None) (λ c. c ≡ at (cache s.caches 0) p)
-    go false b e f = tt
-    go true true e f = tt
-    go true false e f = so e f
+    none : None ≡ Some c → ⊥
+    none h = cc
+
+    one : Some (shown_at us p) ≡ Some c → shown_at us p ≡ c
+    one h = cc
+
+    go : (a b : Bool) → list_any (same_key (key_of p)) (keys_of tiles) ≡ a → owes owed (key_of p) ≡ b → cond (a && not b) (Some (shown_at us p)) None ≡ Some c → c ≡ at (cache s.caches 0) p
+    go false b e f h = absurd (none h)
+    go true true e f h = absurd (none h)
+    go true false e f h = sym (one h) ∙ so e f
 
 shown_when : (tiles : Area) (owed : List Owed) (us : List Update) (s : State) (p : Point) → list_any (same_key (key_of p)) (keys_of tiles) ≡ true → owes owed (key_of p) ≡ false
-    → IfSome (seen_in tiles owed us p) (λ c. c ≡ at (cache s.caches 0) p) → ShowsAt us s p
-shown_when tiles owed us s p on none h =
-    subst (λ b. IfSome (cond b (Some (shown_at us p)) None) (λ c. c ≡ at (cache s.caches 0) p)) ((λ i. on i && not (owes owed (key_of p))) ∙ ap not none) h
+    → ((c : Rgba) → seen_in tiles owed us p ≡ Some c → c ≡ at (cache s.caches 0) p) → ShowsAt us s p
+shown_when tiles owed us s p on none so = so (shown_at us p) (λ i. cond (on i && not (none i)) (Some (shown_at us p)) None)
 
 -- a tile was put
 pub put_seen : {old new : List Update} {s : State} {key : Key} (tiles : Area) (owed less : List Owed) → PutsRoot old new s key → OwesBut key owed less → SeesRootBut key (seen_in tiles owed old) s → SeesRoot (seen_in tiles less new) s
@@ -116,12 +121,12 @@ put_seen {old = old} {new = new} {s = s} {key = key} tiles owed less put but see
   where
     go : (p : Point) (b : Bool) → in_tile key p ≡ b → list_any (same_key (key_of p)) (keys_of tiles) ≡ true → owes less (key_of p) ≡ false → ShowsAt new s p
     go p true e on none = put_shows put p e
-    go p false e on none = put_keeps put p e ∙ shown_when tiles owed old s p on (but (key_of p) none e) (seen.shows p e)
+    go p false e on none = put_keeps put p e ∙ shown_when tiles owed old s p on (but (key_of p) none e) (λ c h. seen.shows p c e h)
 
 -- a tile wasn't put
 pub refused_seen : {old new : List Update} {s : State} {key : Key} (tiles : Area) (owed more : List Owed) → new ≡ old → OwesMore key tiles owed more → SeesRootBut key (seen_in tiles owed old) s → SeesRoot (seen_in tiles more new) s
 refused_seen {old = old} {new = new} {s = s} {key = key} tiles owed more same owing' seen =
-    record { shows = λ p. seen_when tiles more new s p (λ on none. ap (λ us. shown_at us p) same ∙ shown_when tiles owed old s p on (owing' (key_of p) on none).1 (seen.shows p (owing' (key_of p) on none).0)) }
+    record { shows = λ p. seen_when tiles more new s p (λ on none. ap (λ us. shown_at us p) same ∙ shown_when tiles owed old s p on (owing' (key_of p) on none).1 (λ c h. seen.shows p c (owing' (key_of p) on none).0 h)) }
 
 -- all is owed
 pub each_owed : (tiles : Area) (owed : List Owed) (us : List Update) → OwesEach tiles owed → OwesAll (seen_in tiles owed us)
@@ -203,8 +208,25 @@ put_none (Err e) old new same none = λ i. updates_of (same i) ++ none i
 
 -- ---- rows that begin with others
 
-pub starts_on : (a b c : Rows) → StartsWith c b → StartsWith b a → StartsWith c a
-starts_on a b c more first = (first.0 ++ more.0, more.1 ∙ ap (λ rows. rows ++ more.0) first.1 ∙ append_assoc a first.0 more.0)
+rejoined : {A : Type 0} (n : ℕ) (xs : List A) → take n xs ++ drop n xs ≡ xs
+rejoined zero xs = refl
+rejoined (suc n) [] = refl
+rejoined (suc n) (x ∷ xs) = ap (λ ys. x ∷ ys) (rejoined n xs)
+
+pub begins_starts : (rows front : Rows) → BeginsWith rows front → StartsWith rows front
+begins_starts rows front e = (drop (length front) rows, sym (rejoined (length front) rows) ∙ ap (λ xs. xs ++ drop (length front) rows) (sym e))
+
+pub starts_begins : (rows front : Rows) → StartsWith rows front → BeginsWith rows front
+starts_begins rows front h = sym (ap (λ xs. take (length front) xs) h.1 ∙ take_at front h.0 (length front) refl)
+
+pub begins_self : (rows : Rows) → BeginsWith rows rows
+begins_self rows = sym (take_all (length rows) rows (omega arith))
+
+-- more rows begin with those too
+pub begins_on : (a b c : Rows) → StartsWith c b → BeginsWith b a → BeginsWith c a
+begins_on a b c more begins =
+    let first : StartsWith b a = begins_starts b a begins in
+    starts_begins c a (first.0 ++ more.0, more.1 ∙ ap (λ rows. rows ++ more.0) first.1 ∙ append_assoc a first.0 more.0)
 
 -- ---- the tiles of a canvas
 

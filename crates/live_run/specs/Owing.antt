@@ -1,5 +1,5 @@
 -- Tiles that are owed, and what is shown on the others.
-use Rattle.std.specs.Prelude.{◌≡◌, Bool, true, false, ◌&&◌, ◌⊎◌, not, cond, Option, Some, None, List}
+use Rattle.std.specs.Prelude.{◌≡◌, Bool, true, false, ◌&&◌, ◌⊎◌, not, cond, Option, Some, None, List, take, length}
 use Rattle.std.specs.List.{list_any}
 use Rattle.pixel_core.specs.Rgba.{Rgba, clear}
 use Rattle.geom_core.specs.Areas.{Area, Point}
@@ -9,7 +9,7 @@ use Rattle.doc_model.specs.Layers.{at}
 use Rattle.machine_model.specs.State.{State}
 use Rattle.machine_model.specs.Groups.{cache}
 use Rattle.live_view.specs.declared.update.Update.{Update}
-use Rattle.live_view.specs.Shown.{shown}
+use Rattle.live_view.specs.Shown.{Rows, shown}
 use Rattle.live_run.specs.declared.owed.Owed.{Owed}
 
 -- whether the tile is owed
@@ -43,3 +43,7 @@ ShowsAt updates s p = shown_at updates p ≡ at (cache s.caches 0) p
 -- what was owed is shown, and what was shown still is
 abbrev pub LaysDown : List Owed → List Update → List Update → State → Type 0
 LaysDown owed old new s = (p : Point) → (owes owed (key_of p) ≡ true) ⊎ ShowsAt old s p → ShowsAt new s p
+
+-- the rows begin with those
+abbrev pub BeginsWith : Rows → Rows → Type 0
+BeginsWith rows front = front ≡ take (length front) rows

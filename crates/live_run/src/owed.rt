@@ -26,6 +26,7 @@ impl Default for Owed {
 }
 
 /// Owes each tile of the rectangle.
+#[tactic(auto, using(crate::proofs::Owing::owing_more, crate::proofs::Owing::owed_each))]
 pub(crate) fn owe_all(owed: &mut ArrayVec<Owed, 1024>, tiles: &Rect)
     requires { length (keys_of tiles.now) ≤ 1024 }
     ensures { OwesEach tiles.now owed.new.items }
@@ -39,6 +40,7 @@ pub(crate) fn owe_all(owed: &mut ArrayVec<Owed, 1024>, tiles: &Rect)
 }
 
 /// Owes that tile of the rectangle too.
+#[tactic(auto, using(crate::proofs::Owing::owed_more, crate::proofs::Owing::each_is_more))]
 pub(crate) fn owe(owed: &mut ArrayVec<Owed, 1024>, tiles: &Rect, key: TileKey)
     requires { length (keys_of tiles.now) ≤ 1024 }
     ensures { OwesMore key tiles.now owed.old.items owed.new.items }
@@ -51,6 +53,7 @@ pub(crate) fn owe(owed: &mut ArrayVec<Owed, 1024>, tiles: &Rect, key: TileKey)
 }
 
 /// Owes a tile no more, or once less.
+#[tactic(auto, using(crate::proofs::Owing::owed_less))]
 pub(crate) fn forgive(owed: &mut ArrayVec<Owed, 1024>, key: TileKey)
     ensures { OwesBut key owed.old.items owed.new.items }
 {

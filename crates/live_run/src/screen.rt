@@ -8,7 +8,7 @@ ghost use Rattle.doc_model.specs.Picture.{canvas_area};
 ghost use Rattle.crew_run.specs.Watched.{SeesRoot};
 ghost use Rattle.live_view.specs.Shown.{updates_of, StartsWith};
 ghost use Rattle.live_view.specs.Views.{published, pending, all_updates, total};
-ghost use Rattle.live_run.specs.Owing.{seen_in, LaysDown};
+ghost use Rattle.live_run.specs.Owing.{seen_in, BeginsWith, LaysDown};
 ghost use Rattle.live_run.specs.Showing.{PutsRoot, ShowsTiles};
 
 use crate::lent::{Lending, Lent};
@@ -102,12 +102,13 @@ pub(crate) struct Screen<'w, K: Naming, B: Lending> {
     ghost tiles_are: { tiles ≡ canvas_area B.canvas },
     ghost few_tiles: { length (keys_of tiles) ≤ 1024 },
     ghost few: { total lent.writer.now ≤ 2 ^ 62 },
-    ghost goes_on: { StartsWith (published lent.writer.now) B.before },
+    ghost goes_on: { BeginsWith (published lent.writer.now) B.before },
     ghost same_reference: { lent.writer.ghost_name ≡ B.reference },
 }
 
 impl<'w, K: Naming, B: Lending> Screen<'w, K, B> {
     /// A screen of that canvas.
+    #[tactic(auto, using(crate::proofs::Owing::tiles_few, crate::proofs::Owing::begins_self))]
     pub(crate) fn new(lent: Lent<'w, K>, blank: Tile, canvas: &Canvas) -> Screen<'w, K, B>
         requires limits { IsOfLimits canvas.now }
         requires canvas { canvas.now ≡ B.canvas }
@@ -129,6 +130,7 @@ impl<'w, K: Naming, B: Lending> Screen<'w, K, B> {
     ///
     /// # Errors
     /// `NoMemory`.
+    #[tactic(auto, using(crate::proofs::Owing::begins_on, crate::proofs::Owing::laid_shown))]
     pub(crate) fn lay_owed<R: Wait>(&mut self, rt: &R, desk: &Desk) -> Result<(), NoMemory>
         requires { SeesRoot (seen_in self.old.tiles self.old.owed.items
             (all_updates self.old.lent.writer.now)) desk.now }
@@ -143,6 +145,7 @@ impl<'w, K: Naming, B: Lending> Screen<'w, K, B> {
     }
 
     /// The writer that was lent.
+    #[tactic(auto, using(crate::proofs::Owing::begins_starts))]
     pub(crate) fn into_lent(self) -> Lent<'w, K>
         ensures same { result.writer.now ≡ self.lent.writer.now }
         ensures goes_on { StartsWith (published result.writer.now) B.before }
@@ -159,6 +162,7 @@ impl<'w, K: Naming, B: Lending> Watching for Screen<'w, K, B> {
 
     ghost seen = { λ s. seen_in s.tiles s.owed.items (all_updates s.lent.writer.now) };
 
+    #[tactic(auto, using(crate::proofs::Owing::put_seen, crate::proofs::Owing::refused_seen))]
     fn composed(&mut self, desk: &Desk, key: TileKey) {
         let lent = &mut self.lent;
         match put_tile(lent.writer, &self.blank, desk, key) {
@@ -167,11 +171,13 @@ impl<'w, K: Naming, B: Lending> Watching for Screen<'w, K, B> {
         }
     }
 
+    #[tactic(auto, using(crate::proofs::Owing::begins_on, crate::proofs::Owing::same_seen))]
     fn publish<R: Wait>(&mut self, rt: &R) {
         let lent = &mut self.lent;
         let _ = publish(rt, lent.writer);
     }
 
+    #[tactic(auto, using(crate::proofs::Owing::each_owed))]
     fn owe_all(&mut self) {
         owe_all(&mut self.owed, &self.tiles);
     }

@@ -1,4 +1,4 @@
-use Rattle.std.proofs.Common.{arith, ◌∙◌}
+use Rattle.std.proofs.Common.{arith, refl}
 use Rattle.live_view.specs.Views.{all_updates}
 use Rattle.live_run.proofs.Owing.{lays_none, lays_more, lays_all}
 use Rattle.live_run.proofs.screen.put_owed.Goals as goal
