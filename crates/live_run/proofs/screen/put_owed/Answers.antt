@@ -1,0 +1,10 @@
+use Rattle.std.proofs.Common.{arith, refl}
+use Rattle.live_view.specs.Views.{all_updates}
+use Rattle.live_run.proofs.Owing.{lays_none, lays_more, lays_all}
+use Rattle.live_run.proofs.screen.put_owed.Goals as goal
+
+pub loop-i-init : goal.loop-i-init
+loop-i-init g c = (c.requires.few, refl, lays_none (all_updates c.args.live.now) c.args.desk.now c.args.owed.now)
+
+pub returns-clause-laid : goal.returns-clause-laid
+returns-clause-laid g c = lays_all (all_updates c.args.live.now) (all_updates c.loop-i.live) c.args.desk.now c.args.owed.now c.loop-i.i (omega arith) c.loop-i.invariant.2
