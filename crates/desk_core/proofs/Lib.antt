@@ -14,3 +14,4 @@ mod SmallDamage
 mod Committing
 mod SmallJobs
 mod Painting
+pub mod KeptRoots
