@@ -26,6 +26,11 @@ def scripts():
     return [other("tools", name, f"tools/{name}") for name in ("launcher-test", "docs-check", "header-check")]
 
 
+def pages():
+    """What the pages show: scripts and errors of the language, and programs in C; each with what has to be built for it."""
+    return {other("pages", "language-check", "tools/language-check"): "strokes", other("pages", "snippets-check", "tools/snippets-check"): "hosts"}
+
+
 def of_main(crate):
     return other("programs", crate, f"crates/{crate}/src/main.rt")
 
@@ -44,12 +49,12 @@ def refused():
 
 def everything():
     of_crates = [test for crate in crates.crates_of_tests() for test in crates.tests_of(crate)]
-    return [*of_crates, *of_programs(), *scripts(), *hosts(), refused()]
+    return [*of_crates, *of_programs(), *scripts(), *pages(), *hosts(), refused()]
 
 
 def missing(test):
     """What a test needs that isn't there, if so."""
-    needs = {"hosts": ["cc", "ar"], "memory": ["cc"]}.get(test.part, [])
+    needs = ["cc", "ar"] if test.part == "hosts" or pages().get(test) == "hosts" else ["cc"] if test.part == "memory" else []
     if test.part == "hosts":
         needs = [*needs, COMPILERS[test.name_in_crate]]
     words = {"cc": os.environ.get("CC"), "c++": os.environ.get("CXX")}

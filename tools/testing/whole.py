@@ -92,9 +92,10 @@ class Run:
         for program in self.chosen:
             yield self.build_tests, program
         mains = self.of_parts("programs")
-        if parts.of_main("strokes") in mains or self.of_parts("hosts"):
+        needed = {parts.pages()[test] for test in self.of_parts("pages")}
+        if parts.of_main("strokes") in mains or self.of_parts("hosts") or "strokes" in needed:
             yield self.build_strokes,
-        if self.of_parts("hosts"):
+        if self.of_parts("hosts") or "hosts" in needed:
             yield self.build_hosts,
         for test in mains:
             if test != parts.of_main("strokes"):
@@ -106,6 +107,8 @@ class Run:
             yield self.run_hosts,
         for test in self.of_parts("memory"):
             yield self.run_refused, test
+        for test in self.of_parts("pages"):
+            yield self.run_page, test
         for program, mine in self.chosen.items():
             if self.built[program.name].is_done:
                 self.expect(natively.unlisted(program, mine))
@@ -239,6 +242,13 @@ class Run:
             self.board.add(*parts.of_hosts(tests))
         else:
             self.board.add_unbuilt("strokes", tests, "there is no right ./strokes to compare them with")
+
+    def run_page(self, test):
+        needed = parts.pages()[test]
+        if self.built[needed].is_done:
+            self.board.add(parts.of_script(test))
+        else:
+            self.board.add_unbuilt(needed, [test], "")
 
     def run_refused(self, test):
         program = self.program_of(parts.REFUSED_IN)
