@@ -9,3 +9,4 @@ pub mod Events
 pub mod Shown
 pub mod Spreading
 pub mod Keeping
+pub mod Roots

@@ -10,7 +10,7 @@ use Rattle.desk_state.specs.Settles.{Settles}
 use Rattle.desk_events.specs.SmallJobs.{PaintsSmall}
 use Rattle.host_lines.specs.declared.answer.Answer.{Answer}
 use Rattle.host_lines.specs.declared.answer.Answer.TheVariants as answer
-use Rattle.host_pieces.specs.Giving.{RootStays}
+use Rattle.desk_core.specs.Roots.{RootStays}
 use Rattle.host_desk.specs.Taking.{IsAllDone}
 
 -- small jobs were painted, or none; no pixel of the root's picture changed

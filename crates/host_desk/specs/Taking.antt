@@ -14,7 +14,7 @@ use Rattle.host_lines.specs.declared.answer.Answer.{Answer}
 use Rattle.host_lines.specs.declared.answer.Answer.TheVariants as answer
 use Rattle.host_pieces.specs.declared.piece.Piece.{Piece}
 use Rattle.host_pieces.specs.declared.piece.Piece.TheVariants as piece
-use Rattle.host_pieces.specs.Giving.{RootStays}
+use Rattle.desk_core.specs.Roots.{RootStays}
 use Rattle.host_pieces.specs.Jobs.{IsOfTicket}
 use Rattle.host_pieces.specs.Walks.{patch_keys, walk_work}
 

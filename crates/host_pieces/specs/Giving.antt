@@ -12,6 +12,7 @@ use Rattle.desk_state.specs.Enabled.{IsEnd, MayEnd}
 use Rattle.desk_events.specs.AtWork.{HasPublished}
 use Rattle.desk_events.specs.Commits.{MayCommit, MayPublishRow, RunsFront, row_events}
 use Rattle.desk_core.specs.Commits.{commit_events}
+use Rattle.desk_core.specs.Roots.{RootStays}
 use Rattle.desk_core.specs.declared.answers.Published.{Published}
 use Rattle.desk_core.specs.declared.answers.Published.TheVariants as answers
 use Rattle.desk_events.specs.declared.tickets.SlotId.{SlotId}
@@ -136,11 +137,7 @@ WorkKept s t p a q = q ≡ p
 
 -- ---- the root's picture
 
--- no pixel of the root's cache changed
-abbrev pub RootStays : State → State → Type 0
-RootStays s t = (p : Point) → at (cache t.caches 0) p ≡ at (cache s.caches 0) p
-
--- it changed within the rectangle alone, or nowhere
+-- the root's cache changed within the rectangle alone, or nowhere
 abbrev pub ChangesWithin : Option Area → State → State → Type 0
 ChangesWithin None s t = RootStays s t
 ChangesWithin (Some rect) s t = (p : Point) → holds rect p ≡ false → at (cache t.caches 0) p ≡ at (cache s.caches 0) p
