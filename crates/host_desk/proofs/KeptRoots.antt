@@ -5,12 +5,13 @@ use Rattle.std.specs.FinMap.{FinMap}
 use Rattle.geom_core.specs.Areas.{Area, Point}
 use Rattle.geom_core.specs.Grid.{Key}
 use Rattle.doc_model.specs.declared.canvas.Patch.{Patch}
+use Rattle.doc_model.specs.declared.command.Outcome.TheVariants as outcome
 use Rattle.doc_model.specs.declared.tree.TreeFault.{TreeFault}
 use Rattle.doc_model.specs.Changes.{changed}
 use Rattle.doc_model.specs.Layers.{Layer, at, plain}
 use Rattle.doc_model.specs.Picture.{Doc}
 use Rattle.doc_model.specs.Strokes.{Entry, Stroke, Strokes, Changes, Undoes, Redoes, Purges, Exports}
-use Rattle.machine_model.specs.Effects.{after_change, after_entry, after_finish, after_redo, after_undo, moved_to}
+use Rattle.machine_model.specs.Effects.{after_change, after_entry, after_finish, after_redo, after_undo, moved_to, with_outcome}
 use Rattle.machine_model.specs.Event.{Event, Feed, Init, Start, Publish, End, Finish, Cancel, Act, WalkStart, WalkPublish, WalkEnd}
 use Rattle.machine_model.specs.Groups.{cache}
 use Rattle.machine_model.specs.State.{Part, Reach, State, Whole}
@@ -33,24 +34,24 @@ moved s t d Whole e p = ap (λ (l : Layer). at l p) (root_kept t.caches d) ∙ s
 moved s t d (Part layer keys) e p = same s t e p
 
 by_change : (s : State) (r : Result Doc TreeFault) → RootStays s (after_change s r)
-by_change s (Err fault) = same s _ refl
-by_change s (Ok new) = moved s _ new Whole refl
+by_change s (Err fault) = λ p. refl
+by_change s (Ok new) = moved s (record (with_outcome s outcome.Done) { past = (s.base, Whole) ∷ s.past; future = [] }) new Whole refl
 
 by_undo : (s : State) (past : List (Doc × Reach)) → RootStays s (after_undo s past)
-by_undo s [] = same s _ refl
-by_undo s (e ∷ past) = moved s _ e.0 e.1 refl
+by_undo s [] = λ p. refl
+by_undo s (e ∷ past) = moved s (record (with_outcome s outcome.Done) { past = past; future = (s.base, e.1) ∷ s.future }) e.0 e.1 refl
 
 by_redo : (s : State) (future : List (Doc × Reach)) → RootStays s (after_redo s future)
-by_redo s [] = same s _ refl
-by_redo s (e ∷ future) = moved s _ e.0 e.1 refl
+by_redo s [] = λ p. refl
+by_redo s (e ∷ future) = moved s (record (with_outcome s outcome.Done) { past = (s.base, e.1) ∷ s.past; future = future }) e.0 e.1 refl
 
 by_entry : (s : State) (e : Entry) → RootStays s (after_entry s e)
-by_entry s (Strokes stroke) = same s _ refl
+by_entry s (Strokes stroke) = λ p. refl
 by_entry s (Changes change) = by_change s (changed plain change s.base)
 by_entry s Undoes = by_undo s s.past
 by_entry s Redoes = by_redo s s.future
-by_entry s (Purges n) = same s _ refl
-by_entry s Exports = same s _ refl
+by_entry s (Purges n) = λ p. refl
+by_entry s Exports = λ p. refl
 
 by_finish : (s : State) (stroke : Stroke) (b : Bool) → (after_finish s stroke b).caches ≡ s.caches
 by_finish s stroke true = refl
@@ -62,7 +63,7 @@ at_once : (s t : State) (e : Event) → is_done_at_once e ≡ true → Step s e 
 at_once s t Init h step = same s t (ap (λ (x : State). x.caches) step.new_is)
 at_once s t Finish h step = same s t (ap (λ (x : State). x.caches) step.new_is ∙ by_finish s step.stroke _)
 at_once s t Cancel h step = same s t (ap (λ (x : State). x.caches) step.new_is)
-at_once s t Act h step p = ap (λ (x : State). at (cache x.caches 0) p) step.new_is ∙ by_entry s step.entry p
+at_once s t Act h step = λ p. ap (λ (x : State). at (cache x.caches 0) p) step.new_is ∙ by_entry s step.entry p
 at_once s t (Feed c) h step = cc
 at_once s t (Start place) h step = cc
 at_once s t (Publish place k) h step = cc
