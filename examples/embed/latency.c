@@ -301,8 +301,8 @@ static bool read_words(struct words *w, int argc, char **argv) {
         default: return false;
         }
     }
-    return optind == argc && w->layers[0] >= 1 && w->layers[0] <= 250 && w->threads[0] >= 1 && w->threads[0] <= STROKES_CREW_MOST_THREADS + 1 &&
-           w->dabs >= !w->is_script && w->dabs <= MOST_DABS;
+    return optind == argc && w->layers[0] >= 1 && w->layers[0] <= 250 && w->threads[0] >= 1 &&
+           w->threads[0] <= STROKES_CREW_MOST_THREADS + 1 && w->dabs >= !w->is_script && w->dabs <= MOST_DABS;
 }
 
 int main(int argc, char **argv) {

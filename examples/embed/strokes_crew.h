@@ -70,15 +70,15 @@ strokes_answer strokes_crew_news(strokes_crew *crew, strokes_rect *redraw);
 /* The same, but where there is no news it waits for some, for so many milliseconds at most. */
 strokes_answer strokes_crew_wait(strokes_crew *crew, uint32_t milliseconds, strokes_rect *redraw);
 
-/* Works with the threads until nothing can be done before more is fed, for so many milliseconds at most: it begins no work after
- * that, and with 0 it only looks. Several calls at once take turns.
+/* Works with the threads until nothing can be done before more is fed, for so many milliseconds at most: it begins no work
+ * after that, and with 0 it only looks. Several calls at once take turns.
  * OK: strokes_take has just answered SETTLED; STROKE_LEFT: a stroke is open, and all that can be done before more is fed is
  * done; NO_MEMORY: memory ended for this thread or for another one; AGAIN: the time is up; SHUT. After NO_MEMORY and AGAIN the
  * threads go on, and so may the program, by the same call. */
 strokes_answer strokes_crew_settle(strokes_crew *crew, uint32_t milliseconds);
 
-/* Ends the threads, once each has given back what it has, and gives the desk to a shut handle. What can't be given back for want
- * of memory waits for strokes_settle then. The news is gone: draw all of the canvas anew.
+/* Ends the threads, once each has given back what it has, and moves the desk to a shut handle. What can't be given back for
+ * want of memory waits for strokes_settle then. The news is gone: draw all of the canvas anew.
  * OK: the crew's handle is shut; SHUT: the crew is; IN_USE: the desk's handle isn't shut, and nothing happens. */
 strokes_answer strokes_crew_stop(strokes_crew *crew, strokes_desk *desk);
 

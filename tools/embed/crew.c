@@ -170,7 +170,8 @@ static void refuse_each(uint64_t want, long each) {
         CHECK(run() == want, "the picture is another one after the allocation %ld", i);
         silent += told == 0;
     }
-    printf("crew: an allocation failed in each of %ld runs; in %ld no answer told of it; all had the same picture\n", runs, silent);
+    printf("crew: an allocation failed in each of %ld runs; in %ld no answer told of it; all had the same picture\n", runs,
+           silent);
 }
 
 /* Memory ends after so many allocations more, comes back, and the threads go on by themselves. */
