@@ -12,6 +12,7 @@
 #include "strokes_crew.h"
 #include <pthread.h>
 #include <stdatomic.h>
+#include <time.h>
 
 enum { THREADS = 3, SLOTS = THREADS + 1, SECOND = 1000 };
 
@@ -111,7 +112,7 @@ static void feed(strokes_crew *crew, size_t from, size_t to) {
     }
 }
 
-enum { LINES = sizeof script / sizeof *script, OPEN_STROKE = 9 };
+enum { LINES = sizeof script / sizeof *script, OPEN_STROKE = 9, ENTRIES = 11 };
 
 /* The sum of what a settled desk shows, which is closed then. */
 static uint64_t close_desk(strokes_desk *desk) {
@@ -152,12 +153,16 @@ static uint64_t run(void) {
     return stop(&crew);
 }
 
-/* Waits until the threads alone have settled the desk. */
-static void wait_settled(strokes_crew *crew) {
-    strokes_rect redraw;
-    for (int turns = 0; strokes_crew_settle(crew, 0) != STROKES_OK; turns++) {
+static void sleep_for(long milliseconds) { nanosleep(&(struct timespec){0, 1000000 * milliseconds}, NULL); }
+
+/* Waits until the threads alone have done all entries. */
+static void wait_done(strokes_crew *crew) {
+    strokes_count count = {0};
+    for (int turns = 0; count.outcomes < ENTRIES; turns++) {
         CHECK(turns < 60 * SECOND, "the threads don't go on");
-        strokes_crew_wait(crew, 1, &redraw);
+        sleep_for(1);
+        strokes_count_of(strokes_crew_lock(crew), &count);
+        strokes_crew_unlock(crew);
     }
 }
 
@@ -192,11 +197,25 @@ static void end_memory(uint64_t want, long each) {
             seen++;
         }
         heap_refuse(-1);
-        wait_settled(&crew);
+        wait_done(&crew);
+        settle(&crew);
         CHECK(stop(&crew) == want, "the picture is another one");
     }
     CHECK(seen > 0, "memory never ended");
     printf("crew: memory ended for a while in %ld runs, which was told in %ld; the threads went on\n", runs, seen);
+}
+
+/* Nobody but the threads works. */
+static void leave_alone(uint64_t want) {
+    strokes_crew crew = {0};
+    strokes_desk desk = {0};
+    open_desk(&desk);
+    start(&crew, &desk);
+    sleep_for(50); /* so that they sleep, too */
+    feed(&crew, 0, LINES);
+    wait_done(&crew);
+    settle(&crew);
+    CHECK(stop(&crew) == want, "the picture is another one");
 }
 
 /* A crew is stopped at work; its desk is settled, or another crew goes on. */
@@ -207,7 +226,10 @@ static void stop_at_work(uint64_t want) {
         open_desk(&desk);
         start(&crew, &desk);
         feed(&crew, 0, LINES);
-        if (i % 3 == 2) heap_end(i);
+        if (i % 3 == 2) {
+            heap_end(i);
+            strokes_crew_settle(&crew, STROKES_CREW_NO_LIMIT);
+        }
         atomic_store(&may_close, true);
         CHECK_OK(strokes_crew_stop(&crew, &desk));
         atomic_store(&may_close, false);
@@ -329,6 +351,7 @@ int main(int argc, char **argv) {
     misuse();
     start_none(want);
     settle_otherwise(want);
+    leave_alone(want);
     lose_piece(want);
     stop_at_work(want);
     CHECK(run() == want, "the picture is another one");

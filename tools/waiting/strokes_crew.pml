@@ -41,7 +41,7 @@ bit in_turn[ENTRIES];                    /* its jobs follow one another */
 byte fed = 0, closed = 0;                /* entries */
 byte head = 0, started = 0, painters = 0, busy = 0;
 bit patch = 0;                           /* something is to be composed */
-byte walkers = 0;                        /* pieces of the walk */
+byte walkers = 0, made = 0;              /* pieces of the walk, and how many of them were made */
 byte lost = 0;                           /* ghost: pieces that were closed with work */
 
 /* the crew */
@@ -120,7 +120,7 @@ inline desk_take() {
     if
     :: MAY_START -> started++; painters++; busy++; piece = JOB
     :: !MAY_START && MAY_END -> head++; started = 0; told = AGAIN
-    :: !MAY_START && !MAY_END && MAY_WALK -> patch = 0; walkers = 1; busy++; piece = WALK
+    :: !MAY_START && !MAY_END && MAY_WALK -> patch = 0; walkers = 1; made = 1; busy++; piece = WALK
     :: !MAY_START && !MAY_END && !MAY_WALK -> told = (IS_SETTLED -> SETTLED : IDLE)
     fi
   fi
@@ -155,7 +155,7 @@ inline keep() {
 inline share() {
   c = asleep + settler_sleeps;
   do
-  :: piece == WALK && c > BOARD && walkers < PARTS -> walkers++; on_board[WALK]++; c--; wake()
+  :: piece == WALK && c > BOARD && made < PARTS -> walkers++; made++; on_board[WALK]++; c--; wake()
   :: true -> break
   od;
   c = 0
