@@ -106,9 +106,19 @@ fn put_shown(
         return put_anew(alloc, scenery, &[], thrift, key, frame);
     };
     if before.laid.has(key) {
-        return put_anew(alloc, scenery, other.plies(key), thrift, key, frame);
+        return put_anew(alloc, scenery, plies_in(other, key), thrift, key, frame);
     }
     frame.put_of(key, other)
+}
+
+/// The plies of which a frame composes the tile under the key; none where it has the pixels, or nothing.
+fn plies_in(frame: &Frame, key: TileKey) -> &[Ply]
+    requires { IsTileOf frame.now key }
+{
+    match frame.cell(key) {
+        Some(cell) => cell.plies(),
+        None => &[],
+    }
 }
 
 /// Puts the tile of the root's cache into the frame, if there is one, or that of which it is composed. The frame

@@ -23,6 +23,10 @@ abbrev pub Follows : List Scene → ℕ → Type 0
 Follows scenes zero = ⊥
 Follows scenes (suc k) = (before s : Scene) → slice_get scenes k ≡ Some before → slice_get scenes (suc k) ≡ Some s → SameCanvas s before
 
+-- the frame at that place renews the frame before it, if there is one, on these tiles
+abbrev pub RenewsBefore : List Scene → ℕ → Grid → Type 0
+RenewsBefore scenes i fresh = (k : ℕ) (before s : Scene) → i ≡ suc k → slice_get scenes k ≡ Some before → slice_get scenes i ≡ Some s → Renews s before fresh
+
 -- the n rows from y on are those of the frame at that place, and the band has just as many bytes
 abbrev pub IsBandOf : List Scene → ℕ → ℕ → ℕ → List ℕ → Type 0
 IsBandOf scenes i y n band = (s : Scene) → slice_get scenes i ≡ Some s → (y + n ≤ s.height) × (length band ≡ 3 * (s.width * n))

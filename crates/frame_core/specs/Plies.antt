@@ -30,6 +30,24 @@ made_from plies i (suc n) = made_at plies (i % 64) (i / 64) ∷ made_from plies 
 unfoldable pub made_pixels : List Ply → Pixels
 made_pixels plies = made_from plies 0 4096
 
+-- what a frame has on one tile: its pixels, and the plies that make them if it is kept as such
+pub record Content : Type 0 where
+  pub pixels : Pixels
+  pub plies : List Ply
+
+-- a tile's own pixels
+abbrev pub of_pixels : Pixels → Content
+of_pixels tile = record { pixels = tile; plies = [] }
+
+-- plies, and the pixels that they make
+abbrev pub of_plies : List Ply → Content
+of_plies plies = record { pixels = made_pixels plies; plies = plies }
+
+-- the pixels, if there is such a thing
+abbrev pub pixels_in : Option Content → Option Pixels
+pixels_in None = None
+pixels_in (Some content) = Some content.pixels
+
 -- how many groups are open after a ply, where n are before: never more than 17, and the root is never closed
 abbrev pub open_after : ℕ → Ply → Option ℕ
 open_after n Open = if nat_lt n 17 then Some (suc n) else None

@@ -3,7 +3,7 @@
 ghost use Rattle.std.specs.Prelude.{◌≡◌, ◌+◌, ◌*◌, ◌<◌, ◌≤◌, length, take, drop, IfOk};
 ghost use Rattle.frame_core.specs.Frames.{colours_on, WritesAt};
 ghost use Rattle.tile_core.specs.Pixels.{pixel_of};
-ghost use Rattle.frame_core.specs.Plies.{IsStack, made_pixels};
+ghost use Rattle.frame_core.specs.Plies.{IsStack, of_pixels, of_plies};
 
 use crate::colours::lay_colours;
 use crate::ply::{Ply, made_row};
@@ -16,7 +16,7 @@ use tile_core::Tile;
 
 /// The 4,096 pixels of a tile, as they are or as plies of which they are composed whenever they are read.
 #[derive(Drop)]
-pub(crate) struct Cell {
+pub struct Cell {
     kept: Kept,
 }
 
@@ -28,13 +28,13 @@ enum Kept {
 }
 
 impl Model for Cell {
-    ghost use Rattle.std.specs.Prelude.{List};
-    ghost use Rattle.pixel_core.specs.Rgba.{Rgba};
-    ghost use Rattle.frame_core.specs.Cells.{kept_pixels, IsCell};
+    ghost use Rattle.frame_core.specs.Plies.{Content};
 
-    ghost Value = { List Rgba };
+    ghost Value = { Content };
 
-    ghost view = { λ c. kept_pixels c.kept };
+    ghost use Rattle.frame_core.specs.Cells.{content, IsCell};
+
+    ghost view = { λ c. content c.kept };
 
     ghost invariant = { λ c. IsCell c.kept };
 }
@@ -42,7 +42,7 @@ impl Model for Cell {
 impl Cell {
     /// The pixels of a tile.
     pub(crate) fn of(tile: Tile) -> Cell
-        ensures { result ≡ tile }
+        ensures { result ≡ of_pixels tile }
     {
         Cell {
             kept: Kept::Pixels(tile),
@@ -52,7 +52,7 @@ impl Cell {
     /// The pixels that the plies make.
     pub(crate) fn made(alloc: Global, plies: Vec<Ply>) -> Result<Cell, NoMemory>
         requires { IsStack plies.items }
-        ensures { IfOk result (λ c. c ≡ made_pixels plies.items) }
+        ensures { IfOk result (λ c. c ≡ of_plies plies.items) }
     {
         Ok(Cell {
             kept: Kept::Plies(Arc::new(alloc, plies)?),
@@ -71,7 +71,9 @@ impl Cell {
     }
 
     /// The plies of which it is composed, if it is kept as such; else none.
-    pub(crate) fn plies(&self) -> &[Ply] {
+    pub fn plies(&self) -> &[Ply]
+        ensures { result.now ≡ self.now.plies }
+    {
         match &self.kept {
             Kept::Pixels(_) => &[],
             Kept::Plies(plies) => plies.as_slice(),
@@ -82,7 +84,7 @@ impl Cell {
     pub(crate) fn pixel(&self, col: u8, row: u8) -> Pixel
         requires col { col < 64 }
         requires row { row < 64 }
-        ensures { result ≡ pixel_of self.now col row }
+        ensures { result ≡ pixel_of self.now.pixels col row }
     {
         match &self.kept {
             Kept::Pixels(tile) => tile.pixel(col, row),
@@ -100,8 +102,8 @@ impl Cell {
         requires opaque { paper.a ≡ 255 }
         requires room { at + 3 * n ≤ length bytes.old }
         ensures laid { WritesAt bytes.old bytes.new at (3 * n)
-            (colours_on paper (take n (drop (64 * row) self.now))) }
-        ensures all { length self.now ≡ 4096 }
+            (colours_on paper (take n (drop (64 * row) self.now.pixels))) }
+        ensures all { length self.now.pixels ≡ 4096 }
     {
         match &self.kept {
             Kept::Pixels(tile) => {

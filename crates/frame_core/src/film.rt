@@ -2,7 +2,7 @@
 
 ghost use Rattle.std.specs.Prelude.{◌≡◌, ◌↔◌, ◌∷◌, ◌++◌, [], ◌<◌, ◌%◌, IsTrue, Some, OnOk, OnErr, length};
 ghost use Rattle.std.specs.Option.{option_copied};
-ghost use Rattle.frame_core.specs.Films.{Follows, IsBandOf, Renews, ShowsBefore, ShowsRows, newest};
+ghost use Rattle.frame_core.specs.Films.{Follows, IsBandOf, Renews, RenewsBefore, ShowsBefore, ShowsRows, newest};
 ghost use Rattle.frame_core.specs.Frames.{Scene};
 
 use crate::{Frame, Marks};
@@ -81,11 +81,12 @@ impl Film {
         i > 0 && self.frames[i].has_canvas_of(&self.frames[i - 1])
     }
 
-    /// How many tiles of the frame at place `i` may differ from the frame before.
-    pub fn fresh_count(&self, i: usize) -> usize
+    /// The tiles on which the frame at place `i` may show other pixels than the frame before.
+    pub fn fresh(&self, i: usize) -> &Marks
         requires { i < length self.now }
+        ensures { RenewsBefore self.now i result.now }
     {
-        self.fresh[i].count()
+        &self.fresh[i]
     }
 
     /// Writes red, green and blue of each point of n rows from `top` on of the frame at place `i`, in row order, in

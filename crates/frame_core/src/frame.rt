@@ -5,7 +5,7 @@ ghost use Rattle.std.specs.FinMap as map;
 ghost use Rattle.std.specs.Option.{option_copied};
 ghost use Rattle.geom_core.specs.Areas.{row as points, point};
 ghost use Rattle.frame_core.specs.Frames.{IsScene, scene, colours_at, row_colours, IsTileOf, with_put, with_put_of, LaysPoints, columns_in, put_under};
-ghost use Rattle.frame_core.specs.Plies.{IsStack, made_pixels};
+ghost use Rattle.frame_core.specs.Plies.{IsStack, made_pixels, pixels_in};
 
 use crate::cell::Cell;
 use crate::colours::lay_paper;
@@ -130,25 +130,15 @@ impl Frame {
     /// Puts what the key's tile is to show.
     fn set(&mut self, key: TileKey, cell: Cell)
         requires { IsTileOf self.old key }
-        ensures { self.new ≡ with_put self.old key cell }
+        ensures { self.new ≡ with_put self.old key cell.pixels }
     {
         self.tiles[place(key.col as u16, key.row as u16)] = Some(cell);
     }
 
-    /// The plies of which the tile under the key is composed, if it is kept as such; else none.
-    pub fn plies(&self, key: TileKey) -> &[Ply]
-        requires { IsTileOf self.now key }
-    {
-        match self.cell(key) {
-            Some(cell) => cell.plies(),
-            None => &[],
-        }
-    }
-
     /// What was put under the key.
-    fn cell(&self, key: TileKey) -> Option<&Cell>
+    pub fn cell(&self, key: TileKey) -> Option<&Cell>
         requires { IsTileOf self.now key }
-        ensures { option_copied result ≡ map.get self.now.tiles key }
+        ensures { pixels_in (option_copied result) ≡ map.get self.now.tiles key }
     {
         self.tiles[place(key.col as u16, key.row as u16)].as_ref()
     }
@@ -208,7 +198,7 @@ impl Frame {
     fn tile(&self, x: u16, y: u16) -> Option<&Cell>
         requires x { x < self.now.width }
         requires y { y < self.now.height }
-        ensures value { option_copied result ≡ put_under self.now (point (pos x) (pos y)) }
+        ensures value { pixels_in (option_copied result) ≡ put_under self.now (point (pos x) (pos y)) }
         ensures known { IsScene self.now }
     {
         self.tiles[place(x / TILE, y / TILE)].as_ref()

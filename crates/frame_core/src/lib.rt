@@ -6,8 +6,9 @@
 //!   one is one index. `rows_into` takes all rows of one tile before those of the next, since these stand one
 //!   after another in memory.
 //! - A frame keeps a tile as it is, or as the plies of which it is composed: other tiles, which are shared with
-//!   the layers, with the way in which each is laid. Contracts see the 4,096 pixels either way. Plies are composed
-//!   row by row whenever they are read, on a stack of 17 rows, so that to read a frame takes no memory.
+//!   the layers, with the way in which each is laid. Contracts see the 4,096 pixels either way, and of a `Cell`
+//!   the plies too. Plies are composed row by row whenever they are read, on a stack of 17 rows, so that to read
+//!   a frame takes no memory.
 //! - Of each frame a film keeps the marks of the tiles that may differ from the frame before, told by pixels
 //!   and not by tiles (`Renews`), since a cache is seen as a layer. So no pixels are compared where pictures
 //!   are written.
@@ -28,6 +29,7 @@ mod picture;
 mod piece;
 mod ply;
 
+pub use cell::Cell;
 pub use damage::Damage;
 pub use film::Film;
 pub use frame::Frame;

@@ -54,7 +54,7 @@ impl Marks {
     }
 
     /// How many tiles are marked.
-    pub(crate) fn count(&self) -> usize
+    pub fn count(&self) -> usize
         ensures { result ≡ count_by (λ mark. mark) self.now }
     {
         self.tiles.iter().filter(|mark| **mark).count()

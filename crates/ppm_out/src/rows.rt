@@ -48,7 +48,7 @@ impl<'a> Rows<'a> {
         requires there { IsThere self }
     {
         match self {
-            Rows::After(film, i) if film.fresh_count(i) < WORTH_MORE => 1,
+            Rows::After(film, i) if film.fresh(i).count() < WORTH_MORE => 1,
             _ => threads,
         }
     }

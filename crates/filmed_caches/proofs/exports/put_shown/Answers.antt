@@ -4,8 +4,8 @@ use Rattle.std.proofs.lemmas.Result.{on_ok_weaker}
 use Rattle.filmed_caches.proofs.CacheFrames.{put_again, tile_inside}
 use Rattle.filmed_caches.proofs.exports.put_shown.Goals as goal
 
-pub plies-requires : goal.plies-requires
-plies-requires c = tile_inside c.args.scenery.now.canvas c.args.key c.in-Some.other.now c.requires.key (c.requires.before c.in-Some.other.now (ap option_copied c.in-Some.is)).sides
+pub plies_in-requires : goal.plies_in-requires
+plies_in-requires c = tile_inside c.args.scenery.now.canvas c.args.key c.in-Some.other.now c.requires.key (c.requires.before c.in-Some.other.now (ap option_copied c.in-Some.is)).sides
 
 pub put_of-requires-clause-there : goal.put_of-requires-clause-there
 put_of-requires-clause-there c = tile_inside c.args.scenery.now.canvas c.args.key c.in-Some.other.now c.requires.key (c.requires.before c.in-Some.other.now (ap option_copied c.in-Some.is)).sides

@@ -17,7 +17,7 @@ returns c =
     let row : c.args.y % 64 ≡ down p % 64 = omega (arith, ints) in
     let paper : c.self.inside.paper ≡ c.args.self.now.paper = ap (λ (s : Scene). s.paper) c.self.view_is in
     let pixel : c.match-tile.pixel ≡ put_at c.args.self.now p = elim c.match-tile.branch [
-      | in-Some w ↦ w.pixel-is ∙ w.pixel.ensures ∙ (λ i. pixel_of w.in-Some.cell.now (col i) (row i)) ∙ ap (λ o. pixel_or o clear p) w.in-Some.ensures.value
+      | in-Some w ↦ w.pixel-is ∙ w.pixel.ensures ∙ (λ i. pixel_of w.in-Some.cell.now.pixels (col i) (row i)) ∙ ap (λ o. pixel_or o clear p) w.in-Some.ensures.value
       | in-None w ↦ w.pixel-is ∙ ap (λ o. pixel_or o clear p) w.in-None.ensures.value
     ] in
     c.on_paper.ensures ∙ (λ i. on_paper (pixel i) (paper i))

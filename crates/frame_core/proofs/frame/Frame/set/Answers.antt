@@ -13,4 +13,4 @@ returns c =
     let place : c.place.result ≡ 32 * nat_abs c.args.key.row + nat_abs c.args.key.col = omega (arith, ints, c.place.ensures) in
     let small : c.place.result < length c.self.inside.tiles.items = omega (arith, ints, width, height, place, c.self.invariant.places) in
     ap (scene c.self.inside.width c.self.inside.height c.self.inside.paper) (put_tile c.self.inside.tiles.items c.args.key c.place.result c.args.cell c.requires.left right c.requires.top place small)
-    ∙ ap (λ (s : Scene). with_put s c.args.key c.args.cell) c.self.view_is
+    ∙ ap (λ (s : Scene). with_put s c.args.key c.args.cell.pixels) c.self.view_is
