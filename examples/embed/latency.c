@@ -15,7 +15,7 @@
  *
  * With -s no time is told: the script is written of what -e lays on the middle layer, for other engines. Its dabs are the
  * strokes from 1000 on. */
-#include "crew.h"
+#include "strokes_crew.h"
 #include <stdio.h>
 #include <stdlib.h>
 #include <string.h>
@@ -25,8 +25,9 @@
 enum { SIDE = 2048, PART = 512, EDGE = (SIDE - PART) / 2, RADIUS = 50, OF_A_STROKE = 25, MOST_DABS = 4000 };
 
 struct bench {
-    struct crew crew;
-    strokes_rect damage; /* under the crew's lock */
+    strokes_desk desk; /* of one thread; else the crew has it */
+    strokes_crew crew;
+    strokes_rect redraw; /* of one thread: what is to be drawn anew */
     strokes_shot shot;
     uint8_t *screen; /* three bytes a pixel of the canvas */
     uint32_t stroke;
@@ -52,19 +53,16 @@ static void want(bool it, const char *what, const char *told) {
 
 static void want_ok(strokes_answer told, const char *what) { want(told == STROKES_OK, what, strokes_answer_text(told)); }
 
-static void note_drawn(void *whose, strokes_rect rect) {
-    struct bench *b = whose;
-    strokes_rect *all = &b->damage;
-    if (all->w == 0) {
-        *all = rect;
-        return;
-    }
-    int32_t right = all->x + (int32_t)all->w, bottom = all->y + (int32_t)all->h;
-    int32_t other_right = rect.x + (int32_t)rect.w, other_bottom = rect.y + (int32_t)rect.h;
-    if (rect.x < all->x) all->x = rect.x;
-    if (rect.y < all->y) all->y = rect.y;
-    all->w = (uint32_t)((right > other_right ? right : other_right) - all->x);
-    all->h = (uint32_t)((bottom > other_bottom ? bottom : other_bottom) - all->y);
+static int32_t least(int32_t a, int32_t b) { return a < b ? a : b; }
+static int32_t most(int32_t a, int32_t b) { return a > b ? a : b; }
+
+/* The least rectangle round both. */
+static strokes_rect joined(strokes_rect a, strokes_rect b) {
+    if (a.w == 0) return b;
+    if (b.w == 0) return a;
+    int32_t x = least(a.x, b.x), y = least(a.y, b.y);
+    int32_t right = most(a.x + (int32_t)a.w, b.x + (int32_t)b.w), bottom = most(a.y + (int32_t)a.h, b.y + (int32_t)b.h);
+    return (strokes_rect){x, y, (uint32_t)(right - x), (uint32_t)(bottom - y)};
 }
 
 /* The same draws each time. */
@@ -84,49 +82,58 @@ static uint32_t drawn_colour(struct bench *b, int least, int most) {
 /* Does all that can be done, by the caller alone. */
 static void work_alone(struct bench *b) {
     strokes_piece piece = {0};
-    strokes_rect rect;
+    strokes_rect redraw;
     for (;;) {
-        strokes_answer told = strokes_small(&b->crew.desk);
+        strokes_answer told = strokes_small(&b->desk);
         if (told == STROKES_OK) continue;
-        told = strokes_take(&b->crew.desk, &piece);
+        told = strokes_take(&b->desk, &piece);
         if (told == STROKES_IDLE || told == STROKES_SETTLED) return;
         if (told == STROKES_AGAIN) continue;
         want_ok(told, "take");
         want_ok(strokes_work(&piece), "work");
-        want_ok(strokes_give(&b->crew.desk, &piece, &rect), "give");
-        if (rect.w > 0) note_drawn(b, rect);
+        want_ok(strokes_give(&b->desk, &piece, &redraw), "give");
+        b->redraw = joined(b->redraw, redraw);
     }
 }
 
+/* Does all that can be done before more is fed. */
 static void rest(struct bench *b) {
-    if (b->crew.threads > 0)
-        want_ok(crew_rest(&b->crew), "rest");
-    else
+    if (!b->crew.at) {
         work_alone(b);
-}
-
-/* Ends a call that fed something, and wakes the crew. The lock is held before. */
-static void fed(struct bench *b, strokes_answer told, const char *what) {
-    crew_wake(&b->crew);
-    pthread_mutex_unlock(&b->crew.lock);
-    want_ok(told, what);
+        return;
+    }
+    strokes_answer told = strokes_crew_settle(&b->crew, STROKES_CREW_NO_LIMIT);
+    want(told == STROKES_OK || told == STROKES_STROKE_LEFT, "settle", strokes_answer_text(told));
 }
 
 static strokes_desk *locked(struct bench *b) {
-    pthread_mutex_lock(&b->crew.lock);
-    return &b->crew.desk;
+    strokes_desk *desk = strokes_crew_lock(&b->crew);
+    return desk ? desk : &b->desk;
+}
+
+/* Ends a call that fed something. The lock is held before. */
+static void fed(struct bench *b, strokes_answer told, const char *what) {
+    strokes_crew_unlock(&b->crew);
+    want_ok(told, what);
 }
 
 static void feed(struct bench *b, const char *line) { fed(b, strokes_feed(locked(b), line, strlen(line)), line); }
 
+/* What is to be drawn anew since it was asked last. */
+static strokes_rect redraw_of(struct bench *b) {
+    strokes_rect redraw = b->redraw;
+    b->redraw = (strokes_rect){0};
+    if (b->crew.at) want_ok(strokes_crew_news(&b->crew, &redraw), "news");
+    return redraw;
+}
+
 /* Copies what is to be drawn anew, as a screen does. How many pixels these are. */
-static size_t copy_damage(struct bench *b) {
+static size_t copy_redraw(struct bench *b) {
     strokes_rect dirty;
     strokes_desk *desk = locked(b);
-    strokes_rect rect = b->damage;
-    b->damage = (strokes_rect){0};
+    strokes_rect rect = redraw_of(b);
     want_ok(strokes_shoot(desk, &b->shot, &dirty), "shoot");
-    pthread_mutex_unlock(&b->crew.lock);
+    strokes_crew_unlock(&b->crew);
     want(dirty.w == 0, "shoot", "some pixels are still to be composed");
     size_t bytes = 3ul * rect.w;
     for (int y = rect.y; y < rect.y + (int)rect.h; y++) {
@@ -164,21 +171,21 @@ static void begin(struct bench *b, int layers, int threads, bool is_each) {
     *b = (struct bench){.dice = 1, .is_each = is_each, .screen = malloc(3ul * SIDE * SIDE)};
     want(b->screen, "screen", "out of memory");
     memset(b->screen, 255, 3ul * SIDE * SIDE);
-    want_ok(strokes_open(&b->crew.desk, &canvas, (uint8_t)threads), "open");
-    b->crew.drawn = note_drawn;
-    b->crew.whose = b;
-    crew_start(&b->crew, threads - 1);
-    want(b->crew.threads == threads - 1, "crew", "a thread can't be started");
+    want_ok(strokes_open(&b->desk, &canvas, (uint8_t)threads), "open");
+    if (threads > 1) {
+        const strokes_crew_options options = {.threads = (uint32_t)threads - 1};
+        want_ok(strokes_crew_start(&b->crew, &b->desk, &options), "crew");
+    }
     for (int id = 1; id <= layers; id++) add_layer(b, (uint16_t)id);
     rest(b);
-    copy_damage(b);
+    copy_redraw(b);
     b->stroke = 999;
 }
 
 static void end(struct bench *b) {
-    crew_end(&b->crew);
+    strokes_crew_close(&b->crew);
     strokes_close_shot(&b->shot);
-    strokes_close(&b->crew.desk);
+    strokes_close(&b->desk);
     free(b->screen);
 }
 
@@ -194,7 +201,7 @@ static double one_dab(struct bench *b, uint16_t layer) {
     fed(b, strokes_dab(locked(b), b->stroke, STROKES_SEQ, x, y, &brush), "dab");
     if (b->is_each) fed(b, strokes_end(locked(b), b->stroke), "end");
     rest(b);
-    size_t pixels = copy_damage(b);
+    size_t pixels = copy_redraw(b);
     double took = now() - begun;
     want(pixels >= (2 * RADIUS + 1) * (2 * RADIUS + 1), "dab", "too little is to be drawn");
     return took;
@@ -208,7 +215,7 @@ static void lay_dabs(struct bench *b, uint16_t layer, int dabs, double *took) {
         if (b->is_each || ((i + 1) % OF_A_STROKE != 0 && i + 1 < dabs)) continue;
         fed(b, strokes_cancel(locked(b), b->stroke), "cancel");
         rest(b);
-        copy_damage(b);
+        copy_redraw(b);
     }
 }
 
@@ -270,7 +277,7 @@ static void write_script(int layers, int dabs) {
     uint64_t next = 0;
     size_t written;
     do {
-        want_ok(strokes_text(&b.crew.desk, &next, piece, sizeof piece, &written), "text");
+        want_ok(strokes_text(&b.desk, &next, piece, sizeof piece, &written), "text");
         fwrite(piece, 1, written, stdout);
     } while (written > 0);
     end(&b);
@@ -294,8 +301,8 @@ static bool read_words(struct words *w, int argc, char **argv) {
         default: return false;
         }
     }
-    return optind == argc && w->layers[0] >= 1 && w->layers[0] <= 250 && w->threads[0] >= 1 && w->threads[0] <= CREW_MOST + 1 &&
-           w->dabs >= !w->is_script && w->dabs <= MOST_DABS;
+    return optind == argc && w->layers[0] >= 1 && w->layers[0] <= 250 && w->threads[0] >= 1 &&
+           w->threads[0] <= STROKES_CREW_MOST_THREADS + 1 && w->dabs >= !w->is_script && w->dabs <= MOST_DABS;
 }
 
 int main(int argc, char **argv) {

@@ -4,8 +4,9 @@
  *
  * With `picture`, or without, the script is fed line by line while the threads paint, and each frame is written; with `whole`
  * the desk is opened by all of it. With `live` the picture of the document that it makes is written in place of the frames,
- * and with `script` what was fed. The caller is one of the 1 to 17 threads. The exit codes are the command's. */
-#include "crew.h"
+ * and with `script` what was fed. A crew of 1 to 16 threads paints, and the caller helps at the end. The exit codes are the
+ * command's. */
+#include "strokes_crew.h"
 #include <stdio.h>
 #include <stdlib.h>
 #include <string.h>
@@ -22,7 +23,7 @@ static int fault(unsigned line, strokes_answer told) {
 }
 
 /* Opens the desk by the script's first line that says something, and moves on to the next line. */
-static int open_by_line(struct crew *crew, char **text, const char *end, unsigned *number, int slots) {
+static int open_by_line(strokes_desk *desk, char **text, const char *end, unsigned *number, int slots) {
     while (*text < end) {
         char *line = *text, *stop = memchr(line, '\n', (size_t)(end - line));
         size_t len = (size_t)((stop ? stop : end) - line);
@@ -32,17 +33,23 @@ static int open_by_line(struct crew *crew, char **text, const char *end, unsigne
         size_t blanks = 0;
         while (blanks < len && strchr(" \t\r", line[blanks])) blanks++;
         if (blanks == len || line[blanks] == '#') continue;
-        strokes_answer told = strokes_open_script(&crew->desk, line, len, (uint8_t)slots, &at);
+        strokes_answer told = strokes_open_script(desk, line, len, (uint8_t)slots, &at);
         return told == STROKES_OK ? 0 : fault(*number, told);
     }
     return fault(1, STROKES_CANVAS_MISSING);
 }
 
-static int feed_lines(struct crew *crew, char *text, const char *end, unsigned number) {
+static strokes_answer feed(strokes_crew *crew, const char *line, size_t line_len) {
+    strokes_answer told = strokes_feed(strokes_crew_lock(crew), line, line_len);
+    strokes_crew_unlock(crew);
+    return told;
+}
+
+static int feed_lines(strokes_crew *crew, char *text, const char *end, unsigned number) {
     while (text < end) {
         char *stop = memchr(text, '\n', (size_t)(end - text));
         size_t len = (size_t)((stop ? stop : end) - text);
-        strokes_answer told = crew_feed(crew, text, len);
+        strokes_answer told = feed(crew, text, len);
         number++;
         if (told != STROKES_OK) return fault(number, told);
         text = stop ? stop + 1 : (char *)end;
@@ -133,11 +140,13 @@ static char *read_all(size_t *len) {
 }
 
 /* Feeds and paints what is left of the text behind the lines so far, and gives the exit code. */
-static int paint_rest(struct crew *crew, int threads, char *rest, const char *end, unsigned number) {
-    crew_start(crew, threads - 1);
-    int code = feed_lines(crew, rest, end, number);
-    strokes_answer told = code ? STROKES_OK : crew_settle(crew);
-    crew_end(crew);
+static int paint_rest(strokes_desk *desk, int threads, char *rest, const char *end, unsigned number) {
+    strokes_crew crew = {0};
+    strokes_answer told = strokes_crew_start(&crew, desk, &(strokes_crew_options){.threads = (uint32_t)threads});
+    if (told != STROKES_OK) return fault(0, told);
+    int code = feed_lines(&crew, rest, end, number);
+    if (!code) told = strokes_crew_settle(&crew, STROKES_CREW_NO_LIMIT);
+    strokes_crew_stop(&crew, desk);
     return told == STROKES_OK ? code : fault(0, told);
 }
 
@@ -148,7 +157,7 @@ static bool is_known(const char *what) {
 int main(int argc, char **argv) {
     int threads = argc > 1 ? atoi(argv[1]) : 0;
     const char *what = argc == 3 ? argv[2] : "picture";
-    if (threads < 1 || threads > CREW_MOST + 1 || argc > 3 || !is_known(what)) {
+    if (threads < 1 || threads > STROKES_CREW_MOST_THREADS || argc > 3 || !is_known(what)) {
         fprintf(stderr, "usage: paint THREADS [picture|whole|live|script] < SCRIPT > PICTURES\n");
         return NO_WORDS;
     }
@@ -159,18 +168,19 @@ int main(int argc, char **argv) {
         fprintf(stderr, "paint: reading failed\n");
         return NO_READING;
     }
-    struct crew crew = {0};
+    strokes_desk desk = {0};
+    int slots = threads + 1;
     unsigned number = 0;
     int code;
     if (!strcmp(what, "whole")) {
-        strokes_answer told = strokes_open_script(&crew.desk, text, len, (uint8_t)threads, &number);
+        strokes_answer told = strokes_open_script(&desk, text, len, (uint8_t)slots, &number);
         code = told == STROKES_OK ? 0 : fault(number, told);
         rest = text + len;
     } else
-        code = open_by_line(&crew, &rest, text + len, &number, threads);
-    if (!code) code = paint_rest(&crew, threads, rest, text + len, number);
-    if (!code) code = write_all(&crew.desk, what);
-    strokes_close(&crew.desk);
+        code = open_by_line(&desk, &rest, text + len, &number, slots);
+    if (!code) code = paint_rest(&desk, threads, rest, text + len, number);
+    if (!code) code = write_all(&desk, what);
+    strokes_close(&desk);
     free(text);
     return code;
 }

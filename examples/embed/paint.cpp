@@ -1,20 +1,19 @@
-// Paints a script as the command does, in C++17, with threads of its own.
+// Paints a script as the command does, in C++17.
 //
 //     paint_cpp THREADS [picture|live] < SCRIPT > PICTURES
 //
-// The caller is one of the threads, 1 to 17. Handles are objects that close what they hold. The exit codes are the command's.
-#include "strokes.h"
-#include <condition_variable>
+// A crew of 1 to 16 threads paints, and the caller helps at the end. Handles are objects that close what they hold. The exit
+// codes are the command's.
+#include "strokes_crew.h"
 #include <cstdio>
 #include <cstdlib>
 #include <exception>
 #include <iostream>
 #include <iterator>
-#include <mutex>
+#include <new>
 #include <string>
 #include <string_view>
-#include <system_error>
-#include <thread>
+#include <utility>
 #include <vector>
 
 namespace strokes {
@@ -33,20 +32,6 @@ class Refused : public std::exception {
 inline void want_ok(strokes_answer told) {
     if (told != STROKES_OK) throw Refused(told);
 }
-
-// Work that is out. It stays where it is, as a handle isn't copied.
-class Piece {
-  public:
-    Piece() = default;
-    ~Piece() { strokes_close_piece(&handle); }
-    Piece(const Piece &) = delete;
-    Piece &operator=(const Piece &) = delete;
-    strokes_answer work() { return strokes_work(&handle); }
-
-  private:
-    friend class Desk;
-    strokes_piece handle{};
-};
 
 // The root's picture as it was when the shot was taken.
 class Shot {
@@ -74,13 +59,10 @@ class Desk {
         want_ok(strokes_open_script(&handle, text.data(), text.size(), slots, &line));
     }
     ~Desk() { strokes_close(&handle); }
+    Desk(Desk &&other) noexcept : handle(std::exchange(other.handle, {})) {}
     Desk(const Desk &) = delete;
     Desk &operator=(const Desk &) = delete;
 
-    void feed(std::string_view line) { want_ok(strokes_feed(&handle, line.data(), line.size())); }
-    bool all_closed() { return strokes_all_closed(&handle) == STROKES_OK; }
-    strokes_answer take(Piece &piece) { return strokes_take(&handle, &piece.handle); }
-    strokes_answer give(Piece &piece, strokes_rect &drawn) { return strokes_give(&handle, &piece.handle, &drawn); }
     strokes_rect shoot(Shot &shot) {
         strokes_rect dirty{};
         want_ok(strokes_shoot(&handle, &shot.handle, &dirty));
@@ -106,89 +88,42 @@ class Desk {
     }
 
   private:
+    friend class Crew;
+    Desk() = default;
     strokes_desk handle{};
+};
+
+// Threads that paint a desk, which is theirs until they are stopped.
+class Crew {
+  public:
+    Crew(Desk &&desk, std::uint32_t threads) {
+        strokes_crew_options options{};
+        options.threads = threads;
+        want_ok(strokes_crew_start(&handle, &desk.handle, &options));
+    }
+    ~Crew() { strokes_crew_close(&handle); }
+    Crew(const Crew &) = delete;
+    Crew &operator=(const Crew &) = delete;
+
+    void feed(std::string_view line) {
+        strokes_answer told = strokes_feed(strokes_crew_lock(&handle), line.data(), line.size());
+        strokes_crew_unlock(&handle);
+        want_ok(told);
+    }
+    void settle() { want_ok(strokes_crew_settle(&handle, STROKES_CREW_NO_LIMIT)); }
+    Desk stop() {
+        Desk desk;
+        want_ok(strokes_crew_stop(&handle, &desk.handle));
+        return desk;
+    }
+
+  private:
+    strokes_crew handle{};
 };
 
 } // namespace strokes
 
 namespace {
-
-// Threads that paint a desk beside the caller, and its lock. They end at the first want of memory.
-class Crew {
-  public:
-    Crew(strokes::Desk &it, int threads) : desk(it) {
-        hands.reserve(static_cast<std::size_t>(threads));
-        try {
-            for (int i = 1; i < threads; i++) hands.emplace_back([this] { paint(); });
-        } catch (const std::exception &) {
-            // Those that could be started paint, and without any whoever settles.
-        }
-    }
-    ~Crew() {
-        {
-            std::lock_guard<std::mutex> hold(lock);
-            is_over = true;
-            changed.notify_all();
-        }
-        for (auto &hand : hands) hand.join();
-    }
-    Crew(const Crew &) = delete;
-    Crew &operator=(const Crew &) = delete;
-
-    void feed(std::string_view line) {
-        std::lock_guard<std::mutex> hold(lock);
-        desk.feed(line);
-        changed.notify_all();
-    }
-
-    // Works with the threads until all that was fed is done.
-    void settle() {
-        strokes::Piece piece;
-        std::unique_lock<std::mutex> hold(lock);
-        if (!desk.all_closed()) throw strokes::Refused(STROKES_STROKE_LEFT);
-        while (failed == STROKES_OK) {
-            strokes_answer told = turn(piece, hold);
-            if (told == STROKES_SETTLED) return;
-            go_on(told, hold);
-        }
-        throw strokes::Refused(failed);
-    }
-
-  private:
-    // Works on what can be done next, with the lock at the beginning and at the end.
-    strokes_answer turn(strokes::Piece &piece, std::unique_lock<std::mutex> &hold) {
-        strokes_answer told = desk.take(piece);
-        if (told != STROKES_OK) return told;
-        hold.unlock();
-        told = piece.work();
-        hold.lock();
-        strokes_rect drawn{};
-        return told == STROKES_OK ? desk.give(piece, drawn) : told;
-    }
-
-    void paint() {
-        strokes::Piece piece;
-        std::unique_lock<std::mutex> hold(lock);
-        while (!is_over && failed == STROKES_OK) go_on(turn(piece, hold), hold);
-    }
-
-    // Wakes the others, or sleeps, after this answer.
-    void go_on(strokes_answer told, std::unique_lock<std::mutex> &hold) {
-        bool sleeps = told == STROKES_IDLE || told == STROKES_SETTLED;
-        if (!sleeps && told != STROKES_OK && told != STROKES_AGAIN) failed = told;
-        if (sleeps)
-            changed.wait(hold);
-        else
-            changed.notify_all();
-    }
-
-    strokes::Desk &desk;
-    std::mutex lock;
-    std::condition_variable changed;
-    bool is_over = false;
-    strokes_answer failed = STROKES_OK;
-    std::vector<std::thread> hands;
-};
 
 bool says_nothing(std::string_view line) {
     std::size_t at = line.find_first_not_of(" \t\r");
@@ -242,16 +177,14 @@ int paint_script(std::string_view rest, int threads, bool is_live, unsigned &lin
         first = next_line(rest);
         line++;
     } while (says_nothing(first));
-    strokes::Desk desk(first, static_cast<std::uint8_t>(threads));
-    {
-        Crew crew(desk, threads);
-        while (!rest.empty()) {
-            line++;
-            crew.feed(next_line(rest));
-        }
-        line = 0;
-        crew.settle();
+    strokes::Crew crew(strokes::Desk(first, static_cast<std::uint8_t>(threads + 1)), static_cast<std::uint32_t>(threads));
+    while (!rest.empty()) {
+        line++;
+        crew.feed(next_line(rest));
     }
+    line = 0;
+    crew.settle();
+    strokes::Desk desk = crew.stop();
     write_pictures(desk, is_live);
     std::cout.flush();
     return !std::cout ? 5 : was_refused(desk) ? 1 : 0;
@@ -262,7 +195,7 @@ int paint_script(std::string_view rest, int threads, bool is_live, unsigned &lin
 int main(int argc, char **argv) {
     int threads = argc > 1 ? std::atoi(argv[1]) : 0;
     std::string_view what = argc == 3 ? argv[2] : "picture";
-    if (threads < 1 || threads > 17 || argc > 3 || (what != "picture" && what != "live")) {
+    if (threads < 1 || threads > STROKES_CREW_MOST_THREADS || argc > 3 || (what != "picture" && what != "live")) {
         std::cerr << "usage: paint_cpp THREADS [picture|live] < SCRIPT > PICTURES\n";
         return 2;
     }
@@ -278,9 +211,6 @@ int main(int argc, char **argv) {
         return refused.answer() == STROKES_NO_MEMORY ? 6 : 3;
     } catch (const std::bad_alloc &) {
         std::cerr << "paint_cpp: out of memory\n";
-        return 6;
-    } catch (const std::system_error &error) {
-        std::cerr << "paint_cpp: " << error.what() << '\n';
         return 6;
     }
 }

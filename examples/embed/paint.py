@@ -1,18 +1,19 @@
 #!/usr/bin/env python3
-"""Paints a script as the command does, with threads of Python.
+"""Paints a script as the command does.
 
     paint.py LIBRARY THREADS [picture|live|script] < SCRIPT > PICTURES
 
-LIBRARY is libstrokes.so. The caller is one of the threads, 1 to 17. ctypes lets go of Python's own lock in each call, so they
-do paint side by side. With `live` the picture of the document is written in place of the frames, and with `script` what was
-fed. The exit codes are the command's.
+LIBRARY is libstrokes.so, beside which libstrokes_crew.so lies. A crew of 1 to 16 threads paints, and the caller helps at the
+end; ctypes lets go of Python's own lock in each call. With `live` the picture of the document is written in place of the
+frames, and with `script` what was fed. The exit codes are the command's.
 """
 import ctypes as c
+import pathlib
 import sys
-import threading
 
-OK, AGAIN, IDLE, SETTLED = range(4)
+OK = 0
 NO_MEMORY = 16
+NO_LIMIT = 0xFFFFFFFF
 DONE, CANCELLED = range(2)
 FAULTS = (
     "unknown word|wrong number of fields|bad number|out of range|too many dabs|out of world|unknown stroke|closed stroke|"
@@ -23,6 +24,14 @@ TEXTS = {NO_MEMORY: "out of memory", **dict(enumerate(FAULTS.split("|"), 32))}
 
 class Handle(c.Structure):
     _fields_ = [("at", c.c_void_p), ("full", c.c_bool)]
+
+
+class CrewHandle(c.Structure):
+    _fields_ = [("at", c.c_void_p)]
+
+
+class CrewOptions(c.Structure):
+    _fields_ = [("threads", c.c_uint32), ("zero", c.c_uint32), ("news", c.c_void_p), ("whose", c.c_void_p)]
 
 
 class Rect(c.Structure):
@@ -60,11 +69,6 @@ CALLS = {
     "open_script": (HANDLE, *BYTES, c.c_uint8, c.POINTER(c.c_uint32)),
     "close": (HANDLE,),
     "feed": (HANDLE, *BYTES),
-    "take": (HANDLE, HANDLE),
-    "work": (HANDLE,),
-    "give": (HANDLE, HANDLE, c.POINTER(Rect)),
-    "close_piece": (HANDLE,),
-    "all_closed": (HANDLE,),
     "shoot": (HANDLE, HANDLE, c.POINTER(Rect)),
     "shot_row": (HANDLE, c.c_uint16, c.c_uint16, c.c_uint16, *OUT),
     "close_shot": (HANDLE,),
@@ -74,83 +78,57 @@ CALLS = {
     "frame_row": (HANDLE, c.c_uint64, c.c_uint16, *OUT),
     "text": (HANDLE, c.POINTER(c.c_uint64), *OUT, c.POINTER(c.c_size_t)),
 }
+# And those of strokes_crew.h.
+CREW = c.POINTER(CrewHandle)
+CREW_CALLS = {
+    "crew_start": (CREW, HANDLE, c.POINTER(CrewOptions)),
+    "crew_lock": (CREW,),
+    "crew_unlock": (CREW,),
+    "crew_settle": (CREW, c.c_uint32),
+    "crew_stop": (CREW, HANDLE),
+    "crew_close": (CREW,),
+}
+RESULTS = {"close": None, "close_shot": None, "crew_lock": HANDLE, "crew_unlock": None, "crew_close": None}
 
 
 class Library:
     def __init__(self, path):
-        library = c.CDLL(path)
-        for name, passed in CALLS.items():
+        self.add(c.CDLL(path), CALLS)
+        self.add(c.CDLL(str(pathlib.Path(path).with_name("libstrokes_crew.so"))), CREW_CALLS)
+
+    def add(self, library, calls):
+        for name, passed in calls.items():
             call = getattr(library, f"strokes_{name}")
-            call.argtypes, call.restype = passed, None if name.startswith("close") else c.c_uint32
+            call.argtypes, call.restype = passed, RESULTS.get(name, c.c_uint32)
             setattr(self, name, call)
 
 
 class Desk:
-    """A desk, its lock, and the threads that paint it beside the caller. They end at the first want of memory."""
+    """A desk, which a crew paints until it is settled."""
 
     def __init__(self, library, text, threads):
-        self.call, self.handle, self.changed = library, Handle(), threading.Condition()
-        self.is_over, self.failed = False, OK
-        line = c.c_uint32()
-        want_ok(library.open_script(self.handle, text, len(text), threads, line))
-        self.threads = [threading.Thread(target=self.paint) for _ in range(threads - 1)]
-        for thread in self.threads:
-            thread.start()
-
-    def turn(self, piece):
-        """Works on what can be done next; the lock is let go meanwhile."""
-        told = self.call.take(self.handle, piece)
-        if told != OK:
-            return told
-        self.changed.release()
+        self.call, self.handle, self.crew = library, Handle(), CrewHandle()
+        want_ok(library.open_script(self.handle, text, len(text), threads + 1, c.c_uint32()))
         try:
-            told = self.call.work(piece)
-        finally:
-            self.changed.acquire()
-        return self.call.give(self.handle, piece, Rect()) if told == OK else told
-
-    def paint(self):
-        piece = Handle()
-        with self.changed:
-            while not self.is_over and not self.failed:
-                self.go_on(self.turn(piece))
-        self.call.close_piece(piece)
-
-    def go_on(self, told):
-        """Wakes the others, or sleeps, after this answer."""
-        if told in (IDLE, SETTLED):
-            self.changed.wait()
-        else:
-            if told not in (OK, AGAIN):
-                self.failed = told
-            self.changed.notify_all()
+            want_ok(library.crew_start(self.crew, self.handle, CrewOptions(threads=threads)))
+        except Refused:
+            self.close()
+            raise
 
     def feed(self, line):
-        with self.changed:
-            told = self.call.feed(self.handle, line, len(line))
-            self.changed.notify_all()
-        return told
+        desk = self.call.crew_lock(self.crew)
+        try:
+            return self.call.feed(desk, line, len(line))
+        finally:
+            self.call.crew_unlock(self.crew)
 
     def settle(self):
-        """Works with the threads until all that was fed is done."""
-        piece = Handle()
-        try:
-            with self.changed:
-                want_ok(self.call.all_closed(self.handle))
-                while not self.failed and (told := self.turn(piece)) != SETTLED:
-                    self.go_on(told)
-                want_ok(self.failed)
-        finally:
-            self.call.close_piece(piece)
-
-    def end(self):
-        with self.changed:
-            self.is_over = True
-            self.changed.notify_all()
-        for thread in self.threads:
-            thread.join()
+        """Works with the threads until all that was fed is done, and ends them."""
+        want_ok(self.call.crew_settle(self.crew, NO_LIMIT))
+        want_ok(self.call.crew_stop(self.crew, self.handle))
 
     def close(self):
+        self.call.crew_close(self.crew)
         self.call.close(self.handle)
 
     def asked(self, name, about):
@@ -208,12 +186,9 @@ def paint(library, threads, what, out):
     except Refused as refused:
         raise Refused(refused.answer, number) from None
     try:
-        try:
-            for number, line in lines:
-                want_ok(desk.feed(line), number)
-            desk.settle()
-        finally:
-            desk.end()
+        for number, line in lines:
+            want_ok(desk.feed(line), number)
+        desk.settle()
         for part in {"picture": desk.frames, "live": desk.live, "script": desk.script}[what]():
             out.write(part)
         out.flush()
@@ -225,7 +200,7 @@ def paint(library, threads, what, out):
 def main():
     words = sys.argv[1:] + ["picture"] * (len(sys.argv) == 3)
     is_known = len(words) == 3 and words[1].isdigit() and words[2] in ("picture", "live", "script")
-    if not is_known or not 1 <= int(words[1]) <= 17:
+    if not is_known or not 1 <= int(words[1]) <= 16:
         print(__doc__, file=sys.stderr)
         return 2
     try:

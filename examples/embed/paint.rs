@@ -1,17 +1,15 @@
-//! Paints a script as the command does, in a Rust program, with threads of its own.
+//! Paints a script as the command does, in a Rust program.
 //!
 //!     paint_rs THREADS < SCRIPT > PICTURES
 //!
-//! The caller is one of the threads, 1 to 17. `raw` is `strokes.h`; around it are types of which each does what the header
-//! asks of a host. The exit codes are the command's.
+//! A crew of 1 to 16 threads paints, and the caller helps at the end. `raw` is `strokes.h` and `strokes_crew.h`; around it are
+//! types of which each does what the headers ask of a program. The exit codes are the command's.
 use std::io::{self, BufWriter, Read, Write};
 use std::process::ExitCode;
-use std::sync::{Condvar, Mutex, MutexGuard, PoisonError};
-use std::thread;
 
-/// What this program uses of `strokes.h`.
+/// What this program uses of `strokes.h` and `strokes_crew.h`.
 mod raw {
-    /// A desk or a piece. Zeros are a shut one.
+    /// A desk. Zeros are a shut one.
     #[repr(C)]
     pub struct Handle {
         at: *mut u8,
@@ -25,13 +23,18 @@ mod raw {
         };
     }
 
+    /// A crew. Zeros are a shut one.
     #[repr(C)]
-    #[derive(Default)]
-    pub struct Rect {
-        pub x: i32,
-        pub y: i32,
-        pub w: u32,
-        pub h: u32,
+    pub struct Crew {
+        pub at: *mut u8,
+    }
+
+    #[repr(C)]
+    pub struct CrewOptions {
+        pub threads: u32,
+        pub zero: u32,
+        pub news: Option<extern "C" fn(*mut u8)>,
+        pub whose: *mut u8,
     }
 
     #[repr(C)]
@@ -59,9 +62,6 @@ mod raw {
     }
 
     pub const OK: u32 = 0;
-    pub const AGAIN: u32 = 1;
-    pub const IDLE: u32 = 2;
-    pub const SETTLED: u32 = 3;
     pub const NO_MEMORY: u32 = 16;
     pub const CANVAS_MISSING: u32 = 41;
     pub const STROKE_LEFT: u32 = 45;
@@ -79,11 +79,6 @@ mod raw {
         ) -> u32;
         pub fn strokes_close(desk: *mut Handle);
         pub fn strokes_feed(desk: *mut Handle, line: *const u8, line_len: usize) -> u32;
-        pub fn strokes_take(desk: *mut Handle, piece: *mut Handle) -> u32;
-        pub fn strokes_work(piece: *mut Handle) -> u32;
-        pub fn strokes_give(desk: *mut Handle, piece: *mut Handle, drawn: *mut Rect) -> u32;
-        pub fn strokes_close_piece(piece: *mut Handle);
-        pub fn strokes_all_closed(desk: *mut Handle) -> u32;
         pub fn strokes_canvas_of(desk: *mut Handle, out: *mut Canvas) -> u32;
         pub fn strokes_count_of(desk: *mut Handle, out: *mut Count) -> u32;
         pub fn strokes_outcome_at(desk: *mut Handle, entry: u64, out: *mut Outcome) -> u32;
@@ -94,8 +89,21 @@ mod raw {
             out: *mut u8,
             out_len: usize,
         ) -> u32;
+
+        pub fn strokes_crew_start(
+            crew: *mut Crew,
+            desk: *mut Handle,
+            options: *const CrewOptions,
+        ) -> u32;
+        pub fn strokes_crew_lock(crew: *mut Crew) -> *mut Handle;
+        pub fn strokes_crew_unlock(crew: *mut Crew);
+        pub fn strokes_crew_settle(crew: *mut Crew, milliseconds: u32) -> u32;
+        pub fn strokes_crew_stop(crew: *mut Crew, desk: *mut Handle) -> u32;
+        pub fn strokes_crew_close(crew: *mut Crew);
     }
 }
+
+const NO_LIMIT: u32 = u32::MAX;
 
 /// An answer other than OK.
 #[derive(Clone, Copy, Debug, PartialEq, Eq)]
@@ -131,42 +139,8 @@ fn ok(answer: u32) -> Result<(), Refused> {
     }
 }
 
-/// What a thread is to do after it has asked for work.
-enum Turn {
-    /// Something was done: ask again.
-    Done,
-    /// Wait for others.
-    Idle,
-    Settled,
-}
-
-/// Work that is out. A handle may move between calls, as a value does.
-struct Piece(raw::Handle);
-
-// SAFETY: any thread may make any call, as long as one call at a time is made on a piece, which `&mut` sees to.
-unsafe impl Send for Piece {}
-
-impl Piece {
-    fn shut() -> Piece {
-        Piece(raw::Handle::SHUT)
-    }
-
-    fn work(&mut self) -> Result<(), Refused> {
-        ok(unsafe { raw::strokes_work(&mut self.0) })
-    }
-}
-
-impl Drop for Piece {
-    fn drop(&mut self) {
-        unsafe { raw::strokes_close_piece(&mut self.0) }
-    }
-}
-
 /// A desk that is open, and closed when it is dropped.
 struct Desk(raw::Handle);
-
-// SAFETY: as of `Piece`.
-unsafe impl Send for Desk {}
 
 impl Desk {
     /// A desk by a script.
@@ -179,31 +153,6 @@ impl Desk {
         Ok(desk)
     }
 
-    fn feed(&mut self, line: &[u8]) -> Result<(), Refused> {
-        ok(unsafe { raw::strokes_feed(&mut self.0, line.as_ptr(), line.len()) })
-    }
-
-    fn all_closed(&mut self) -> Result<(), Refused> {
-        ok(unsafe { raw::strokes_all_closed(&mut self.0) })
-    }
-
-    /// Takes work into a piece, or (`Some`) tells what to do without.
-    fn take(&mut self, piece: &mut Piece) -> Result<Option<Turn>, Refused> {
-        match unsafe { raw::strokes_take(&mut self.0, &mut piece.0) } {
-            raw::OK => Ok(None),
-            raw::AGAIN => Ok(Some(Turn::Done)),
-            raw::IDLE => Ok(Some(Turn::Idle)),
-            raw::SETTLED => Ok(Some(Turn::Settled)),
-            other => Err(Refused(other)),
-        }
-    }
-
-    /// Gives work back, and tells what is to be drawn anew.
-    fn give(&mut self, piece: &mut Piece) -> Result<raw::Rect, Refused> {
-        let mut drawn = raw::Rect::default();
-        ok(unsafe { raw::strokes_give(&mut self.0, &mut piece.0, &mut drawn) })?;
-        Ok(drawn)
-    }
 
     fn canvas(&mut self) -> Result<raw::Canvas, Refused> {
         let mut canvas = raw::Canvas::default();
@@ -234,103 +183,48 @@ impl Drop for Desk {
     }
 }
 
-/// What lies under the lock.
-struct Board {
-    desk: Desk,
-    is_over: bool,
-    /// What ended the threads: a want of memory.
-    failed: Option<Refused>,
-}
-
-/// Threads that paint a desk beside the caller, and its lock. They end at the first want of memory.
-struct Crew {
-    board: Mutex<Board>,
-    changed: Condvar,
-}
+/// Threads that paint a desk, which is theirs until they are stopped.
+struct Crew(raw::Crew);
 
 impl Crew {
-    fn lock(&self) -> MutexGuard<'_, Board> {
-        self.board.lock().unwrap_or_else(PoisonError::into_inner)
+    fn start(mut desk: Desk, threads: u32) -> Result<Crew, Refused> {
+        let mut crew = Crew(raw::Crew {
+            at: std::ptr::null_mut(),
+        });
+        let options = raw::CrewOptions {
+            threads,
+            zero: 0,
+            news: None,
+            whose: std::ptr::null_mut(),
+        };
+        ok(unsafe { raw::strokes_crew_start(&mut crew.0, &mut desk.0, &options) })?;
+        Ok(crew)
     }
 
-    fn sleep<'a>(&self, board: MutexGuard<'a, Board>) -> MutexGuard<'a, Board> {
-        self.changed
-            .wait(board)
-            .unwrap_or_else(PoisonError::into_inner)
-    }
-
-    /// Works on what can be done next. The lock is let go meanwhile.
-    fn turn<'a>(
-        &'a self,
-        mut board: MutexGuard<'a, Board>,
-        piece: &mut Piece,
-    ) -> (MutexGuard<'a, Board>, Result<Turn, Refused>) {
-        match board.desk.take(piece) {
-            Ok(Some(turn)) => (board, Ok(turn)),
-            Err(refused) => (board, Err(refused)),
-            Ok(None) => {
-                drop(board);
-                let worked = piece.work();
-                let mut board = self.lock();
-                let given = worked.and_then(|()| board.desk.give(piece));
-                (board, given.map(|_drawn| Turn::Done))
-            }
-        }
-    }
-
-    /// Paints until the crew is told that it is over.
-    fn paint(&self) {
-        let mut piece = Piece::shut();
-        let mut board = self.lock();
-        while !board.is_over && board.failed.is_none() {
-            let turn;
-            (board, turn) = self.turn(board, &mut piece);
-            board = self.go_on(board, turn);
-        }
-    }
-
-    /// Wakes the others, or sleeps, after this answer.
-    fn go_on<'a>(
-        &self,
-        mut board: MutexGuard<'a, Board>,
-        turn: Result<Turn, Refused>,
-    ) -> MutexGuard<'a, Board> {
-        match turn {
-            Ok(Turn::Idle | Turn::Settled) => return self.sleep(board),
-            Ok(Turn::Done) => {}
-            Err(refused) => board.failed = Some(refused),
-        }
-        self.changed.notify_all();
-        board
-    }
-
-    fn feed(&self, line: &[u8]) -> Result<(), Refused> {
-        let fed = self.lock().desk.feed(line);
-        self.changed.notify_all();
-        fed
+    fn feed(&mut self, line: &[u8]) -> Result<(), Refused> {
+        ok(unsafe {
+            let desk = raw::strokes_crew_lock(&mut self.0);
+            let told = raw::strokes_feed(desk, line.as_ptr(), line.len());
+            raw::strokes_crew_unlock(&mut self.0);
+            told
+        })
     }
 
     /// Works with the threads until all that was fed is done.
-    fn settle(&self) -> Result<(), Refused> {
-        let mut piece = Piece::shut();
-        let mut board = self.lock();
-        board.desk.all_closed()?;
-        loop {
-            if let Some(refused) = board.failed {
-                return Err(refused);
-            }
-            let turn;
-            (board, turn) = self.turn(board, &mut piece);
-            if matches!(turn, Ok(Turn::Settled)) {
-                return Ok(());
-            }
-            board = self.go_on(board, turn);
-        }
+    fn settle(&mut self) -> Result<(), Refused> {
+        ok(unsafe { raw::strokes_crew_settle(&mut self.0, NO_LIMIT) })
     }
 
-    fn end(&self) {
-        self.lock().is_over = true;
-        self.changed.notify_all();
+    fn stop(mut self) -> Result<Desk, Refused> {
+        let mut desk = Desk(raw::Handle::SHUT);
+        ok(unsafe { raw::strokes_crew_stop(&mut self.0, &mut desk.0) })?;
+        Ok(desk)
+    }
+}
+
+impl Drop for Crew {
+    fn drop(&mut self) {
+        unsafe { raw::strokes_crew_close(&mut self.0) }
     }
 }
 
@@ -361,7 +255,7 @@ impl From<io::Error> for Fault {
     }
 }
 
-/// Paints the script with so many threads of its own, and gives the settled desk.
+/// Paints the script with a crew of so many threads, and gives the settled desk.
 fn painted(text: &[u8], threads: u8) -> Result<Desk, Fault> {
     let mut lines = text
         .split(|byte| *byte == b'\n')
@@ -370,38 +264,14 @@ fn painted(text: &[u8], threads: u8) -> Result<Desk, Fault> {
     let Some((at, first)) = lines.next() else {
         return Err(Fault::Line(1, Refused(raw::CANVAS_MISSING)));
     };
-    let desk = Desk::open(first, threads).map_err(|refused| Fault::Line(at + 1, refused))?;
-    let crew = Crew {
-        board: Mutex::new(Board {
-            desk,
-            is_over: false,
-            failed: None,
-        }),
-        changed: Condvar::new(),
-    };
-    thread::scope(|scope| {
-        for _ in 1..threads {
-            // Where one can't be started the others paint, and without any whoever settles.
-            let _ = thread::Builder::new().spawn_scoped(scope, || crew.paint());
-        }
-        let mut fed = Ok(());
-        for (at, line) in lines {
-            fed = crew
-                .feed(line)
-                .map_err(|refused| Fault::Line(at + 1, refused));
-            if fed.is_err() {
-                break;
-            }
-        }
-        let settled = fed.and_then(|()| Ok(crew.settle()?));
-        crew.end();
-        settled
-    })?;
-    Ok(crew
-        .board
-        .into_inner()
-        .unwrap_or_else(PoisonError::into_inner)
-        .desk)
+    let desk = Desk::open(first, threads + 1).map_err(|refused| Fault::Line(at + 1, refused))?;
+    let mut crew = Crew::start(desk, u32::from(threads))?;
+    for (at, line) in lines {
+        crew.feed(line)
+            .map_err(|refused| Fault::Line(at + 1, refused))?;
+    }
+    crew.settle()?;
+    Ok(crew.stop()?)
 }
 
 /// Writes each frame as a portable pixmap.
@@ -444,7 +314,7 @@ fn main() -> ExitCode {
         .nth(1)
         .and_then(|word| word.parse().ok())
         .unwrap_or(0);
-    if !(1..=17).contains(&threads) || std::env::args().count() > 2 {
+    if !(1..=16).contains(&threads) || std::env::args().count() > 2 {
         eprintln!("usage: paint_rs THREADS < SCRIPT > PICTURES");
         return ExitCode::from(2);
     }

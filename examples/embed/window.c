@@ -7,12 +7,14 @@
  * show it. Wheel: zoom; right button: move the picture. S: save what was fed as picture.strokes. X: write the picture to
  * picture-1.ppm and so on. Q: end. LOG is a file that gets a line for each dab: the microseconds from the event of the mouse to
  * the screen. */
-#include "crew.h"
+#include "strokes_crew.h"
 #include <SDL.h>
 #include <stdarg.h>
 #include <stdio.h>
 #include <stdlib.h>
 #include <string.h>
+
+#define OUT_OF_MEMORY "out of memory: it goes on once there is some"
 
 enum { MOST_LAYERS = 256, WAITING = 256, KEPT_CHANGES = 200, MOST_CHANGES = 400 };
 
@@ -23,14 +25,14 @@ struct change {
 };
 
 struct window {
-    struct crew crew;
+    strokes_crew crew;
     strokes_canvas canvas;
-    strokes_rect damage; /* under the crew's lock: what is to be drawn anew */
-    Uint32 drawn;        /* the event that wakes the window */
+    Uint32 news; /* the event that wakes the window */
 
     SDL_Window *window;
     SDL_Renderer *renderer;
     SDL_Texture *texture; /* the picture on the paper */
+    bool is_shown;        /* the texture has the picture */
     strokes_shot shot;
     uint8_t *row, *pixels;
     float zoom, left, top; /* where the picture stands in the window */
@@ -62,32 +64,8 @@ static void say(struct window *w, const char *form, ...) {
     SDL_SetWindowTitle(w->window, text);
 }
 
-/* ---- What threads tell */
-
 static int least(int a, int b) { return a < b ? a : b; }
 static int most(int a, int b) { return a > b ? a : b; }
-
-/* The least rectangle round both. */
-static strokes_rect joined(strokes_rect a, strokes_rect b) {
-    if (a.w == 0) return b;
-    if (b.w == 0) return a;
-    int x = least(a.x, b.x), y = least(a.y, b.y);
-    int right = most(a.x + (int)a.w, b.x + (int)b.w), bottom = most(a.y + (int)a.h, b.y + (int)b.h);
-    return (strokes_rect){x, y, (uint32_t)(right - x), (uint32_t)(bottom - y)};
-}
-
-/* Any thread may wake the window. */
-static void wake(struct window *w) {
-    SDL_Event event = {.type = w->drawn};
-    SDL_PushEvent(&event);
-}
-
-/* Called by a thread that gave something back, under the lock. */
-static void note_drawn(void *whose, strokes_rect rect) {
-    struct window *w = whose;
-    if (w->damage.w == 0) wake(w);
-    w->damage = joined(w->damage, rect);
-}
 
 /* ---- The screen */
 
@@ -120,40 +98,48 @@ static void log_dabs(struct window *w) {
     w->waiting = 0;
 }
 
-/* Brings to the screen what was painted since. The lock is held for the shot alone. */
-static void draw(struct window *w) {
+/* Called by any thread when there is something to draw. */
+static void wake(void *whose) {
+    struct window *w = whose;
+    SDL_Event event = {.type = w->news};
+    SDL_PushEvent(&event);
+}
+
+/* Takes a shot, and asks which part of it is to be drawn: at first all. False where there is no memory. The lock is held for
+ * the shot alone. */
+static bool shoot(struct window *w, strokes_rect *redraw) {
     strokes_rect dirty;
-    pthread_mutex_lock(&w->crew.lock);
-    strokes_rect rect = w->damage;
-    strokes_answer told = strokes_shoot(&w->crew.desk, &w->shot, &dirty);
-    bool is_all = w->crew.rests, lacks = w->crew.lacks;
-    w->crew.lacks = false;
-    if (told == STROKES_OK) w->damage = (strokes_rect){0};
-    pthread_mutex_unlock(&w->crew.lock);
-    if (lacks || told != STROKES_OK) say(w, "out of memory: it goes on once there is some");
-    if (told != STROKES_OK) {
+    strokes_answer told = strokes_shoot(strokes_crew_lock(&w->crew), &w->shot, &dirty);
+    if (told == STROKES_OK && strokes_crew_news(&w->crew, redraw) == STROKES_NO_MEMORY) say(w, "%s", OUT_OF_MEMORY);
+    strokes_crew_unlock(&w->crew);
+    if (told != STROKES_OK) return false;
+    if (!w->is_shown) *redraw = (strokes_rect){0, 0, w->canvas.w, w->canvas.h};
+    w->is_shown = true;
+    return true;
+}
+
+/* Brings to the screen what was painted since. */
+static void draw(struct window *w) {
+    strokes_rect redraw;
+    bool has_all = w->waiting > 0 && strokes_crew_settle(&w->crew, 0) != STROKES_AGAIN;
+    if (!shoot(w, &redraw)) {
+        say(w, "%s", OUT_OF_MEMORY);
         SDL_Delay(20);
         wake(w);
         return;
     }
-    if (rect.w > 0) upload(w, rect);
+    if (redraw.w > 0) upload(w, redraw);
     present(w);
-    if (is_all) log_dabs(w);
+    if (has_all) log_dabs(w);
 }
 
 /* ---- Commands */
 
-/* Ends a call that fed something: the threads are woken, and a refusal is told. The lock is held before. */
+/* Ends a call that fed something, and tells a refusal. The lock is held before. */
 static bool is_fed(struct window *w, strokes_answer told) {
-    crew_wake(&w->crew);
-    pthread_mutex_unlock(&w->crew.lock);
+    strokes_crew_unlock(&w->crew);
     if (told != STROKES_OK) say(w, "%s", strokes_answer_text(told));
     return told == STROKES_OK;
-}
-
-static strokes_desk *locked(struct window *w) {
-    pthread_mutex_lock(&w->crew.lock);
-    return &w->crew.desk;
 }
 
 static bool feed(struct window *w, const char *form, ...) {
@@ -162,7 +148,7 @@ static bool feed(struct window *w, const char *form, ...) {
     va_start(words, form);
     int len = vsnprintf(line, sizeof line, form, words);
     va_end(words);
-    return is_fed(w, strokes_feed(locked(w), line, (size_t)len));
+    return is_fed(w, strokes_feed(strokes_crew_lock(&w->crew), line, (size_t)len));
 }
 
 /* ---- What can be undone
@@ -192,14 +178,14 @@ static void turn_change(struct window *w, struct change change, int by) {
 static void undo(struct window *w) {
     if (w->done == 0)
         say(w, "nothing to undo");
-    else if (is_fed(w, strokes_undo(locked(w))))
+    else if (is_fed(w, strokes_undo(strokes_crew_lock(&w->crew))))
         turn_change(w, w->changes[--w->done], -1);
 }
 
 static void redo(struct window *w) {
     if (w->done == w->known)
         say(w, "nothing to redo");
-    else if (is_fed(w, strokes_redo(locked(w))))
+    else if (is_fed(w, strokes_redo(strokes_crew_lock(&w->crew))))
         turn_change(w, w->changes[w->done++], 1);
 }
 
@@ -210,26 +196,26 @@ static uint16_t id_of(int layer) { return (uint16_t)(layer + 1); }
 static void begin_stroke(struct window *w) {
     w->brush.op = w->erases ? STROKES_ERASE : STROKES_OVER;
     w->brush.colour = w->erases ? 0x000000ff : w->colour;
-    w->is_down = is_fed(w, strokes_begin(locked(w), w->stroke + 1, id_of(w->layer), false));
+    w->is_down = is_fed(w, strokes_begin(strokes_crew_lock(&w->crew), w->stroke + 1, id_of(w->layer), false));
     if (w->is_down) w->stroke++;
 }
 
 /* Where memory ended the stroke is still open. */
 static void end_stroke(struct window *w, bool is_cancelled) {
     if (!w->is_down) return;
-    strokes_desk *desk = locked(w);
+    strokes_desk *desk = strokes_crew_lock(&w->crew);
     w->is_down = !is_fed(w, is_cancelled ? strokes_cancel(desk, w->stroke) : strokes_end(desk, w->stroke));
     if (!w->is_down && !is_cancelled) note_change(w, (struct change){PAINTED, w->layer});
 }
 
 /* Where a stroke has all the jobs that it may have, another one goes on. */
 static void dab(struct window *w, int x, int y, Uint64 since) {
-    strokes_answer told = strokes_dab(locked(w), w->stroke, STROKES_SEQ, x, y, &w->brush);
+    strokes_answer told = strokes_dab(strokes_crew_lock(&w->crew), w->stroke, STROKES_SEQ, x, y, &w->brush);
     if (told == STROKES_TOO_MANY_JOBS) {
-        pthread_mutex_unlock(&w->crew.lock);
+        strokes_crew_unlock(&w->crew);
         end_stroke(w, false);
         if (!w->is_down) begin_stroke(w);
-        told = strokes_dab(locked(w), w->stroke, STROKES_SEQ, x, y, &w->brush);
+        told = strokes_dab(strokes_crew_lock(&w->crew), w->stroke, STROKES_SEQ, x, y, &w->brush);
     }
     if (is_fed(w, told) && w->waiting < WAITING) w->since[w->waiting++] = since;
     w->x = x, w->y = y;
@@ -280,8 +266,8 @@ static void save(struct window *w) {
     size_t written;
     strokes_answer told;
     do {
-        told = strokes_text(locked(w), &next, piece, sizeof piece, &written);
-        pthread_mutex_unlock(&w->crew.lock);
+        told = strokes_text(strokes_crew_lock(&w->crew), &next, piece, sizeof piece, &written);
+        strokes_crew_unlock(&w->crew);
         if (told == STROKES_OK) fwrite(piece, 1, written, file);
     } while (told == STROKES_OK && written > 0);
     bool is_whole = told == STROKES_OK && !ferror(file);
@@ -292,8 +278,8 @@ static void save(struct window *w) {
 /* A row of the picture: of the newest frame, or of the shot. */
 static strokes_answer row_of(struct window *w, bool is_shot, uint64_t frame, uint16_t y) {
     if (is_shot) return strokes_shot_row(&w->shot, 0, y, (uint16_t)w->canvas.w, w->row, 3ul * w->canvas.w);
-    strokes_answer told = strokes_frame_row(locked(w), frame, y, w->row, 3ul * w->canvas.w);
-    pthread_mutex_unlock(&w->crew.lock);
+    strokes_answer told = strokes_frame_row(strokes_crew_lock(&w->crew), frame, y, w->row, 3ul * w->canvas.w);
+    strokes_crew_unlock(&w->crew);
     return told;
 }
 
@@ -310,10 +296,10 @@ static void write_picture(struct window *w) {
     strokes_rect dirty;
     strokes_count count;
     bool is_shot = !feed(w, "export");
-    strokes_answer told = crew_settle(&w->crew);
-    strokes_desk *desk = locked(w);
+    strokes_answer told = strokes_crew_settle(&w->crew, STROKES_CREW_NO_LIMIT);
+    strokes_desk *desk = strokes_crew_lock(&w->crew);
     if (told == STROKES_OK) told = is_shot ? strokes_shoot(desk, &w->shot, &dirty) : strokes_count_of(desk, &count);
-    pthread_mutex_unlock(&w->crew.lock);
+    strokes_crew_unlock(&w->crew);
     char name[40];
     snprintf(name, sizeof name, "picture-%d.ppm", ++w->pictures);
     FILE *file = told == STROKES_OK ? fopen(name, "wb") : NULL;
@@ -427,14 +413,14 @@ static bool answer_event(struct window *w, const SDL_Event *event) {
         if (event->window.event == SDL_WINDOWEVENT_EXPOSED) present(w);
         break;
     default:
-        if (event->type == w->drawn) draw(w);
+        if (event->type == w->news) draw(w);
     }
     return true;
 }
 
 static bool open_window(struct window *w) {
     if (SDL_Init(SDL_INIT_VIDEO)) return false;
-    w->drawn = SDL_RegisterEvents(1);
+    w->news = SDL_RegisterEvents(1);
     int columns = (int)w->canvas.w, rows = (int)w->canvas.h, anywhere = SDL_WINDOWPOS_CENTERED;
     w->window = SDL_CreateWindow("strokes", anywhere, anywhere, least(1280, columns), least(800, rows), SDL_WINDOW_RESIZABLE);
     if (!w->window) return false;
@@ -448,7 +434,6 @@ static bool open_window(struct window *w) {
 
 static void paint(struct window *w) {
     SDL_Event event;
-    w->damage = (strokes_rect){0, 0, w->canvas.w, w->canvas.h};
     add_layer(w, 0xffffffff);
     add_layer(w, 0);
     feed(w, "purge 0"); /* so that these two layers can't be undone */
@@ -464,27 +449,27 @@ int main(int argc, char **argv) {
     w.canvas.w = argc > 2 ? (uint32_t)atoi(argv[1]) : 1024;
     w.canvas.h = argc > 2 ? (uint32_t)atoi(argv[2]) : 768;
     w.canvas.paper = 0xffffff;
-    threads = most(1, least(CREW_MOST, threads));
-    strokes_answer told = strokes_open(&w.crew.desk, &w.canvas, (uint8_t)(threads + 1));
+    threads = most(1, least(STROKES_CREW_MOST_THREADS, threads));
+    strokes_desk desk = {0};
+    strokes_answer told = strokes_open(&desk, &w.canvas, (uint8_t)(threads + 1));
     if (told != STROKES_OK) {
         fprintf(stderr, "window: %s\nusage: window [WIDTH HEIGHT [THREADS [LOG]]]\n", strokes_answer_text(told));
         return 2;
     }
     w.log = argc > 4 ? fopen(argv[4], "w") : NULL;
-    w.crew.drawn = note_drawn;
-    w.crew.whose = &w;
     bool is_open = open_window(&w);
-    if (is_open) {
-        crew_start(&w.crew, threads);
-        paint(&w);
-        crew_end(&w.crew);
-    } else
+    if (!is_open)
         fprintf(stderr, "window: %s\n", SDL_GetError());
+    else if ((told = strokes_crew_start(&w.crew, &desk, &(strokes_crew_options){(uint32_t)threads, 0, wake, &w})) == STROKES_OK)
+        paint(&w);
+    else
+        fprintf(stderr, "window: %s\n", strokes_answer_text(told));
+    strokes_crew_close(&w.crew);
     strokes_close_shot(&w.shot);
-    strokes_close(&w.crew.desk);
+    strokes_close(&desk);
     if (w.log) fclose(w.log);
     free(w.row);
     free(w.pixels);
     SDL_Quit();
-    return is_open ? 0 : 1;
+    return is_open && told == STROKES_OK ? 0 : 1;
 }

@@ -3,6 +3,7 @@
  * and refuses an allocation by its number, so that each can be tried. Link it
  * before libstrokes.a. */
 #include "heap.h"
+#include <limits.h>
 #include <stdatomic.h>
 #include <stdlib.h>
 
@@ -11,18 +12,24 @@ struct tried {
     void *at;
 };
 
-static atomic_long asked, out, refused = -1;
+static atomic_long asked, out, refused = -1, ended = LONG_MAX;
 
 void heap_refuse(long number) {
     atomic_store(&asked, 0);
     atomic_store(&refused, number);
+    atomic_store(&ended, LONG_MAX);
 }
+
+void heap_end(long more) { atomic_store(&ended, atomic_load(&asked) + more); }
 
 long heap_asked(void) { return atomic_load(&asked); }
 
 long heap_out(void) { return atomic_load(&out); }
 
-static bool refuses(void) { return atomic_fetch_add(&asked, 1) == atomic_load(&refused); }
+static bool refuses(void) {
+    long number = atomic_fetch_add(&asked, 1);
+    return number == atomic_load(&refused) || number >= atomic_load(&ended);
+}
 
 /* Where there is none, some address that isn't NULL goes with the `false`. */
 static struct tried tried(void *at) {

@@ -9,6 +9,9 @@
  * none where it is negative. */
 void heap_refuse(long number);
 
+/* Refuses all allocations after so many more, until heap_refuse is called. */
+void heap_end(long more);
+
 /* How many allocations were asked for since then. */
 long heap_asked(void);
 
