@@ -12,8 +12,8 @@ use Rattle.script_lines.proofs.FieldLemmas.{first, second}
 use Rattle.clap.specs.Matches.{TriesOne}
 use Rattle.clap.specs.Kinds.{Kinds, IsAmong}
 use Rattle.clap.specs.Walk.{Text, Row, one_of}
-use Rattle.clap.specs.Faults.{fault_of, is_simple_and_free}
-use Rattle.clap.specs.Simple.{is_simple, matches_of}
+use Rattle.clap.specs.Faults.{fault_of, is_free_app, is_simple_and_free}
+use Rattle.clap.specs.Simple.{built, is_simple, matches_of}
 use Rattle.clap.specs.ValueTests.{is_unsigned_in}
 use Rattle.clap.specs.Values.{Accepts}
 use Rattle.clap.specs.declared.builder.value_parser.ValueParser.TheVariants as parser
@@ -35,8 +35,7 @@ unfolding clap_on_literals
 is_free = refl
 
 pub command_is_simple : is_simple command ≡ true
-unfolding clap_on_literals
-command_is_simple = refl
+command_is_simple = first (is_simple command) (is_free_app (built command)) is_free
 
 -- without a fault the choice is that of the matches
 pub choice_without_fault : (words : List Text) → fault_of command words ≡ [] → choice words ≡ choice_by (matches_of command words)
