@@ -2,7 +2,7 @@
 use Rattle.std.proofs.Common.{◌≡◌, ℕ, suc, zero, ◌+◌, ◌*◌, ◌≤◌, Bool, true, false, not, ◌&&◌, ◌||◌, cond, List, [], ◌∷◌, ◌++◌, length, take, drop, map, Option, Some, None, Result, Ok, Err, ◌⊎◌, inl, inr, refl, sym, ap, ◌∙◌, subst, append_assoc, append-nil, arith}
 use Rattle.std.specs.Prelude.{ℤ, pos, ◌+ℤ◌, ◌-ℤ◌, OnOk, OnErr, slice_get, remove}
 use Rattle.std.specs.List.{list_any}
-use Rattle.std.proofs.lemmas.List.{length-append, take_all, take_at}
+use Rattle.std.proofs.lemmas.List.{length-append, take_all, take_at, take_more}
 use Rattle.std.proofs.lemmas.List.Folds.{list_any_more}
 use Rattle.std.proofs.lemmas.List.Sums.{fold-append}
 use Rattle.std.proofs.lemmas.Option.{slice_get_within, get_or_from_slice_get}
@@ -32,7 +32,7 @@ use Rattle.live_run.proofs.RootTiles.{all_published}
 
 -- ---- which tiles are owed
 
-pub owing : Key → Owed
+abbrev pub owing : Key → Owed
 owing k = record { key = k }
 
 same_false : (a b : Bool) → (a || b) ≡ false → (a ≡ false) × (b ≡ false)
@@ -55,31 +55,34 @@ owed_more tiles owed key k on h = let both = owes_more owed (owing key) k h in (
 
 -- one tile less
 pub owed_less : (owed : List Owed) (i : ℕ) (key : Key) → slice_get owed i ≡ Some (owing key) → OwesBut key owed (remove owed i)
-owed_less [] i key at k h other = cc
-owed_less (o ∷ owed) zero key at k h other =
+owed_less [] i key there k h other = cc
+owed_less (o ∷ owed) zero key there k h other =
     let is : o ≡ owing key = cc in
     none_of (same_key k o.key) (owes owed k) (ap (λ (x : Owed). same_key k x.key) is ∙ other) h
-owed_less (o ∷ owed) (suc i) key at k h other =
+owed_less (o ∷ owed) (suc i) key there k h other =
     let both : (same_key k o.key ≡ false) × (owes (remove owed i) k ≡ false) = same_false (same_key k o.key) (owes (remove owed i) k) h in
-    none_of (same_key k o.key) (owes owed k) both.0 (owed_less owed i key at k both.1 other)
+    none_of (same_key k o.key) (owes owed k) both.0 (owed_less owed i key there k both.1 other)
 
 -- all tiles
 pub owed_each : (keys : List Key) (k : Key) → list_any (same_key k) keys ≡ true → owes (map owing keys) k ≡ true
 owed_each [] k h = h
-owed_each (x ∷ keys) k h = go (same_key k x) refl h
+owed_each (x ∷ keys) k h = go (same_key k x) (owed_each keys k) h
   where
-    go : (b : Bool) → same_key k x ≡ b → (b || list_any (same_key k) keys) ≡ true → (b || owes (map owing keys) k) ≡ true
-    go true e t = refl
-    go false e t = owed_each keys k t
+    go : (b : Bool) → (list_any (same_key k) keys ≡ true → owes (map owing keys) k ≡ true) → (b || list_any (same_key k) keys) ≡ true → (b || owes (map owing keys) k) ≡ true
+    go true more t = refl
+    go false more t = more t
 
 pub each_is_more : (tiles : Area) (key : Key) (old new : List Owed) → OwesEach tiles new → OwesMore key tiles old new
 each_is_more tiles key old new each k on h = absurd (let t : true ≡ false = sym (each k on) ∙ h in cc)
 
+owing_both : (xs ys : List Key) → map owing (xs ++ ys) ≡ map owing xs ++ map owing ys
+owing_both [] ys = refl
+owing_both (x ∷ xs) ys = ap (λ zs. owing x ∷ zs) (owing_both xs ys)
+
 -- a list of keys grows by one
 pub owing_more : (keys : List Key) (i : ℕ) (key : Key) → slice_get keys i ≡ Some key → map owing (take i keys) ++ owing key ∷ [] ≡ map owing (take (i + 1) keys)
-owing_more [] i key at = cc
-owing_more (k ∷ keys) zero key at = let is : k ≡ key = cc in ap (λ x. owing x ∷ []) (sym is)
-owing_more (k ∷ keys) (suc i) key at = ap (λ xs. owing k ∷ xs) (owing_more keys i key at)
+owing_more keys i key there =
+    sym (ap (λ (xs : List Key). map owing xs) (take_more keys i key (slice_get_within keys i key there) ∙ ap (λ y. take i keys ++ y ∷ []) (get_or_from_slice_get keys i key key there)) ∙ owing_both (take i keys) (key ∷ []))
 
 -- ---- one update more
 
