@@ -107,7 +107,7 @@ const WIDE_JOB: Play = Play {
 };
 
 /// What is shown, and the calls of a desk, or of two, one after the other.
-const ROWS: [(&str, &[Play]); 33] = [
+const ROWS: [(&str, &[Play]); 36] = [
     (
         "a new desk is settled, and exports its paper",
         &[Play {
@@ -900,6 +900,79 @@ const ROWS: [(&str, &[Play]); 33] = [
                 Take(Walk),
                 Whole(4, 4, Stored),
                 Look(0, [178, 205, 128, 255], Clean),
+            ],
+        }],
+    ),
+    (
+        "a job that comes whole, over pixels that it reads",
+        &[Play {
+            script: TWICE,
+            slots: 1,
+            calls: &[
+                Feed(5),
+                Take(Did),
+                Take(Did),
+                Take(Paint),
+                Whole(0, 0, Stored),
+                Whole(0, 0, Nothing),
+                Take(Paint),
+                Whole(1, 1, Stored),
+                Settle,
+                Frame(0, 0, [128, 0, 127]),
+            ],
+        }],
+    ),
+    (
+        "a blur that comes whole, of other pixels at the edge of what it reads",
+        &[
+            Play {
+                script: b"canvas 9 1\nlayer 1 0 0\nstroke 1 1\nfill 1 seq 6 0 1 1 0000ffff over 255\nblur 1 seq 4 0 1 1 2\nend 1\nexport\n",
+                slots: 1,
+                calls: &[
+                    Feed(5),
+                    Take(Did),
+                    Take(Did),
+                    Take(Paint),
+                    Publish(0, 0, Stored),
+                    End(0, Done),
+                    Take(Paint),
+                ],
+            },
+            Play {
+                script: b"canvas 9 1\nlayer 1 0 0\nstroke 1 1\nfill 1 seq 6 0 1 1 ff0000ff over 255\nblur 1 seq 4 0 1 1 2\nend 1\nexport\n",
+                slots: 1,
+                calls: &[
+                    Feed(5),
+                    Take(Did),
+                    Take(Did),
+                    Take(Paint),
+                    Publish(2, 2, Stored),
+                    End(2, Done),
+                    Take(Paint),
+                    Whole(1, 1, Nothing),
+                    Whole(3, 3, Stored),
+                    Settle,
+                    Frame(0, 4, [255, 245, 245]),
+                ],
+            },
+        ],
+    ),
+    (
+        "a walk ends once all its groups are published, the root first",
+        &[Play {
+            script: b"canvas 1 1\ngroup 1 0 0\nlayer 2 1 0 ff0000ff\nexport\n",
+            slots: 1,
+            calls: &[
+                Feed(2),
+                Take(Did),
+                Take(Did),
+                Take(Walk),
+                Group(0, 0, Stored),
+                End(0, Ended::Nothing),
+                Group(0, 1, Stored),
+                End(0, Done),
+                Settle,
+                Frame(0, 0, [255, 0, 0]),
             ],
         }],
     ),

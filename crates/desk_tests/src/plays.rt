@@ -6,7 +6,7 @@ use crate::fixtures::{desk_for, feed, script_of, settle};
 use crate::tickets::{Held, Took, take_ticket};
 use desk_core::{Desk, Ended, Fresh, Published, SlotId};
 use frame_core::Frame;
-use geom_core::{NoMemory, TileKey};
+use geom_core::{NoMemory, Rect, TileKey};
 use memento_core::Steps;
 use pixel_core::Pixel;
 use script_text::Script;
@@ -33,7 +33,8 @@ pub(crate) enum Call {
     Publish(usize, usize, Published),
     /// The same of a walk's ticket for some group.
     Group(usize, u16, Published),
-    /// Composes the whole walk of the first ticket, and commits it for the work of the second.
+    /// Paints or composes the whole work of the first ticket, a job's in the tile at the corner, and commits it for
+    /// the work of the second.
     Whole(usize, usize, Published),
     /// Publishes the tile at the corner of a job's ticket, painted on green.
     OnGreen(usize, Published),
@@ -169,7 +170,7 @@ fn publishes(
     Ok(answered == answer && (answered != Published::Nothing || told(desk) == before))
 }
 
-/// Whether a walk of one ticket, committed for the work of another, has that answer.
+/// Whether the work of one ticket, committed for that of another, has that answer.
 fn commits(
     alloc: Global,
     desk: &mut Desk,
@@ -181,7 +182,7 @@ fn commits(
     if by >= held.len() || of >= held.len() {
         return Ok(false);
     }
-    Ok(held[by].commit(alloc, desk, held[of].slot())? == answer)
+    Ok(held[by].commit(alloc, desk, held[of].slot(), ORIGIN)? == answer)
 }
 
 /// The same of what a job's ticket paints on green.
@@ -269,8 +270,19 @@ fn ends(desk: &mut Desk, held: &[Held], of: usize, answer: Ended) -> bool {
 /// Whether a point of the first row has these bytes, and is as fresh.
 fn looks(desk: &Desk, x: u16, bytes: [u8; 4], fresh: Fresh) -> bool {
     match look(desk, x, 0) {
-        Some((pixel, seen)) => pixel.bytes() == bytes && seen == fresh,
+        Some((pixel, seen)) => {
+            let is_dirty = fresh == Fresh::Dirty;
+            pixel.bytes() == bytes && seen == fresh && is_dirty_at(desk, x) == is_dirty
+        }
         None => false,
+    }
+}
+
+/// Whether a rectangle of one point of the first row will be composed anew.
+fn is_dirty_at(desk: &Desk, x: u16) -> bool {
+    match Rect::new(i32::from(x), 0, 1, 1) {
+        Ok(point) => desk.dirty_in(&point).is_some(),
+        Err(_) => false,
     }
 }
 

@@ -159,9 +159,9 @@ fn a_generated_script(rt: HostRuntime) -> Result<(), Fail> {
 }
 
 /// Two frames of the largest canvas, of which the second is past the tiles that a film has before it saves memory:
-/// a layer's own pixel, and a layer in a group of half its opacity.
+/// a layer's own pixel, a layer in a group of half its opacity, and one in a group that is off.
 const TWO_LARGE: &[u8] =
-    b"canvas 2048 2048\nlayer 1 0 0 00ff0080\ngroup 2 0 1\nlayer 3 2 0\nlook 2 128 over on\nstroke 1 3\nfill 1 seq 0 0 2048 2048 ff0000ff over 255\nend 1\nexport\nstroke 2 3\nfill 2 seq 0 0 2048 2048 0000ffff over 255\nend 2\nexport\n";
+    b"canvas 2048 2048\nlayer 1 0 0 00ff0080\ngroup 2 0 1\nlayer 3 2 0\nlook 2 128 over on\ngroup 4 0 2\nlayer 5 4 0 000000ff\nlook 4 255 over off\nstroke 1 3\nfill 1 seq 0 0 2048 2048 ff0000ff over 255\nend 1\nexport\nstroke 2 3\nfill 2 seq 0 0 2048 2048 0000ffff over 255\nend 2\nexport\n";
 
 /// Whether the last frame has what the desk shows, in some points of a row.
 fn row_is_shown(desk: &Desk, y: u16) -> bool {

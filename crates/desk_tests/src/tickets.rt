@@ -116,28 +116,22 @@ impl Held {
         key: TileKey,
     ) -> Result<bool, NoMemory> {
         match self {
-            Held::Paint(ticket) => {
-                if !can_paint(&ticket.work, &ticket.shot, key) {
-                    return Ok(false);
-                }
-                let mut tiles = Vec::new(alloc);
-                tiles.push(whole_tile_like(alloc, &ticket.work, &ticket.shot, key, &mut None)?)?;
-                Ok(desk.commit(slot, &tiles)? == Published::Nothing)
-            }
-            Held::Walk(_) => Ok(self.commit(alloc, desk, slot)? == Published::Nothing),
+            Held::Paint(ticket) if !can_paint(&ticket.work, &ticket.shot, key) => Ok(false),
+            _ => Ok(self.commit(alloc, desk, slot, key)? == Published::Nothing),
         }
     }
 
-    /// Composes the whole work, tile by tile, publishes it for the work in a slot, and ends that. `Nothing` where
-    /// a tile isn't taken, and of a job.
+    /// Paints or composes the whole work, a job's in the one tile that it writes, publishes it for the work in a
+    /// slot, and ends that. `Nothing` where a tile isn't taken, or a job doesn't paint in the tile.
     pub(crate) fn commit(
         &self,
         alloc: Global,
         desk: &mut Desk,
         slot: SlotId,
+        key: TileKey,
     ) -> Result<Published, NoMemory> {
         match self {
-            Held::Paint(_) => Ok(Published::Nothing),
+            Held::Paint(ticket) => paint_whole(alloc, desk, slot, &ticket.work, &ticket.shot, key),
             Held::Walk(ticket) => compose_whole(alloc, desk, slot, &ticket.inputs),
         }
     }
@@ -186,6 +180,23 @@ fn paint(
     }
     let painted = paint_tile(alloc, job, shot, key)?;
     desk.publish(slot, &painted)
+}
+
+/// Paints all of a job that writes one tile, and publishes it.
+fn paint_whole(
+    alloc: Global,
+    desk: &mut Desk,
+    slot: SlotId,
+    job: &Job,
+    shot: &Shot,
+    key: TileKey,
+) -> Result<Published, NoMemory> {
+    if !can_paint(job, shot, key) {
+        return Ok(Published::Nothing);
+    }
+    let mut tiles = Vec::new(alloc);
+    tiles.push(whole_tile_like(alloc, job, shot, key, &mut None)?)?;
+    desk.commit(slot, &tiles)
 }
 
 /// Composes a tile of a walk, and publishes it of a group.

@@ -151,7 +151,7 @@ fn all_wrongs(op: Op, strength: u8) -> u32 {
 #[test]
 fn rows_are_composed_pixels(rt: HostRuntime) {
     for op in OPS {
-        for strength in [255, 200, 1, 0] {
+        for strength in [255, 254, 200, 1, 0] {
             assert_eq!(rt; all_wrongs(op, strength), 0);
         }
     }

@@ -57,6 +57,16 @@ fn a_shot(rt: HostRuntime) -> Result<(), Fail> {
         shot.read(alloc, ORIGIN, &right)?.as_slice(),
         [red, red].as_slice()
     );
+    let shared = shot.share()?;
+    shot.put(TileKey { row: 0, col: -1 }, &Tile::plain(alloc, red)?)?;
+    assert_eq!(rt;
+        shot.pixels_on(alloc, &left)?.as_slice(),
+        [red; 4].as_slice()
+    );
+    assert_eq!(rt;
+        shared.pixels_on(alloc, &left)?.as_slice(),
+        [ground, ground, red, red].as_slice()
+    );
     Ok(())
 }
 

@@ -137,6 +137,7 @@ fn answers<L: Ledger>(rt: &impl Abort, alloc: Global, blank: Blank) -> Result<()
         (Call::Back, origin, clear),
         (Call::PaintAndDrop, origin, clear),
         (Call::Back, None, clear),
+        (Call::Purge, None, clear),
         (Call::Forth, origin, red),
         (Call::Forth, None, red),
         (Call::Back, origin, clear),

@@ -97,6 +97,7 @@ fn readers_tell_the_tree(rt: HostRuntime) {
         layer(6, 5, 0),
         layer(7, 0, 0),
         layer(8, 5, 0),
+        layer(9, 5, 0),
         Change::Look { id: 6, look: dim },
         Change::Place {
             id: 8,
@@ -109,6 +110,7 @@ fn readers_tell_the_tree(rt: HostRuntime) {
     let copy = tree.copy();
     crosses(&copy);
     assert_eq!(rt; tree.change(&Change::Remove { id: 5 }), Ok(()));
+    assert_eq!(rt; tree.node_count(), 2);
     assert_eq!(rt; copy.child_count(0), 3);
     assert_eq!(rt; copy.child(0, 2), Some(8));
     assert_eq!(rt; copy.parent(6), Some(5));

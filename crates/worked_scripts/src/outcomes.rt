@@ -161,7 +161,7 @@ pub const ROWS: [Row; 17] = [
 ];
 
 /// Scripts on a canvas of 129 columns, with the colours of columns 0, 64 and 128, which stand in three tiles.
-pub const WIDE: [Row; 8] = [
+pub const WIDE: [Row; 9] = [
     // A small stroke, and undone and redone.
     Row {
         script: b"canvas 129 1\nlayer 1 0 0\nexport\nstroke 1 1\nfill 1 seq 64 0 1 1 ff0000ff over 255\nend 1\nexport\nundo\nexport\nredo\nexport\n",
@@ -202,6 +202,12 @@ pub const WIDE: [Row; 8] = [
         script: b"canvas 129 1\nlayer 1 0 0\nstroke 1 1\nfill 1 seq 0 0 129 1 ff0000ff over 255\nend 1\nlook 1 255 over off\nexport\nundo\nundo\npurge 1\nexport\nredo\nexport\n",
         colours: &[WHITE, WHITE, WHITE, WHITE, WHITE, WHITE, RED, RED, RED],
         outcomes: &[Outcome::Done; 10],
+    },
+    // A fill over two tiles of one colour each.
+    Row {
+        script: b"canvas 129 1\nlayer 1 0 0\nstroke 1 1\nfill 1 seq 0 0 64 64 ff0000ff over 255\nfill 1 seq 64 0 64 64 0000ffff over 255\nfill 1 seq 0 0 128 64 ffffff80 over 255\nend 1\nexport\n",
+        colours: &[[255, 128, 128], [128, 128, 255], WHITE],
+        outcomes: &[Outcome::Done; 3],
     },
     // Runs of jobs in one tile, with a dab over two tiles between.
     Row {
