@@ -7,6 +7,7 @@ use Rattle.doc_model.specs.Layers.{at}
 use Rattle.doc_model.specs.Shots.{in_tile}
 use Rattle.machine_model.specs.State.{State}
 use Rattle.machine_model.specs.Groups.{cache}
+use Rattle.desk_core.specs.Roots.{RootStays}
 
 -- the pixel that is shown at each point, or none where it is owed
 abbrev pub Seen : Type 0
@@ -30,4 +31,4 @@ pub record SeesTheSame (old new : Seen) : Type 0 where
 
 -- the root's cache stays
 pub record KeepsRoot (old new : State) : Type 0 where
-  pub root : (p : Point) → at (cache new.caches 0) p ≡ at (cache old.caches 0) p
+  pub root : RootStays old new
