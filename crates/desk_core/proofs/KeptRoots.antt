@@ -1,5 +1,6 @@
 -- Events that leave the root's cache at a point.
-use Rattle.std.proofs.Common.{◌≡◌, ℕ, suc, zero, Bool, true, false, cond, eqb, Option, Some, None, Ok, Err, List, [], ◌∷◌, take, refl, sym, ap, ◌∙◌, subst, arith}
+use Rattle.std.proofs.Common.{◌≡◌, ℕ, suc, zero, Bool, true, false, cond, eqb, Option, Some, None, Ok, Err}
+use Rattle.std.proofs.Common.{List, [], ◌∷◌, take, refl, sym, ap, ◌∙◌, subst, arith}
 use Rattle.std.specs.Prelude.{Result, map}
 use Rattle.std.specs.List.{list_any}
 use Rattle.std.proofs.lemmas.Bool.Decides.{nat_tests}
@@ -105,7 +106,8 @@ module _ (p : Point) where
   untouched_front (suc n) [] u = tt
   untouched_front (suc n) (e ∷ es) u = (u.0, untouched_front n es u.1)
 
-  pub brings_root : {E : Type 0} (May : Type 0) (es : List Event) (old : State) (r : Result Published E) (new : State) → Untouched es → Brings May es old r new → root new ≡ root old
+  pub brings_root : {E : Type 0} (May : Type 0) (es : List Event) (old : State) (r : Result Published E) (new : State)
+      → Untouched es → Brings May es old r new → root new ≡ root old
   brings_root May es old (Ok answers.Stored) new u b = run_root es old new u b.1
   brings_root May es old (Ok answers.Nothing) new u b = ap root b.1
   brings_root May es old (Err e) new u b = run_root (take b.count es) old new (untouched_front b.count es u) b.run
@@ -127,7 +129,8 @@ module _ (p : Point) where
   lacking_of_key published [] k = tt
   lacking_of_key published (g ∷ gs) k = go (list_any (same_pair g k) published) (λ qs. lacking_of_key qs gs k)
     where
-      go : (b : Bool) → ((qs : List (ℕ × Key)) → OfKey k (lacking qs (pairs_at gs k))) → OfKey k (cond b (lacking published (pairs_at gs k)) ((g, k) ∷ lacking ((g, k) ∷ published) (pairs_at gs k)))
+      go : (b : Bool) → ((qs : List (ℕ × Key)) → OfKey k (lacking qs (pairs_at gs k)))
+          → OfKey k (cond b (lacking published (pairs_at gs k)) ((g, k) ∷ lacking ((g, k) ∷ published) (pairs_at gs k)))
       go true rest = rest published
       go false rest = (refl, rest ((g, k) ∷ published))
 

@@ -15,7 +15,7 @@ module _ {A : Type 0} (xs : List A) (from : ℕ) where
       ap (λ n. take n (drop from xs)) (let next : (i + 1) - from ≡ (i - from) + 1 = omega arith in next)
       ∙ take_more (drop from xs) (i - from) x (let long = length-drop from xs in let within : i < length xs = slice_get_within xs i x at in omega (arith, long, within))
       ∙ ap (λ y. take (i - from) (drop from xs) ++ y ∷ [])
-          (get_or-drop from xs (i - from) x ∙ ap (λ n. get_or xs n x) (let same : from + (i - from) ≡ i = omega arith in same) ∙ get_or_from_slice_get xs i x x at)
+      (get_or-drop from xs (i - from) x ∙ ap (λ n. get_or xs n x) (let same : from + (i - from) ≡ i = omega arith in same) ∙ get_or_from_slice_get xs i x x at)
 
   -- all that are there
   pub part_all : (i to end : ℕ) → end ≡ max (min to (length xs)) from → end ≤ i → (from ≤ end → i ≤ end) → take (i - from) (drop from xs) ≡ take (to - from) (drop from xs)
