@@ -1,4 +1,3 @@
 mod Fronts
 mod Kept
-mod Roots
 pub mod ShownScripts

