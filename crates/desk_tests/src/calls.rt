@@ -107,7 +107,7 @@ const WIDE_JOB: Play = Play {
 };
 
 /// What is shown, and the calls of a desk, or of two, one after the other.
-const ROWS: [(&str, &[Play]); 36] = [
+const ROWS: [(&str, &[Play]); 37] = [
     (
         "a new desk is settled, and exports its paper",
         &[Play {
@@ -900,6 +900,46 @@ const ROWS: [(&str, &[Play]); 36] = [
                 Take(Walk),
                 Whole(4, 4, Stored),
                 Look(0, [178, 205, 128, 255], Clean),
+            ],
+        }],
+    ),
+    (
+        "above four layers, of which one was painted after a walk had read it, which ends beside another",
+        &[Play {
+            script: b"canvas 257 1\nlayer 1 0 0 0000ffff\nlayer 2 0 1 ff000040\nlayer 3 0 2 00ff0040\nlayer 4 0 3 ff000040\nlayer 5 0 4\nstroke 1 5\nfill 1 seq 0 0 1 1 ffffff80 over 255\nend 1\nstroke 2 4\nfill 2 seq 0 0 1 1 00ff00ff over 255\nend 2\nstroke 3 5\nfill 3 seq 256 0 1 1 ffffff80 over 255\nend 3\n",
+            slots: 3,
+            calls: &[
+                Feed(5),
+                Take(Did),
+                Take(Did),
+                Take(Did),
+                Take(Did),
+                Take(Did),
+                Take(Walk),
+                Take(Walk),
+                Whole(0, 0, Stored),
+                Whole(1, 1, Stored),
+                Feed(2),
+                Take(Did),
+                Take(Paint),
+                Whole(2, 2, Stored),
+                Take(Walk),
+                Feed(3),
+                Take(Did),
+                Take(Did),
+                Take(Paint),
+                Whole(4, 4, Stored),
+                Feed(3),
+                Take(Did),
+                Take(Did),
+                Take(Paint),
+                Whole(5, 5, Stored),
+                Take(Walk),
+                Whole(3, 3, Stored),
+                Whole(6, 6, Stored),
+                Take(Walk),
+                Whole(7, 7, Stored),
+                Look(0, [128, 255, 128, 255], Clean),
             ],
         }],
     ),

@@ -33,8 +33,8 @@ pub(crate) enum Call {
     Publish(usize, usize, Published),
     /// The same of a walk's ticket for some group.
     Group(usize, u16, Published),
-    /// Paints or composes the whole work of the first ticket, a job's in the tile at the corner, and commits it for
-    /// the work of the second.
+    /// Composes the whole walk of the first ticket, or paints the first tile of its job, and commits that as the whole
+    /// work of the second.
     Whole(usize, usize, Published),
     /// Publishes the tile at the corner of a job's ticket, painted on green.
     OnGreen(usize, Published),
@@ -182,7 +182,7 @@ fn commits(
     if by >= held.len() || of >= held.len() {
         return Ok(false);
     }
-    Ok(held[by].commit(alloc, desk, held[of].slot(), ORIGIN)? == answer)
+    Ok(held[by].commit(alloc, desk, held[of].slot())? == answer)
 }
 
 /// The same of what a job's ticket paints on green.
@@ -212,9 +212,9 @@ fn is_stray(
     }
     let before = told(desk);
     let tile = held[by].tile_refused(alloc, desk, slot, ORIGIN)?;
-    let whole = held[by].whole_refused(alloc, desk, slot, ORIGIN)?;
+    let whole = held[by].commit(alloc, desk, slot)?;
     let ended = desk.end(slot);
-    Ok(tile && whole && ended == Ended::Nothing && told(desk) == before)
+    Ok(tile && whole == Published::Nothing && ended == Ended::Nothing && told(desk) == before)
 }
 
 /// The same of the slot of another ticket's work.

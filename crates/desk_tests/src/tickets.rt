@@ -106,32 +106,16 @@ impl Held {
         }
     }
 
-    /// Whether nothing is taken of the whole work for the work in a slot: of a job that writes one tile, or
-    /// of a walk. False where a job doesn't paint in the tile.
-    pub(crate) fn whole_refused(
-        &self,
-        alloc: Global,
-        desk: &mut Desk,
-        slot: SlotId,
-        key: TileKey,
-    ) -> Result<bool, NoMemory> {
-        match self {
-            Held::Paint(ticket) if !can_paint(&ticket.work, &ticket.shot, key) => Ok(false),
-            _ => Ok(self.commit(alloc, desk, slot, key)? == Published::Nothing),
-        }
-    }
-
-    /// Paints or composes the whole work, a job's in the one tile that it writes, publishes it for the work in a
-    /// slot, and ends that. `Nothing` where a tile isn't taken, or a job doesn't paint in the tile.
+    /// Paints or composes the whole work, of a job its first tile, publishes it for the work in a slot, and ends
+    /// that. `Nothing` where a tile isn't taken.
     pub(crate) fn commit(
         &self,
         alloc: Global,
         desk: &mut Desk,
         slot: SlotId,
-        key: TileKey,
     ) -> Result<Published, NoMemory> {
         match self {
-            Held::Paint(ticket) => paint_whole(alloc, desk, slot, &ticket.work, &ticket.shot, key),
+            Held::Paint(ticket) => paint_first(alloc, desk, slot, &ticket.work, &ticket.shot),
             Held::Walk(ticket) => compose_whole(alloc, desk, slot, &ticket.inputs),
         }
     }
@@ -182,21 +166,35 @@ fn paint(
     desk.publish(slot, &painted)
 }
 
-/// Paints all of a job that writes one tile, and publishes it.
-fn paint_whole(
+/// Paints the first tile of a job, and publishes it as all that the job writes.
+fn paint_first(
     alloc: Global,
     desk: &mut Desk,
     slot: SlotId,
     job: &Job,
     shot: &Shot,
-    key: TileKey,
 ) -> Result<Published, NoMemory> {
-    if !can_paint(job, shot, key) {
-        return Ok(Published::Nothing);
+    match first_tile(job) {
+        Some(key) if can_paint(job, shot, key) => {
+            let mut tiles = Vec::new(alloc);
+            tiles.push(whole_tile_like(alloc, job, shot, key, &mut None)?)?;
+            desk.commit(slot, &tiles)
+        }
+        _ => Ok(Published::Nothing),
     }
-    let mut tiles = Vec::new(alloc);
-    tiles.push(whole_tile_like(alloc, job, shot, key, &mut None)?)?;
-    desk.commit(slot, &tiles)
+}
+
+/// The first tile that a job writes.
+fn first_tile(job: &Job) -> Option<TileKey> {
+    if job.check().is_err() {
+        return None;
+    }
+    let writes = job.writes();
+    let rect = writes.as_slice().first()?;
+    if rect.tile_count() == 0 {
+        return None;
+    }
+    Some(rect.tile_at(0))
 }
 
 /// Composes a tile of a walk, and publishes it of a group.
