@@ -149,7 +149,7 @@ class Run:
             stale = programs.stale(group, self.kit) & mine
             has_own = {crate for crate in stale if not programs.stale(programs.alone(crate), self.kit)}
             own = has_own if len(stale - has_own) != 1 else stale
-            for crate in own if group.is_joined else ():
+            for crate in sorted(own) if group.is_joined else []:
                 yield programs.alone(crate), {crate}
                 mine.remove(crate)
             if mine:
@@ -249,8 +249,5 @@ class Run:
 
     def keep_times(self):
         times = {**times_of_last_run(), **{it.test.name: it.seconds for it in self.board.results if it.seconds}}
-        try:
-            with open(TIMES, "w", encoding="utf-8") as it:
-                json.dump(times, it)
-        except OSError:
-            pass
+        with open(TIMES, "w", encoding="utf-8") as it:
+            json.dump(times, it)
