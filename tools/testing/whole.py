@@ -222,7 +222,7 @@ class Run:
         program = programs.of_main(test.name_in_crate)
         built = self.build_program(program)
         if built.is_done:
-            self.board.add(parts.of_program(test, [program.path]))
+            self.board.add(parts.of_program(test, [program.path], seconds=parts.SECONDS))
         elif built.is_slow_kit:
             self.board.add(parts.of_program(test, ["rt", "try"], folder=f"{TOP}/crates/{program.name}"))
         else:
