@@ -89,8 +89,8 @@ def groups():
     """The programs in which all crates of tests are built: reading takes most of the time, and each program is read whole. So
     it is one, but for the crate of tests that reads most: read beside the others it ends as soon as they do."""
     *lower, last = crates.crates_of_tests()
-    one = [Program("joined_tests" if len(lower) > 1 else lower[0], tuple(lower))] if lower else []
-    return [*one, alone(last)]
+    others = [Program("joined_tests" if len(lower) > 1 else lower[0], tuple(lower))] if lower else []
+    return [*others, alone(last)]
 
 
 def alone(crate):
