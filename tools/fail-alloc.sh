@@ -1,6 +1,6 @@
 #!/bin/sh
 # Refuses each growth of memory in turn, in runs of worked scripts without workers and with two, of their traces, and of
-# what these replay to, and tells how they ended. No gate calls it, but for each tenth growth of `settled`.
+# what these replay to, and tells how they ended. No gate calls it so.
 #
 # By a small library of its own over the C library's allocator each growth alone is refused, then each and all after it,
 # and then each second, third, tenth and thirty-seventh. (`rt try --fail-alloc N` refuses one, and builds anew for each N.)
@@ -10,9 +10,9 @@
 #
 #     tools/fail-alloc.sh settled [STEP]
 #
-# refuses in place of that each STEPth growth (each, where it isn't given) alone in a test of desk_tests that settles worked scripts on desks, and settles a desk
-# once more that answered NoMemory. It is to pass each time: each desk has its script's pictures then. TESTS is the program of
-# the crate's tests, by default what rt test made in crates/desk_tests.
+# refuses in place of that each growth alone, or each STEPth, in a test of desk_tests that settles worked scripts on desks, and
+# settles a desk once more that answered NoMemory. It is to pass each time: each desk has its script's pictures then. TESTS is
+# a program of the crate's tests, by default what rt test made in crates/desk_tests. ./test calls this with each tenth.
 here=$(cd "$(dirname "$0")/.." && pwd) || exit 70
 program=${PROGRAM:-$here/crates/strokes/out/strokes}
 tests=${TESTS:-$here/crates/desk_tests/out/desk_tests_tests}
@@ -147,7 +147,7 @@ settled() {
         fi
         n=$((n + $1))
     done
-    echo "$name: growths up to $((n - 1)), of which each ${1}th was refused alone: it passed $passed times"
+    echo "$name: growths up to $((n - 1)), each $1 of them refused alone: it passed $passed times"
 }
 
 case ${1:-built} in

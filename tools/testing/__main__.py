@@ -75,7 +75,13 @@ def sweep():
 
 
 def stopped(number, _frame):
+    listen(signal.SIG_IGN)
     raise Stopped(number)
+
+
+def listen(handler):
+    for number in (signal.SIGINT, signal.SIGTERM, signal.SIGHUP):
+        signal.signal(number, handler)
 
 
 def run(tests):
@@ -83,8 +89,7 @@ def run(tests):
     kit = programs.Kit()
     if not kit.is_there:
         stop(NOTHING_BUILT, "nothing can be built: no toolchain is there, as rt isn't on the PATH")
-    for number in (signal.SIGINT, signal.SIGTERM, signal.SIGHUP):
-        signal.signal(number, stopped)
+    listen(stopped)
     # (a test that fails aborts)
     resource.setrlimit(resource.RLIMIT_CORE, (0, 0))
     try:

@@ -8,8 +8,8 @@ import programs
 from crates import TOP, Test
 from results import Result
 
-# A test that takes longer hangs.
-SECONDS = 120
+# A test that takes longer hangs: the longest take some ten seconds, and a minute beside other work.
+SECONDS = 300
 CHECKS = "a run-time check stopped it (an overflow, a wrong index, a failed unwrap, a cast that loses bits ..)"
 
 

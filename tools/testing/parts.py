@@ -85,7 +85,7 @@ def bytes_of(path, missing=b""):
 def of_program(test, words, **how):
     """Whether a program writes for the crate's stdin what its stdout has, and ends with its status."""
     folder = f"{TOP}/crates/{test.name_in_crate}"
-    ended = processes.run(words, given=bytes_of(f"{folder}/stdin"), seconds=SECONDS, **how)
+    ended = processes.run(words, given=bytes_of(f"{folder}/stdin"), **how)
     want = bytes_of(f"{folder}/stdout")
     status = int(bytes_of(f"{folder}/status", b"0"))
     if ended.status == status and ended.out == want:
@@ -100,7 +100,7 @@ def shown(text):
 
 def built_hosts():
     """Builds the C library, unless it is there, and the hosts."""
-    ended = processes.run([f"{TOP}/examples/embed/build.sh"], seconds=SECONDS)
+    ended = processes.run([f"{TOP}/examples/embed/build.sh"])
     return Built(min(ended.status, 1), ended.said, ended.seconds)
 
 

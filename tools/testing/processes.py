@@ -43,7 +43,7 @@ def run(words, folder=TOP, given=b"", seconds=None, **environment):
         out, said = process.communicate(given, seconds)
     except subprocess.TimeoutExpired:
         is_late = True
-        end_session(process.pid)
+        end_sessions({process.pid})
         out, said = process.communicate()
     finally:
         with _lock:
@@ -57,18 +57,17 @@ def end_all():
     """Ends all that is running, and whatever would be started from now on."""
     with _lock:
         _broken_off.set()
-        leaders = [process.pid for process in _running]
-    for leader in leaders:
-        end_session(leader)
+        leaders = {process.pid for process in _running}
+    end_sessions(leaders)
 
 
-def end_session(leader):
-    """Ends the programs of a session: they may say that they end, for three seconds."""
+def end_sessions(leaders):
+    """Ends the programs of these sessions, which have three seconds to do so."""
     for number, seconds in ((signal.SIGTERM, 3), (signal.SIGKILL, 1)):
         until = time.monotonic() + seconds
-        for process in members(leader):
+        for process in members(leaders):
             send(process, number)
-        while members(leader) and time.monotonic() < until:
+        while members(leaders) and time.monotonic() < until:
             time.sleep(0.05)
 
 
@@ -79,9 +78,9 @@ def send(process, number):
         pass
 
 
-def members(leader):
-    """The programs of a session that haven't ended."""
-    return [int(name) for name in os.listdir("/proc") if name.isdigit() and session_of(name) == leader]
+def members(leaders):
+    """The programs of these sessions that haven't ended."""
+    return [int(name) for name in os.listdir("/proc") if name.isdigit() and session_of(name) in leaders]
 
 
 def session_of(process):

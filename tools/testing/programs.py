@@ -7,16 +7,17 @@ import shutil
 from dataclasses import dataclass
 
 import crates
+import joined
 import processes
 from crates import TOP, text_of
 
 KEPT = f"{TOP}/out/tests"
 # What decides how a program is built, beside the code of its crates.
-TOOLS = [f"tools/{name}" for name in ("building.sh", "unproved", "testing/programs.py")]
-# Of what was tried, a program that is built so is built and run soonest.
-FOR_TESTS = ("-mllvm", "-inline-threshold=0")
+TOOLS = [f"tools/{name}" for name in ("building.sh", "unproved", "testing/joined.py")]
+# Of what was tried, a program that is compiled so is built and run soonest.
+FOR_TESTS = ["-mllvm", "-inline-threshold=0"]
 # (those that paint one small picture)
-FOR_PROGRAMS = ("-O0",)
+FOR_MAINS = ["-O0"]
 
 
 @dataclass(frozen=True)
@@ -34,6 +35,11 @@ class Program:
     @property
     def is_joined(self):
         return len(self.crates) > 1
+
+    @property
+    def options(self):
+        """The words for tools/unproved."""
+        return ["test", *FOR_TESTS] if self.is_of_tests else FOR_MAINS
 
     @property
     def label(self):
@@ -83,8 +89,8 @@ def groups():
     """The programs in which all crates of tests are built: reading takes most of the time, and each program is read whole. So
     it is one, but for the crate of tests that reads most: read beside the others it ends as soon as they do."""
     *lower, last = crates.crates_of_tests()
-    joined = [Program("joined_tests" if len(lower) > 1 else lower[0], tuple(lower))] if lower else []
-    return [*joined, alone(last)]
+    others = [Program("joined_tests" if len(lower) > 1 else lower[0], tuple(lower))] if lower else []
+    return [*others, alone(last)]
 
 
 def alone(crate):
@@ -98,6 +104,7 @@ def of_main(crate):
 def key_of(program, kit):
     """What a program was built of: where the same stands here, it needn't be built again."""
     tools = {path: hashlib.sha256(text_of(f"{TOP}/{path}").encode()).hexdigest() for path in TOOLS}
+    tools["options"] = program.options
     return {"kit": kit.key(), "tools": tools, "crates": {name: crates.sum_of(name) for name in program.below()}}
 
 
@@ -128,11 +135,12 @@ def build(program, kit, room):
     """Builds a program in a room, a folder outside the checkout."""
     before = key_of(program, kit)
     os.makedirs(f"{room}/work")
-    tree = write_joined(f"{room}/tree", program) if program.is_joined else TOP
-    options = ["test", *FOR_TESTS] if program.is_of_tests else FOR_PROGRAMS
-    words = [f"{TOP}/tools/unproved", "program", f"{tree}/crates/{program.name}", f"{room}/work", *options]
+    tree = f"{room}/tree" if program.is_joined else TOP
+    if program.is_joined:
+        joined.write_tree(tree, program.name, program.crates)
+    words = [f"{TOP}/tools/unproved", "program", f"{tree}/crates/{program.name}", f"{room}/work", *program.options]
     ended = processes.run(words)
-    said = text_of(f"{room}/work/said") + ended.said
+    said = ended.said + text_of(f"{room}/work/said")
     if ended.status == 0:
         crates.sum_of.cache_clear()
         keep(program, f"{room}/work/program", before if before == key_of(program, kit) else {})
@@ -149,43 +157,9 @@ def keep(program, made, key):
         json.dump(key, it)
 
 
-def write_joined(tree, program):
-    """A tree of the repository's crates with one crate more, that of the program, in which the root of each of its crates of
-    tests is a module. Each line keeps its number."""
-    src = f"{tree}/crates/{program.name}/src"
-    os.makedirs(src)
-    for name in crates.lines():
-        os.symlink(f"{TOP}/crates/{name}", f"{tree}/crates/{name}")
-    for name in program.crates:
-        for path in crates.sources(name):
-            inside = path.partition("/src/")[2]
-            to = f"{src}/{name}.rt" if inside == "lib.rt" else f"{src}/{name}/{inside}"
-            os.makedirs(os.path.dirname(to), exist_ok=True)
-            write(to, as_module(name, text_of(f"{TOP}/{path}")))
-    modules = "".join(f"#[cfg(test)]\nmod {name};\n" for name in program.crates)
-    write(f"{src}/lib.rt", f"#![tactic(auto)]\n\n{modules}")
-    named = dict.fromkeys(name for crate in program.crates for name in crates.named_by(crate))
-    below = "\n".join(crates.lines().values())
-    write(f"{tree}/crates.txt", f"{below}\n{program.name}: {' '.join(named)}\n")
-    return tree
-
-
-def as_module(crate, text):
-    """A file of a crate as one of a module of that name. (Proofs and definitions are read as they are, and looked up by
-    nothing.)"""
-    return re.sub(r"\bcrate::(?!proofs\b|specs\b)", f"crate::{crate}::", text.replace("#![tactic(auto)]", ""))
-
-
-def write(path, text):
-    with open(path, "w", encoding="utf-8") as it:
-        it.write(text)
-
-
 def in_repository(text, program, tree=TOP):
     """A text with the places of the repository in place of those that the program was built from."""
     text = text.replace(f"{tree}/", "").replace(f"{TOP}/", "")
-    if not program.is_joined:
-        return re.sub(r"(?<![\w/])src/(?=[\w/]+\.rt\b)", f"crates/{program.name}/src/", text)
-    text = text.replace(f"crates/{program.name}/src/", "src/")
-    text = re.sub(r"(?<![\w/])src/(\w+)/(?=[\w/]+\.rt\b)", r"crates/\1/src/", text)
-    return re.sub(r"(?<![\w/])src/(\w+)\.rt\b", r"crates/\1/src/lib.rt", text)
+    if program.is_joined:
+        return joined.in_repository(text.replace(f"crates/{program.name}/src/", "src/"))
+    return re.sub(r"(?<![\w/])src/(?=[\w/]+\.rt\b)", f"crates/{program.name}/src/", text)

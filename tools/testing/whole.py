@@ -152,7 +152,7 @@ class Run:
             stale = programs.stale(group, self.kit) & mine
             has_own = {crate for crate in stale if not programs.stale(programs.alone(crate), self.kit)}
             own = has_own if len(stale - has_own) != 1 else stale
-            for crate in own if group.is_joined else ():
+            for crate in sorted(own) if group.is_joined else []:
                 yield programs.alone(crate), {crate}
                 mine.remove(crate)
             if mine:
@@ -225,7 +225,7 @@ class Run:
         program = programs.of_main(test.name_in_crate)
         built = self.build_program(program)
         if built.is_done:
-            self.board.add(parts.of_program(test, [program.path]))
+            self.board.add(parts.of_program(test, [program.path], seconds=parts.SECONDS))
         elif built.is_slow_kit:
             self.board.add(parts.of_program(test, ["rt", "try"], folder=f"{TOP}/crates/{program.name}"))
         else:
@@ -259,8 +259,5 @@ class Run:
 
     def keep_times(self):
         times = {**times_of_last_run(), **{it.test.name: it.seconds for it in self.board.results if it.seconds}}
-        try:
-            with open(TIMES, "w", encoding="utf-8") as it:
-                json.dump(times, it)
-        except OSError:
-            pass
+        with open(TIMES, "w", encoding="utf-8") as it:
+            json.dump(times, it)
