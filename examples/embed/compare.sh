@@ -29,12 +29,22 @@ is_same() {
     head -c 200 "$tmp/told"
 }
 
-# The hosts that are there, as words that THREADS follows.
+# The names of the hosts that are there.
 hosts() {
     for name in paint paint_cpp paint_rs; do
-        [ ! -x "$out/$name" ] || echo "$out/$name"
+        [ ! -x "$out/$name" ] || echo "$name"
     done
-    echo "python3 $here/examples/embed/paint.py $out/libstrokes.so"
+    echo paint.py
+}
+
+# paints_alike HOST WORD..: whether the host of that name, called by these words, does as is_same tells.
+paints_alike() {
+    name=$1
+    shift
+    case $name in
+    paint.py) is_same python3 "$here/examples/embed/paint.py" "$out/libstrokes.so" "$@" ;;
+    *) is_same "$out/$name" "$@" ;;
+    esac
 }
 
 # What the command writes for the script by these words.
@@ -47,14 +57,12 @@ want() {
 compare() {
     script=$1
     want
-    hosts >"$tmp/hosts"
-    while read -r host; do
+    for host in $(hosts); do
         for threads in 1 4 8; do
-            # shellcheck disable=SC2086 # (the words of the host)
-            is_same $host "$threads"
+            paints_alike "$host" "$threads"
         done
-    done <"$tmp/hosts"
-    is_same "$out/paint" 4 whole
+    done
+    paints_alike paint 4 whole
     [ "$2" -eq 1 ] || return 0
     "$out/paint" 4 script <"$script" >"$tmp/script"
     "$program" <"$tmp/script" >"$tmp/again" 2>/dev/null
@@ -63,11 +71,11 @@ compare() {
         echo "ODD what paint was fed, of $script: the command paints something else of it"
     }
     cp "$tmp/script" "$tmp/want"
-    is_same python3 "$here/examples/embed/paint.py" "$out/libstrokes.so" 4 script
+    paints_alike paint.py 4 script
     want --emit live
-    is_same "$out/paint" 4 live
-    [ ! -x "$out/paint_cpp" ] || is_same "$out/paint_cpp" 4 live
-    is_same python3 "$here/examples/embed/paint.py" "$out/libstrokes.so" 4 live
+    paints_alike paint 4 live
+    [ ! -x "$out/paint_cpp" ] || paints_alike paint_cpp 4 live
+    paints_alike paint.py 4 live
 }
 
 for it in "$here"/examples/*.strokes; do

@@ -235,8 +235,7 @@ impl<J: Following + StampNaming> Board<J> {
             return Err(NoMemory);
         }
         let rows = walk.give()?;
-        let leaves =
-            walk.ranges.is_open() || (is_large && self.desk.desk().walk_place().is_some());
+        let leaves = walk.ranges.is_open() || (is_large && self.desk.desk().walk_place().is_some());
         self.walks.push(walk)?;
         Ok(Next::Work(Work::Compose { rows, leaves }))
     }
