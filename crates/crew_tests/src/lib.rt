@@ -15,6 +15,5 @@ mod meets;
 #[cfg(test)]
 mod painted;
 #[cfg(test)]
-mod stamps;
 #[cfg(test)]
 mod together;
