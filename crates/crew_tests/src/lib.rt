@@ -15,5 +15,4 @@ mod meets;
 #[cfg(test)]
 mod painted;
 #[cfg(test)]
-#[cfg(test)]
 mod together;
