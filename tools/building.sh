@@ -1,13 +1,13 @@
 # shellcheck shell=sh disable=SC2154
-# What ./strokes and ./prove have in common; both read this file, and set `here`, the top of the checkout, before.
+# What ./strokes, ./prove and the tools share. They set `here`, the top of the checkout, and then read this file.
 
-# Tells what is going on, on the error stream.
+# Prints a line on standard error.
 say() {
     printf '%s\n' "${0##*/}: $*" >&2
 }
 
-# The lines of crates.txt for the crates that the program is made of, each after those that it stands on; or those of the
-# library, where `top` names its crate.
+# The lines of crates.txt for the program's crates, each after those that it needs; or for the library's, if `top` names its
+# crate.
 lines_of_program() {
     awk -F: -v top="${top:-strokes}" '
         function take(name, words, many, k) {
@@ -26,7 +26,7 @@ crates_of_program() {
     lines_of_program | sed 's/[ :].*//'
 }
 
-# These parts (src, specs ..) of these crates, as far as they are there, as paths below the top.
+# These parts (src, specs ..) of these crates, if they exist, as paths below the top.
 parts_of_program() {
     for crate in $(crates_of_program); do
         for part; do
@@ -35,7 +35,7 @@ parts_of_program() {
     done
 }
 
-# A sum of what these parts of the crates hold, and of what is said of the crates beside them.
+# A checksum of these parts of the crates, of their lines in crates.txt, and of HANDLES.
 sum_of() {
     {
         lines_of_program
@@ -44,8 +44,8 @@ sum_of() {
     } | sha256sum | cut -d ' ' -f 1
 }
 
-# The processor to compile for: one that takes eight numbers at a time (most since 2013 to 2015) where
-# this one does, else the best of the older ones that it is.
+# The kind of processor to compile for: one that handles eight numbers at a time (most since 2013 to 2015)
+# if this one does, otherwise the newest older kind that fits.
 processor() {
     features=" $(grep -m1 '^flags' /proc/cpuinfo 2>/dev/null) "
     if has avx2 bmi1 bmi2 f16c fma abm movbe; then
@@ -67,19 +67,19 @@ has() {
     done
 }
 
-# The folder of the kit whose rt is on PATH.
+# The folder of the toolchain whose rt is on PATH.
 kit() {
     page=$(rt doc 2>/dev/null) && [ -f "$page" ] && dirname "$page"
 }
 
-# Links an object file and the kit's C library into a program: KIT OBJECT PROGRAM.
+# Links an object file and the toolchain's C library into a program: KIT OBJECT PROGRAM.
 link() {
     "$1/bin/rattle-link" --target x86_64-unknown-linux-gnu --toolchain "$1/toolchain" -o "$3" "$2" \
         "$1/c/libos_c.a" "$1/c/liblibc_c.a"
 }
 
-# Waits until no other call has this folder, and has it until this one ends, however that is. What is
-# started meanwhile is to close 9, so that it doesn't go on holding it.
+# Waits until no other call has this folder, and keeps it until this call ends, however it ends. Processes
+# that are started meanwhile must close 9, so that they don't keep the folder.
 alone_in() {
     mkdir -p "$1" && exec 9<"$1" || return
     flock -n 9 2>/dev/null || {

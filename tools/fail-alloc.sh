@@ -1,21 +1,20 @@
 #!/bin/sh
-# Refuses each growth of memory in turn, in runs of worked scripts without workers and with two, of their traces, and of
-# what these replay to, and tells how they ended. No gate calls it so.
+# Lets each allocation of the built program fail, and reports how the runs end.
 #
-# By a small library of its own over the C library's allocator each growth alone is refused, then each and all after it,
-# and then each second, third, tenth and thirty-seventh. (`rt try --fail-alloc N` refuses one, and builds anew for each N.)
+#     tools/fail-alloc.sh                   runs of worked scripts, without workers and with two, of their traces and replays
+#     tools/fail-alloc.sh test CRATE::NAME [STEP]    a test of a crate instead, with each STEPth allocation (1) failing
 #
-# Each run is to end with code 6, one line that says so and nothing written, or with the script's whole output, within
-# 20 seconds. PROGRAM is the program, by default crates/strokes/out/strokes. The status is 1 where a run did otherwise.
+# A small library over the C library's allocator lets each allocation fail alone, then each with all later ones, then every 2nd,
+# 3rd, 10th and 37th. (`rt try --fail-alloc N` lets one fail, and builds again for each N.) Within 20 seconds each run must end
+# with exit code 6, its line and no output, or with the script's whole output. PROGRAM is the program (default:
+# crates/strokes/out/strokes).
 #
-#     tools/fail-alloc.sh settled [STEP]
-#
-# refuses in place of that each growth alone, or each STEPth, in a test of desk_tests that settles worked scripts on desks, and
-# settles a desk once more that answered NoMemory. It is to pass each time: each desk has its script's pictures then. TESTS is
-# a program of the crate's tests, by default what rt test made in crates/desk_tests. ./test calls this with each tenth.
+# A test that begins again after NoMemory must pass each time. There are two: desk_tests::scripts::a_settled_desk_has_the_pixmaps_of_its_script
+# settles worked scripts on desks, and in crew_tests::together::artists_lose_no_command two artists draw a script. TESTS is the
+# program of the crate's tests (default: what rt test made there). ./test runs both. The exit code is 1 if a run ended otherwise.
+[ "$1" != --help ] || exec sed -n '2,/^[^#]/s/^# \{0,1\}//p' "$0"
 here=$(cd "$(dirname "$0")/.." && pwd) || exit 70
 program=${PROGRAM:-$here/crates/strokes/out/strokes}
-tests=${TESTS:-$here/crates/desk_tests/out/desk_tests_tests}
 tmp=$(mktemp -d) || exit 70
 trap 'rm -rf "$tmp"' EXIT
 status=0
@@ -127,13 +126,15 @@ built() {
     done
 }
 
-# settled STEP: until there are no more growths to refuse.
-settled() {
-    [ -x "$tests" ] || { echo "fail-alloc: $tests isn't there: rt test in crates/desk_tests makes it" >&2; exit 70; }
+# tested CRATE::NAME STEP: until there are no more growths to refuse.
+tested() {
+    crate=${1%%::*}
+    tests=${TESTS:-$here/crates/$crate/out/${crate}_tests}
+    [ -x "$tests" ] || { echo "fail-alloc: $tests isn't there: rt test in crates/$crate makes it" >&2; exit 70; }
     shim
     # (in a program of the tests of several crates its name begins with that of the crate)
-    name=$("$tests" --list | sed -n 's/^\(.*scripts::a_settled_desk_has_the_pixmaps_of_its_script\): test$/\1/p')
-    [ -n "$name" ] || { echo "fail-alloc: $tests has no test of settled desks" >&2; exit 70; }
+    name=$("$tests" --list | sed -n "s/^\(\($crate::\)\{0,1\}${1#*::}\): test\$/\1/p")
+    [ -n "$name" ] || { echo "fail-alloc: $tests has no test $1" >&2; exit 70; }
     n=1 passed=0
     while :; do
         env FAIL_TELL=1 FAIL_AT=$n LD_PRELOAD="$tmp/shim.so" timeout 60 "$tests" "$name" >"$tmp/out" 2>"$tmp/err"
@@ -143,15 +144,15 @@ settled() {
             passed=$((passed + 1))
         else
             status=1
-            echo "ODD growth $n of $name: code $code, told: $(head -c 200 "$tmp/err")"
+            echo "ODD growth $n of $1: code $code, told: $(head -c 200 "$tmp/err")"
         fi
-        n=$((n + $1))
+        n=$((n + $2))
     done
-    echo "$name: growths up to $((n - 1)), each $1 of them refused alone: it passed $passed times"
+    echo "$1: growths up to $((n - 1)), each of $2 refused alone: it passed $passed times"
 }
 
 case ${1:-built} in
-settled) settled "${2:-1}" ;;
+test) tested "${2:?}" "${3:-1}" ;;
 *) built ;;
 esac
 exit $status

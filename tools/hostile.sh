@@ -1,11 +1,12 @@
 #!/bin/sh
-# Hands the built program hostile scripts and devices, and too little memory, and tells what it answers. No gate calls it.
+# Runs the built program with hostile scripts, broken devices and too little memory, and reports how it ends.
 #
 #     tools/hostile.sh [PART..]
 #
-# The parts are prefixes, limits, edges, words, drawn, devices, calls, rooms and peaks; without words all are done. PROGRAM and
-# OTHER name the programs, as tools/hostile-runs tells; DRAWN says how many scripts are drawn (4000), and SEED is their
-# seed (1). Each part ends in a line that counts its runs. The status is 1 where something was odd.
+# The parts are prefixes, limits, edges, words, drawn, devices, calls, rooms and peaks; without a PART it runs all. PROGRAM and
+# OTHER name the programs, as for tools/hostile-runs. DRAWN is the number of random scripts (4000), and SEED their seed (1). Each
+# part ends with a line that counts its runs. The exit code is 1 if a run was odd.
+[ "$1" != --help ] || exec sed -n '2,/^[^#]/s/^# \{0,1\}//p' "$0"
 here=$(cd "$(dirname "$0")/.." && pwd) || exit 70
 PROGRAM=${PROGRAM:-$here/crates/strokes/out/strokes}
 export PROGRAM
@@ -119,7 +120,7 @@ os.execvp(sys.argv[1], sys.argv[1:])' "$PROGRAM" $with 2>"$tmp/err" >"$tmp/out"
 
 # What the program asks of the system, but for memory, threads and the streams.
 calls() {
-    command -v strace >/dev/null || { echo "calls: no strace here"; return; }
+    command -v strace >/dev/null || { echo "calls: strace isn't installed, so this part is skipped"; return; }
     printf 'canvas 300 300\nlayer 1 0 0\nstroke 1 1\nfill 1 seq 0 0 300 300 ff000080 over 255\nend 1\nexport\n' >"$tmp/script"
     for workers in 0 4; do
         strace -f -o "$tmp/calls" "$PROGRAM" --workers $workers <"$tmp/script" >/dev/null

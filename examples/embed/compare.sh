@@ -1,12 +1,13 @@
 #!/bin/sh
-# Compares what the hosts of this folder write with what the command writes, byte by byte, and the exit codes.
+# Compares the output of the hosts of this folder with that of the command, byte by byte, and the exit codes.
 #
 #     examples/embed/compare.sh [SCRIPTS [SEED]]
 #
-# The scripts are those of examples/ and SCRIPTS random ones (100), of the seeds from SEED (1) on. Each host paints each of
-# them with 1, 4 and 8 threads. Of the examples and of each tenth random script these are compared too: the picture of the
-# document, as the command's `--emit live` has it, and what was fed, which is read back by the command. PROGRAM is the
-# command, by default ./strokes. What differs is told, and its script is kept below /tmp; then the status is 1.
+# The scripts are those of examples/ and SCRIPTS random ones (100), with the seeds from SEED (1) on. Each host paints each of them
+# with 1, 4 and 8 threads. For the examples and each tenth random script it also compares the picture of the document, as the
+# command's `--emit live` writes it, and what was fed, which the command reads back. PROGRAM is the command (default: ./strokes).
+# Differences are printed, and their scripts kept below /tmp; then the exit code is 1.
+[ "$1" != --help ] || exec sed -n '2,/^[^#]/s/^# \{0,1\}//p' "$0"
 here=$(cd "$(dirname "$0")/../.." && pwd) || exit 70
 program=${PROGRAM:-$here/strokes}
 out=$here/out/embed
@@ -25,7 +26,7 @@ is_same() {
     [ "$got" -eq "$want" ] && cmp -s "$tmp/got" "$tmp/want" && return
     odd=$((odd + 1))
     kept=$(mktemp "${TMPDIR:-/tmp}/compare-XXXXXX") && cp "$script" "$kept"
-    echo "ODD $*: code $got for $want, $(wc -c <"$tmp/got") bytes for $(wc -c <"$tmp/want"); script: $kept"
+    echo "ODD $*: code $got, expected $want; $(wc -c <"$tmp/got") bytes, expected $(wc -c <"$tmp/want"); script: $kept"
     head -c 200 "$tmp/told"
 }
 
@@ -42,7 +43,7 @@ paints_alike() {
     name=$1
     shift
     case $name in
-    paint.py) is_same python3 "$here/examples/embed/paint.py" "$out/libstrokes.so" "$@" ;;
+    paint.py) is_same env STROKES_LIB_DIR="$out" python3 "$here/examples/embed/paint.py" "$@" ;;
     *) is_same "$out/$name" "$@" ;;
     esac
 }
@@ -68,14 +69,14 @@ compare() {
     "$program" <"$tmp/script" >"$tmp/again" 2>/dev/null
     cmp -s "$tmp/again" "$tmp/want" || {
         odd=$((odd + 1))
-        echo "ODD what paint was fed, of $script: the command paints something else of it"
+        echo "ODD what paint was fed, for $script: the command paints another picture from it"
     }
     cp "$tmp/script" "$tmp/want"
     paints_alike paint.py 4 script
     want --emit live
-    paints_alike paint 4 live
-    [ ! -x "$out/paint_cpp" ] || paints_alike paint_cpp 4 live
-    paints_alike paint.py 4 live
+    for host in $(hosts); do
+        paints_alike "$host" 4 live
+    done
 }
 
 for it in "$here"/examples/*.strokes; do

@@ -9,7 +9,6 @@
 #include "strokes_crew.h"
 #include <pthread.h>
 #include <signal.h>
-#include <stdlib.h>
 #include <string.h>
 #include <time.h>
 #include <unistd.h>
@@ -299,7 +298,7 @@ static void free_crew(struct crew *crew) {
     pthread_cond_destroy(&crew->news.came);
     pthread_cond_destroy(&crew->rest);
     pthread_cond_destroy(&crew->work);
-    free(crew);
+    strokes_heap_free(crew);
 }
 
 /* Starts as many of these threads as can be. They have the signals that this one has at the moment. */
@@ -349,10 +348,11 @@ strokes_answer strokes_crew_start(strokes_crew *handle, strokes_desk *desk, cons
     if (handle->at) return STROKES_IN_USE;
     if (!desk->full) return STROKES_SHUT;
     if (options->threads > MOST_THREADS || options->zero != 0) return STROKES_OUT_OF_RANGE;
-    struct crew *crew = calloc(1, sizeof *crew);
-    if (!crew) return STROKES_NO_MEMORY;
+    strokes_block block = strokes_heap_alloc(sizeof(struct crew), _Alignof(struct crew));
+    if (!block.ok) return STROKES_NO_MEMORY;
+    struct crew *crew = memset(block.at, 0, sizeof *crew);
     if (!open_locks(crew)) {
-        free(crew);
+        strokes_heap_free(crew);
         return STROKES_NO_MEMORY;
     }
     crew->desk = *desk;

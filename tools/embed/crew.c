@@ -6,7 +6,7 @@
  *
  *     crew [EACH]    each EACHth allocation alone (1)
  *
- * Link it with --wrap for the four functions that stand in for others below. */
+ * Link it with --wrap for the three functions that stand in for others below. */
 #include "check.h"
 #include "heap.h"
 #include "strokes_crew.h"
@@ -45,7 +45,6 @@ static const char *const script[] = {
 static atomic_long shared;           /* how many parts were shared */
 static atomic_bool may_close;        /* pieces with work may be closed */
 static atomic_int startable = 9999;  /* how many threads can be started */
-static atomic_bool lacks_crew;       /* the crew finds no memory for itself */
 
 strokes_answer __real_strokes_share(strokes_piece *piece, uint32_t shares, strokes_piece *other);
 strokes_answer __wrap_strokes_share(strokes_piece *piece, uint32_t shares, strokes_piece *other);
@@ -53,8 +52,6 @@ void __real_strokes_close_piece(strokes_piece *piece);
 void __wrap_strokes_close_piece(strokes_piece *piece);
 int __real_pthread_create(pthread_t *id, const pthread_attr_t *form, void *(*does)(void *), void *of);
 int __wrap_pthread_create(pthread_t *id, const pthread_attr_t *form, void *(*does)(void *), void *of);
-void *__real_calloc(size_t count, size_t bytes);
-void *__wrap_calloc(size_t count, size_t bytes);
 
 strokes_answer __wrap_strokes_share(strokes_piece *piece, uint32_t shares, strokes_piece *other) {
     strokes_answer told = __real_strokes_share(piece, shares, other);
@@ -70,8 +67,6 @@ void __wrap_strokes_close_piece(strokes_piece *piece) {
 int __wrap_pthread_create(pthread_t *id, const pthread_attr_t *form, void *(*does)(void *), void *of) {
     return atomic_fetch_sub(&startable, 1) > 0 ? __real_pthread_create(id, form, does, of) : 1;
 }
-
-void *__wrap_calloc(size_t count, size_t bytes) { return atomic_load(&lacks_crew) ? NULL : __real_calloc(count, bytes); }
 
 /* ---- A run */
 
@@ -92,7 +87,10 @@ static void open_desk(strokes_desk *desk) {
 }
 
 static void start(strokes_crew *crew, strokes_desk *desk) {
-    CHECK_OK(strokes_crew_start(crew, desk, &(strokes_crew_options){.threads = THREADS}));
+    strokes_answer answer;
+    while (lacks(answer = strokes_crew_start(crew, desk, &(strokes_crew_options){.threads = THREADS}))) {
+    }
+    CHECK_OK(answer);
     CHECK(!desk->full, "the desk is still the program's");
 }
 
@@ -304,10 +302,10 @@ static void start_none(uint64_t want) {
     strokes_answer answer = strokes_crew_start(&crew, &desk, &options);
     CHECK(answer == STROKES_NO_MEMORY && !crew.at && desk.full, "start: %s", strokes_answer_text(answer));
     atomic_store(&startable, 9999);
-    atomic_store(&lacks_crew, true);
+    heap_refuse(0);
     answer = strokes_crew_start(&crew, &desk, &options);
     CHECK(answer == STROKES_NO_MEMORY && !crew.at && desk.full, "start: %s", strokes_answer_text(answer));
-    atomic_store(&lacks_crew, false);
+    heap_refuse(-1);
     start(&crew, &desk);
     feed(&crew, 0, LINES);
     settle(&crew);

@@ -1,12 +1,12 @@
 #!/usr/bin/env python3
-"""Reads the exports of a static library in Rattle; and makes a library of them that nothing has proved.
+"""Reads the exports of a static library in Rattle, and makes an unproved library of them.
 
-    tools/embed/exports.py list SRC          the exports below a crate's src, as C declares them
-    tools/embed/exports.py main SRC TO       writes into the folder TO a program of them whose main calls each
-    tools/embed/exports.py link CRATE FILE   the module of that program's crate, as LLVM's text in FILE, with the exports under
-                                             C's names and linkage
+    tools/embed/exports.py list SRC          prints the exports below a crate's src, as C declares them
+    tools/embed/exports.py main SRC TO       writes a program into the folder TO whose main calls each export
+    tools/embed/exports.py link CRATE FILE   prints the module of that program's crate, given as LLVM's text in FILE, with the
+                                             exports under C's names and linkage
 
-`rt lib` builds proved libraries alone, and `rt try` unproved programs alone: hence the program.
+`rt lib` builds only proved libraries, and `rt try` only unproved programs: hence the program.
 """
 import collections
 import pathlib
@@ -193,4 +193,7 @@ def main(words):
 
 
 if __name__ == "__main__":
+    if sys.argv[1:] == ["--help"]:
+        print(__doc__)
+        sys.exit()
     main(sys.argv[1:])

@@ -1,16 +1,11 @@
-/* A heap of the host's own for the library: the three functions that it takes
- * memory by, in place of those that come with it. This one counts what is out,
- * and refuses an allocation by its number, so that each can be tried. Link it
- * before libstrokes.a. */
+/* A heap of the program's own for the library: the three functions that it
+ * takes memory by, in place of those that come with it. This one counts what is
+ * out, and refuses an allocation by its number, so that each can be tried. */
 #include "heap.h"
+#include "strokes.h"
 #include <limits.h>
 #include <stdatomic.h>
 #include <stdlib.h>
-
-struct tried {
-    bool ok;
-    void *at;
-};
 
 static atomic_long asked, out, refused = -1, ended = LONG_MAX;
 
@@ -32,27 +27,23 @@ static bool refuses(void) {
 }
 
 /* Where there is none, some address that isn't NULL goes with the `false`. */
-static struct tried tried(void *at) {
+static strokes_block block(void *at) {
     static char none;
-    return (struct tried){at != NULL, at ? at : &none};
+    return (strokes_block){at != NULL, at ? at : &none};
 }
 
-struct tried rattle_alloc(size_t bytes, size_t align);
-struct tried rattle_realloc(void *at, size_t kept, size_t bytes, size_t align);
-void rattle_dealloc(void *at);
-
-struct tried rattle_alloc(size_t bytes, size_t align) {
+strokes_block strokes_heap_alloc(size_t bytes, size_t align) {
     void *at = refuses() ? NULL : malloc(bytes ? bytes : align);
     if (at) atomic_fetch_add(&out, 1);
-    return tried(at);
+    return block(at);
 }
 
-struct tried rattle_realloc(void *at, size_t kept, size_t bytes, size_t align) {
+strokes_block strokes_heap_realloc(void *at, size_t kept, size_t bytes, size_t align) {
     (void)kept;
-    return tried(refuses() ? NULL : realloc(at, bytes ? bytes : align));
+    return block(refuses() ? NULL : realloc(at, bytes ? bytes : align));
 }
 
-void rattle_dealloc(void *at) {
+void strokes_heap_free(void *at) {
     atomic_fetch_sub(&out, 1);
     free(at);
 }

@@ -1,4 +1,4 @@
-"""Runs the tests of the repository; ./test starts it, and has the words that it takes."""
+"""Runs the tests of the repository. ./test starts it, and describes its arguments."""
 import contextlib
 import fcntl
 import os
@@ -18,7 +18,7 @@ ROOMS = "strokes-test"
 
 
 class Stopped(Exception):
-    """A signal asked for the end; its number is the argument."""
+    """A signal asked this program to end; its number is the argument."""
 
 
 def say(text):
@@ -31,14 +31,14 @@ def stop(status, text):
 
 
 def selected(words, tests):
-    """The tests whose name has one of the words; a word that is a whole name has that test alone."""
+    """The tests whose name contains one of the words. A word that is a complete name selects only that test."""
     names = {test.name for test in tests}
     return [it for it in tests if not words or any(word == it.name if word in names else word in it.name for word in words)]
 
 
 @contextlib.contextmanager
 def kept_alone():
-    """Has out/tests for this call alone, until it ends."""
+    """Keeps out/tests for this call alone, until it ends."""
     try:
         os.makedirs(programs.KEPT, exist_ok=True)
         with tempfile.TemporaryFile(dir=programs.KEPT):
@@ -48,7 +48,7 @@ def kept_alone():
     try:
         fcntl.flock(folder, fcntl.LOCK_EX | fcntl.LOCK_NB)
     except BlockingIOError:
-        say("another call is at work; waiting for it")
+        say("another ./test is running; waiting for it")
         fcntl.flock(folder, fcntl.LOCK_EX)
     try:
         yield
@@ -58,7 +58,7 @@ def kept_alone():
 
 @contextlib.contextmanager
 def room():
-    """A folder for what is written on the way, outside the checkout: rt ci refuses sources anywhere else in it."""
+    """A folder for temporary files, outside the checkout, since rt ci refuses sources elsewhere in it."""
     sweep()
     made = tempfile.mkdtemp(prefix=f"{ROOMS}.{os.getpid()}.")
     try:
@@ -85,10 +85,10 @@ def listen(handler):
 
 
 def run(tests):
-    """Runs these tests, and answers with the status."""
+    """Runs these tests, and returns the status."""
     kit = programs.Kit()
     if not kit.is_there:
-        stop(NOTHING_BUILT, "nothing can be built: no toolchain is there, as rt isn't on the PATH")
+        stop(NOTHING_BUILT, "nothing can be built: rt isn't on the PATH")
     listen(stopped)
     # (a test that fails aborts)
     resource.setrlimit(resource.RLIMIT_CORE, (0, 0))
@@ -98,7 +98,7 @@ def run(tests):
             status = it.go()
             return NOTHING_BUILT if it.is_nothing_built else status
     except Stopped as number:
-        say("broken off")
+        say("interrupted")
         return 128 + number.args[0]
     except OSError as error:
         stop(NOTHING_BUILT, f"not everything could be built: {error}")
@@ -111,7 +111,7 @@ def main(words):
         return 0
     tests = selected(words, tests)
     if not tests:
-        stop(BAD_ARGUMENT, f"no test has {' or '.join(words)} in its name; ./test --list tells all names")
+        stop(BAD_ARGUMENT, f"no test has {' or '.join(words)} in its name; ./test --list prints all names")
     return run(tests)
 
 

@@ -36,7 +36,7 @@ def unlisted(program, mine):
 
 def how_it_ended(ended):
     if ended.is_late:
-        return f"it hadn't ended after {SECONDS} seconds"
+        return f"still running after {SECONDS} seconds"
     if ended.status == -signal.SIGILL:
         return CHECKS
     if ended.status == -signal.SIGABRT:

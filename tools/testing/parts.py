@@ -1,4 +1,5 @@
-"""The tests that are none of a crate: programs with what they are to write, scripts of tools/, hosts, refused growths."""
+"""The tests that are none of a crate: programs with what they are to write, scripts of tools/, hosts and bindings of the C
+library, its installation, refused growths."""
 import os
 import shutil
 
@@ -8,14 +9,20 @@ from crates import TOP, Test
 from programs import Built
 from results import Result
 
-# How many random scripts the hosts paint; of the growths of memory each which is refused; and when a script is too late.
+# How many random scripts the hosts paint, and when a script is too late.
 SCRIPTS = "5"
-GROWTHS = "10"
 SECONDS = 900
+# The command that nothing has proved, which ./strokes builds.
+COMMAND = f"{TOP}/out/unproved/strokes"
 # The hosts, with their compilers.
 COMPILERS = {"paint": "cc", "paint_cpp": "c++", "paint_rs": "rustc", "paint_py": "cc"}
-# The crate that has the test in which growths are refused.
-REFUSED_IN = "desk_tests"
+# The tests in which growths of memory are refused, each with a number: of so many growths one is.
+REFUSING = {
+    "settled_desk": ("desk_tests::scripts::a_settled_desk_has_the_pixmaps_of_its_script", "10"),
+    "two_artists": ("crew_tests::together::artists_lose_no_command", "1"),
+}
+# The languages of the bindings, with what each needs.
+LANGUAGES = {"cpp": ["c++"], "rust": ["cargo", "rustc"], "python": []}
 
 
 def other(part, name, place):
@@ -28,7 +35,22 @@ def scripts():
 
 def pages():
     """What the pages show: scripts and errors of the language, and programs in C; each with what has to be built for it."""
-    return {other("pages", "language-check", "tools/language-check"): "strokes", other("pages", "snippets-check", "tools/snippets-check"): "hosts"}
+    return {other("pages", "language-check", "tools/language-check"): {"strokes"}, other("pages", "snippets-check", "tools/snippets-check"): {"hosts"}}
+
+
+def embed():
+    """Single calls of the C library, the bindings, and the installed library; each with what has to be built for it."""
+    bindings = {other("embed", language, "tools/bindings-test"): {"hosts"} for language in LANGUAGES}
+    return {
+        other("embed", "answers", "tools/embed-test"): {"hosts"},
+        other("embed", "install", "tools/install-test"): {"hosts", "strokes"},
+        **bindings,
+    }
+
+
+def needs_builds():
+    """The scripts that are run once something is built, with what that is."""
+    return {**pages(), **embed()}
 
 
 def of_main(crate):
@@ -43,36 +65,46 @@ def hosts():
     return [other("hosts", name, f"examples/embed/{name.replace('_py', '.py')}") for name in COMPILERS]
 
 
-def refused():
-    return other("memory", "refused_growths", "tools/fail-alloc.sh")
+def refusing():
+    return [other("memory", name, "tools/fail-alloc.sh") for name in REFUSING]
+
+
+def crate_refused(test):
+    """The crate of the test in which this one refuses growths."""
+    return REFUSING[test.name_in_crate][0].partition("::")[0]
 
 
 def everything():
     of_crates = [test for crate in crates.crates_of_tests() for test in crates.tests_of(crate)]
-    return [*of_crates, *of_programs(), *scripts(), *pages(), *hosts(), refused()]
+    return [*of_crates, *of_programs(), *scripts(), *needs_builds(), *hosts(), *refusing()]
 
 
 def missing(test):
     """What a test needs that isn't there, if so."""
-    needs = ["cc", "ar"] if test.part == "hosts" or pages().get(test) == "hosts" else ["cc"] if test.part == "memory" else []
+    of_library = test.part == "hosts" or "hosts" in needs_builds().get(test, ())
+    needs = ["cc", "ar", "ld", "objcopy"] if of_library else ["cc"] if test.part == "memory" else []
     if test.part == "hosts":
         needs = [*needs, COMPILERS[test.name_in_crate]]
+    if test.part == "embed":
+        needs = [*needs, *LANGUAGES.get(test.name_in_crate, ["pkg-config"])]
     words = {"cc": os.environ.get("CC"), "c++": os.environ.get("CXX")}
     words = [words.get(it) or it for it in needs]
     gone = [it for it in words if not shutil.which(it.split()[0])]
-    return f"no {gone[0]} is there" if gone else None
+    return f"{gone[0]} isn't installed" if gone else None
 
 
 def result_of(test, ended, told=None, **more):
     """The result of a test that is a program's whole run."""
     how = "passed" if ended.status == 0 and not told else "failed"
-    late = f"it hadn't ended after {ended.seconds:.0f} seconds\n" if ended.is_late else ""
+    late = f"still running after {ended.seconds:.0f} seconds\n" if ended.is_late else ""
     told = late + (told or f"status {ended.status}\n{ended.out.decode(errors='replace')}{ended.said}")
     return Result(test, how, "" if how == "passed" else told.replace(f"{TOP}/", ""), seconds=ended.seconds, **more)
 
 
 def of_script(test):
-    return result_of(test, processes.run([f"{TOP}/{test.place}"], seconds=SECONDS))
+    """Runs a script, or the part of it that has the test's name."""
+    words = [test.name_in_crate] if test.name_in_crate in (*LANGUAGES, "answers") else []
+    return result_of(test, processes.run([f"{TOP}/{test.place}", *words], seconds=SECONDS, PROGRAM=COMMAND))
 
 
 def bytes_of(path, missing=b""):
@@ -90,7 +122,7 @@ def of_program(test, words, **how):
     status = int(bytes_of(f"{folder}/status", b"0"))
     if ended.status == status and ended.out == want:
         return Result(test, "passed", seconds=ended.seconds)
-    told = f"status {ended.status} for {status}; it wrote {shown(ended.out)}\nfor {shown(want)}\n{ended.said}"
+    told = f"status {ended.status}, expected {status}; wrote {shown(ended.out)}\nexpected {shown(want)}\n{ended.said}"
     return result_of(test, ended, told, place=f"crates/{test.name_in_crate}/stdout")
 
 
@@ -107,7 +139,7 @@ def built_hosts():
 def of_hosts(tests):
     """Compares what the hosts paint with what the command does, and tells which of them painted something else."""
     words = [f"{TOP}/examples/embed/compare.sh", SCRIPTS]
-    ended = processes.run(words, seconds=SECONDS, PROGRAM=f"{TOP}/out/unproved/strokes")
+    ended = processes.run(words, seconds=SECONDS, PROGRAM=COMMAND)
     odd = {}
     for it in ended.out.decode(errors="replace").split("ODD ")[1:]:
         odd[host_of(it)] = odd.get(host_of(it), "") + f"ODD {it}"
@@ -122,7 +154,10 @@ def host_of(told):
     return next((name for name in ("paint_cpp", "paint_rs") if f"/{name} " in words), "paint_py" if "paint.py" in words else "paint")
 
 
-def of_refused(test, program):
-    """Refuses some of the growths of memory in a test of desks, each in a run of its own."""
-    ended = processes.run([f"{TOP}/tools/fail-alloc.sh", "settled", GROWTHS], seconds=SECONDS, TESTS=program.path)
-    return result_of(test, ended)
+def words_refusing(test):
+    return [f"{TOP}/{test.place}", "test", *REFUSING[test.name_in_crate]]
+
+
+def of_refusing(test, program):
+    """Refuses growths of memory in a test of a program, each in a run of its own."""
+    return result_of(test, processes.run(words_refusing(test), seconds=SECONDS, TESTS=program.path))

@@ -45,6 +45,9 @@ def run(words, folder=TOP, given=b"", seconds=None, **environment):
         is_late = True
         end_sessions({process.pid})
         out, said = process.communicate()
+    except BaseException:
+        end_sessions({process.pid})
+        raise
     finally:
         with _lock:
             _running.discard(process)

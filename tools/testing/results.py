@@ -1,4 +1,4 @@
-"""What came of each test, and how it is told: progress on the error stream, failures and the end on standard output."""
+"""The result of each test, and its report: progress on standard error, failures and the count on standard output."""
 import sys
 import threading
 import time
@@ -9,7 +9,7 @@ from crates import Test
 
 @dataclass
 class Result:
-    """What came of a test: `passed`, `failed` or `skipped`; what is to be told of it, and in how many seconds it came."""
+    """The result of a test: `passed`, `failed` or `skipped`; the text of its report, and its seconds."""
 
     test: Test
     how: str
@@ -20,7 +20,7 @@ class Result:
 
 
 class Board:
-    """Keeps the results of all that were to be tested, and tells them as they come."""
+    """Keeps the results of all tests, and reports them as they come."""
 
     def __init__(self, tests):
         self.begun = time.monotonic()
@@ -41,7 +41,7 @@ class Board:
             print(f"test: {time.monotonic() - self.begun:.0f} s: {text}", file=sys.stderr, flush=True)
 
     def add(self, *results, told=None):
-        """Takes results, and tells what isn't a pass, each for itself or all by one text."""
+        """Adds results, and reports those that aren't passes, one by one or all by one text."""
         with self.lock:
             self.results += results
             for text in [told] if told else [block(it) for it in results if it.how != "passed"]:
@@ -52,33 +52,33 @@ class Board:
                     self.tell(part)
 
     def add_unbuilt(self, name, tests, said):
-        """Takes tests of a program that couldn't be built as failed, and tells what was said of it, once."""
-        lines = [f"FAILED {len(tests)} tests, as this wasn't built: {name}", *said.rstrip("\n").split("\n")]
+        """Adds the tests of a program that couldn't be built as failed, and prints the build's output once."""
+        lines = [f"FAILED {len(tests)} tests, since this couldn't be built: {name}", *said.rstrip("\n").split("\n")]
         if said in self.said:
             lines[1:] = ["(as above)"]
         self.said.add(said)
         self.add(*[Result(test, "failed") for test in tests], told="\n    ".join(lines))
 
     def tell(self, part):
-        """Tells of a part that is done."""
+        """Reports a part that is done."""
         mine = [it for it in self.results if it.test.part == part]
         self.say(f"{part}: {counted(mine)} ({len(self.results)} of {self.of} tests so far)")
 
     def end(self):
-        """Tells what came of all, and answers with the status."""
+        """Prints the count, and returns the status."""
         print("This proves nothing: ./prove proves the program that paints, and rt ci the whole repository.")
         print(counted(self.results, always=("passed", "failed")), flush=True)
         return 1 if any(it.how == "failed" for it in self.results) else 0
 
 
 def counted(results, always=()):
-    """How many passed, failed and were skipped, without what none did, unless that is always to be told."""
+    """How many passed, failed and were skipped, without zeros, except those that are always printed."""
     counts = {how: sum(it.how == how for it in results) for how in ("passed", "failed", "skipped")}
     return ", ".join(f"{count} {how}" for how, count in counts.items() if count or how in always)
 
 
 def block(result):
-    """A result that isn't a pass, over several lines."""
+    """A result that isn't a pass, in several lines."""
     lines = [f"{result.how.upper()} {result.test.name}"]
     if result.how == "skipped":
         return f"{lines[0]}: {result.told}"

@@ -14,7 +14,7 @@ from results import Board, Result
 
 TIMES = f"{programs.KEPT}/times"
 MEMORY_OF_A_BUILD = 2 * 1024**3
-# How often a word is said on what is being built, in seconds.
+# How often the programs that are being built are reported, in seconds.
 WORD_EACH = 20
 
 
@@ -57,7 +57,7 @@ class Run:
     # First everything is built, beside the tests that need no building; then the others are run, since threads that wait for
     # one another are slow beside builds.
     def go(self):
-        self.board.say(f"{len(self.tests)} tests, on programs that nothing has proved")
+        self.board.say(f"{len(self.tests)} tests, on unproved programs")
         self.board.add(*[Result(test, "skipped", why) for test, why in self.skipped.items()])
         with ThreadPoolExecutor(builds_at_once()) as builders, ThreadPoolExecutor(processors()) as runners:
             try:
@@ -78,7 +78,7 @@ class Run:
             for it in done:
                 it.result()
             if not done and self.at_work:
-                self.board.say(f"being built: {', '.join(sorted(self.at_work))}")
+                self.board.say(f"building: {', '.join(sorted(self.at_work))}")
 
     @property
     def is_nothing_built(self):
@@ -92,7 +92,7 @@ class Run:
         for program in self.chosen:
             yield self.build_tests, program
         mains = self.of_parts("programs")
-        needed = {parts.pages()[test] for test in self.of_parts("pages")}
+        needed = set().union(*(parts.needs_builds()[test] for test in self.of_parts("pages", "embed")))
         if parts.of_main("strokes") in mains or self.of_parts("hosts") or "strokes" in needed:
             yield self.build_strokes,
         if self.of_parts("hosts") or "hosts" in needed:
@@ -106,9 +106,9 @@ class Run:
         if self.of_parts("hosts") and self.built["hosts"].is_done:
             yield self.run_hosts,
         for test in self.of_parts("memory"):
-            yield self.run_refused, test
-        for test in self.of_parts("pages"):
-            yield self.run_page, test
+            yield self.run_refusing, test
+        for test in self.of_parts("embed", "pages"):
+            yield self.run_after_builds, test
         for program, mine in self.chosen.items():
             if self.built[program.name].is_done:
                 self.expect(natively.unlisted(program, mine))
@@ -122,7 +122,7 @@ class Run:
                 yield self.run_by_rt, crate
 
     def build(self, name, label, making):
-        """Builds what has this name by this function, and says so."""
+        """Builds the program of this name by this function, and reports it."""
         self.at_work.add(label)
         built = making()
         self.at_work.discard(label)
@@ -145,8 +145,7 @@ class Run:
         """The programs of tests that are wanted, each with the crates whose tests it is to run. A crate that was changed, or
         is wanted, alone of those in one program gets one of its own; for the others what was built before still does."""
         wanted = {test.part for test in self.tests}
-        if "memory" in wanted:
-            wanted.add(parts.REFUSED_IN)
+        wanted |= {parts.crate_refused(test) for test in self.of_parts("memory")}
         for group in programs.groups():
             mine = wanted & set(group.crates)
             stale = programs.stale(group, self.kit) & mine
@@ -160,11 +159,11 @@ class Run:
 
     def soonest(self):
         """The program that is built beside the others and run first: after a change, that of the lowest crate of tests above
-        it, where others would be built with it."""
+        it, where others would be built with it. (A library's own tests come with the others.)"""
         for program, mine in self.chosen.items():
             if program.is_joined and programs.is_kept(program, self.kit):
                 stale = programs.stale(program, self.kit) & mine
-                lowest = [crate for crate in program.crates if crate in stale and self.of_parts(crate)]
+                lowest = [crate for crate in program.crates if crate in stale and crate.endswith("_tests") and self.of_parts(crate)]
                 return programs.alone(lowest[0]) if lowest else None
         return None
 
@@ -172,7 +171,7 @@ class Run:
         return next((program for program, mine in self.chosen.items() if crate in mine), None)
 
     def expect(self, unlisted):
-        """Takes tests that --list doesn't tell, where all of their crate are wanted."""
+        """Adds tests that --list doesn't print, if all tests of their crate are wanted."""
         for test in unlisted:
             if set(crates.tests_of(test.part)) <= set(self.tests):
                 self.tests.append(test)
@@ -196,7 +195,7 @@ class Run:
         self.board.add(natively.result(test, program))
 
     def run_by_rt(self, crate):
-        self.board.say(f"this kit has no quick way to a program of tests: rt try runs {crate}, slowly")
+        self.board.say(f"this toolchain can't build tests quickly, so rt try runs {crate}, slowly")
         tests = self.of_parts(crate)
         told, results = natively.by_rt(crate, tests)
         if results:
@@ -243,17 +242,17 @@ class Run:
         else:
             self.board.add_unbuilt("strokes", tests, "there is no right ./strokes to compare them with")
 
-    def run_page(self, test):
-        needed = parts.pages()[test]
-        if self.built[needed].is_done:
-            self.board.add(parts.of_script(test))
+    def run_after_builds(self, test):
+        missing = [name for name in sorted(parts.needs_builds()[test]) if not self.built[name].is_done]
+        if missing:
+            self.board.add_unbuilt(missing[0], [test], "")
         else:
-            self.board.add_unbuilt(needed, [test], "")
+            self.board.add(parts.of_script(test))
 
-    def run_refused(self, test):
-        program = self.program_of(parts.REFUSED_IN)
+    def run_refusing(self, test):
+        program = self.program_of(parts.crate_refused(test))
         if self.built[program.name].is_done:
-            self.board.add(parts.of_refused(test, program))
+            self.board.add(parts.of_refusing(test, program))
         else:
             self.board.add_unbuilt(program.label, [test], "")
 

@@ -1,3 +1,4 @@
 mod Fronts
 mod Kept
+mod Roots
 pub mod ShownScripts

@@ -3,20 +3,22 @@
 ghost use Rattle.std.specs.Prelude.{◌≡◌};
 ghost use Rattle.script_text.specs.Script.{Contents};
 ghost use Rattle.crew_run.specs.Front.{IsFront, nothing};
+ghost use Rattle.crew_run.specs.Watched.{SeesRoot};
 
 use crate::effort::{ALONE, WORTH_TWO, load_of};
 use crate::feeding::feed_ahead;
 use crate::pieces::{Piece, Walking};
+use crate::watching::Watching;
 use crate::work::{Tiles, WalkRows, Work};
 use desk_core::{Desk, Ended, Published, Taken};
-use geom_core::NoMemory;
+use geom_core::{NoMemory, TileKey};
 use memento_core::Steps;
 use script_text::Script;
 use stamped_desk::{StampNaming, StampedDesk, StampedPainting, StampedTiles, StampedWalk};
 use std::alloc::Global;
 use std::marker::{Brand, PhantomData};
-use std::sync::Arc;
 use std::sync::ledger::Ledger;
+use std::sync::{Arc, Wait};
 use walker_core::Composed;
 
 /// Which script is painted. Each call of the crew picks it.
@@ -28,12 +30,13 @@ impl Following for Brand {
     ghost script = { nothing };
 }
 
-/// A desk whose canvas is the script's and whose commands begin the script, and what is known of the
-/// threads.
+/// A desk whose canvas is the script's and whose commands begin the script, who watches it and shows what its
+/// root shows, and what is known of the threads.
 #[derive(Drop)]
-pub(crate) struct Board<J: Following + StampNaming> {
+pub(crate) struct Board<J: Following + StampNaming, W: Watching> {
     alloc: Global,
     desk: StampedDesk<J>,
+    watch: W,
     /// The caller's thread and those of the workers.
     threads: usize,
     /// The jobs that several threads paint.
@@ -51,6 +54,7 @@ pub(crate) struct Board<J: Following + StampNaming> {
     of: PhantomData<J>,
     ghost canvas_is: { desk.canvas ≡ J.script.canvas },
     ghost front: { IsFront desk.fed J.script.commands },
+    ghost shows: { SeesRoot (W.seen watch) desk },
 }
 
 /// What is to be done with the tiles that a thread brought.
@@ -76,15 +80,17 @@ pub(crate) enum Next<J: StampNaming> {
     Stop,
 }
 
-impl<J: Following + StampNaming> Board<J> {
+impl<J: Following + StampNaming, W: Watching> Board<J, W> {
     /// A board on which nothing is at work.
-    pub(crate) fn new(alloc: Global, desk: StampedDesk<J>, threads: usize) -> Board<J>
+    pub(crate) fn new(alloc: Global, desk: StampedDesk<J>, watch: W, threads: usize) -> Board<J, W>
         requires canvas { desk.canvas ≡ J.script.canvas }
         requires front { IsFront desk.fed J.script.commands }
+        requires shows { SeesRoot (W.seen watch) desk }
     {
         Board {
             alloc,
             desk,
+            watch,
             threads,
             pieces: Vec::new(alloc),
             jobs: 0,
@@ -96,18 +102,13 @@ impl<J: Following + StampNaming> Board<J> {
         }
     }
 
-    /// The desk.
-    pub(crate) fn desk(&self) -> &Desk {
-        self.desk.desk()
-    }
-
-    /// The desk on its own.
-    pub(crate) fn into_desk(self) -> Desk
-        ensures canvas { result.canvas ≡ J.script.canvas }
-        ensures front { IsFront result.fed J.script.commands }
+    /// The desk, and who watched it.
+    pub(crate) fn into_parts(self) -> (Desk, W)
+        ensures canvas { result.0.canvas ≡ J.script.canvas }
+        ensures front { IsFront result.0.fed J.script.commands }
     {
-        let Board { desk, .. } = self;
-        desk.into_desk()
+        let Board { desk, watch, .. } = self;
+        (desk.into_desk(), watch)
     }
 
     /// Tiles of work under way, or new work, or one event. Where that can't be done, the threads are to stop.
@@ -158,6 +159,7 @@ impl<J: Following + StampNaming> Board<J> {
     /// New work, or one event. While jobs are at work for which the head waits nothing is composed: what they
     /// change would be composed again. Small jobs are painted in place where the caller is alone; where there
     /// are workers, each job is painted outside the lock.
+    #[tactic(auto, using(crate::proofs::Roots::still_shown))]
     fn take<L: Ledger>(
         &mut self,
         script: &Script,
@@ -256,6 +258,7 @@ impl<J: Following + StampNaming> Board<J> {
     }
 
     /// Publishes all tiles of a job, and ends it. Where that can't be done the threads are to stop.
+    #[tactic(auto, using(crate::proofs::Roots::still_shown, crate::proofs::Roots::commit_root))]
     pub(crate) fn put_job(&mut self, made: &StampedTiles<J>) {
         self.jobs = self.jobs.saturating_sub(1);
         match self.desk.commit(made) {
@@ -266,25 +269,34 @@ impl<J: Following + StampNaming> Board<J> {
 
     /// Publishes tiles of a walk, of all its groups, and ends it where they are its last. Where that can't be
     /// done the threads are to stop.
-    pub(crate) fn put_rows(&mut self, rows: &WalkRows<J>, composed: &Composed<'_>)
+    #[tactic(auto, using(crate::proofs::Roots::same_shown))]
+    pub(crate) fn put_rows<R: Wait>(&mut self, rt: &R, rows: &WalkRows<J>, composed: &Composed<'_>)
         requires { composed.now.readings ≡ rows.now.walk.value.inputs }
     {
         let rect = rows.walk.ticket().inputs.patch().rect;
         let to = rows.to.min(rect.tile_count() as usize);
         for i in rows.from..to {
-            let key = rect.tile_at(i as u32);
-            match self.desk.publish_row(&rows.walk, composed, key) {
-                Ok(Published::Stored) => {}
-                Ok(Published::Nothing) | Err(NoMemory) => {
-                    self.is_over = true;
-                    return;
-                }
+            if !self.put_row(rows, composed, rect.tile_at(i as u32)) {
+                self.is_over = true;
+                return;
             }
         }
+        self.watch.publish(rt);
         self.tell_done(rows);
     }
 
+    /// Publishes a tile of a walk, of all its groups, and tells who watches. `false` where that can't be done.
+    #[tactic(auto, using(crate::proofs::Roots::row_shown))]
+    fn put_row(&mut self, rows: &WalkRows<J>, composed: &Composed<'_>, key: TileKey) -> bool
+        requires { composed.now.readings ≡ rows.now.walk.value.inputs }
+    {
+        let published = self.desk.publish_row(&rows.walk, composed, key);
+        self.watch.composed(self.desk.desk(), key);
+        matches!(published, Ok(Published::Stored))
+    }
+
     /// Ends a walk where these were its last tiles.
+    #[tactic(auto, using(crate::proofs::Roots::still_shown, crate::proofs::Roots::end_root, crate::proofs::Roots::same_root))]
     fn tell_done(&mut self, rows: &WalkRows<J>) {
         let slot = rows.walk.ticket().slot;
         let Some(i) = self.walks.iter().position(|w| w.serial() == slot.serial) else {

@@ -3,6 +3,7 @@
 ghost use Rattle.std.specs.Prelude.{◌≡◌, ◌≤◌, ◌<◌, ◌-◌, ◌^◌, length, IfOk};
 ghost use Rattle.crew_run.specs.Front.{IsFront};
 ghost use Rattle.crew_run.specs.Painted.{IsPaintedBy};
+ghost use Rattle.crew_run.specs.Watched.{SeesRoot};
 
 use crate::board::{Board, Brought, Following, Next};
 use crate::feeding::finish;
@@ -23,19 +24,18 @@ use std::thread::Threads;
 
 /// What the threads share.
 #[derive(Drop)]
-struct Crew<'a, J: Following + StampNaming, R, G, W> {
+struct Crew<'a, J: Following + StampNaming, R, G, W: Watching> {
     rt: &'a R,
     script: &'a Script,
     gate: &'a G,
-    watch: &'a W,
-    board: Mutex<Board<J>>,
+    board: Mutex<Board<J, W>>,
     changed: Condvar,
     ghost script_is: { script.now ≡ J.script },
 }
 
 /// A thread of the crew, the caller's or another, with a count of steps of its own.
 #[derive(Drop)]
-struct Worker<'c, 'a, J: Following + StampNaming, L: Ledger, R, G, W> {
+struct Worker<'c, 'a, J: Following + StampNaming, L: Ledger, R, G, W: Watching> {
     alloc: Global,
     crew: &'c Crew<'a, J, R, G, W>,
     steps: Steps<L>,
@@ -59,7 +59,7 @@ impl<'c, 'a, J: Following + StampNaming, L: Ledger, R: Wait, G: Gate, W: Watchin
 
     /// Work, or none where all is done or can't be done here. It waits where others have all the work,
     /// and lets the board go. One thread is woken where something worth it is left.
-    fn next(&mut self, board: MutexGuard<'_, Board<J>>) -> Option<Work<J>> {
+    fn next(&mut self, board: MutexGuard<'_, Board<J, W>>) -> Option<Work<J>> {
         let crew = self.crew;
         let mut board = board;
         for _ in crew.rt.forever() {
@@ -129,15 +129,14 @@ impl<'c, 'a, J: Following + StampNaming, L: Ledger, R: Wait, G: Gate, W: Watchin
         self.next(board)
     }
 
-    /// Composes tiles of a walk, publishes them in one hold, and tells who watches.
+    /// Composes tiles of a walk, and publishes them in one hold.
     fn compose(&mut self, rows: &WalkRows<J>) -> Option<Work<J>> {
         let Ok(composed) = rows.compose(self.alloc) else {
             return self.give_up();
         };
         let crew = self.crew;
         let mut board = crew.board.lock(crew.rt);
-        board.put_rows(rows, &composed);
-        crew.watch.composed(crew.rt, board.desk(), &rows.bound());
+        board.put_rows(crew.rt, rows, &composed);
         self.next(board)
     }
 
@@ -207,7 +206,7 @@ fn together<
     L: Ledger,
     R: Threads + Wait + Sync,
     G: Gate,
-    W: Watching,
+    W: Watching + Send,
 >(caller: &mut Worker<'_, '_, J, L, R, G, W>, workers: u8, work: Work<J>) {
     let alloc = caller.alloc;
     let crew = caller.crew;
@@ -218,6 +217,22 @@ fn together<
         }
         caller.work(Some(work));
     });
+}
+
+/// The caller works alone up to the first work that is worth so many workers, and then beside them.
+fn work_all<
+    J: Following + StampNaming + Send + Sync,
+    L: Ledger,
+    R: Threads + Wait + Sync,
+    G: Gate,
+    W: Watching + Send,
+>(crew: &Crew<'_, J, R, G, W>, alloc: Global, workers: u8, steps: Steps<L>) -> Steps<L> {
+    let mut caller = Worker { alloc, crew, steps };
+    if let Some(work) = caller.alone() {
+        together(&mut caller, workers, work);
+    }
+    let Worker { steps, .. } = caller;
+    steps
 }
 
 /// Paints a script by so many workers and the caller. What is promised holds if it returns: then it is
@@ -236,59 +251,68 @@ pub fn run_crew<R: Threads + Wait + Sync, G: Gate>(
     requires few { length script.now.commands ≤ 2 ^ 32 - 1 }
     ensures { IfOk result (λ d. IsPaintedBy script.now d) }
 {
-    run_watched(rt, alloc, script, workers, gate, &Unwatched)
+    let (desk, _) = run_watched(rt, alloc, script, workers, gate, Unwatched);
+    desk
 }
 
-/// Paints a script as `run_crew` does, with somebody who watches: after each walk that the crew composes it
-/// is told where the root's cache may be new. What the caller composes at the end isn't told.
+/// Paints a script as `run_crew` does, with somebody who watches, and comes back at the end. At the beginning and
+/// at the end all tiles are owed: what the caller composes there isn't told.
 ///
 /// # Errors
 /// `NoMemory`.
-pub fn run_watched<R: Threads + Wait + Sync, G: Gate, W: Watching>(
+pub fn run_watched<R: Threads + Wait + Sync, G: Gate, W: Watching + Send>(
     rt: &R,
     alloc: Global,
     script: &Script,
     workers: u8,
     gate: &G,
-    watch: &W,
-) -> Result<Desk, NoMemory>
+    watch: W,
+) -> (Result<Desk, NoMemory>, W)
     requires workers { workers ≤ 16 }
     requires few { length script.now.commands ≤ 2 ^ 32 - 1 }
-    ensures { IfOk result (λ d. IsPaintedBy script.now d) }
+    ensures painted { IfOk result.0 (λ d. IsPaintedBy script.now d) }
+    ensures shows { IfOk result.0 (λ d. SeesRoot (W.seen result.1) d) }
 {
-    named_run::<Brand, Brand, R, G, W>(
-        rt,
-        alloc,
-        script,
-        workers,
-        gate,
-        watch,
-        Unnamed::new(),
-        Blank::new(1),
-    )
+    match new_desk(alloc, script, workers + 1) {
+        Ok(desk) => named_run::<Brand, Brand, R, G, W>(
+            rt,
+            alloc,
+            script,
+            workers,
+            gate,
+            watch,
+            desk,
+            Unnamed::new(),
+            Blank::new(1),
+        ),
+        Err(NoMemory) => (Err(NoMemory), watch),
+    }
 }
 
 /// The crew of `run_watched`, with the script, the stamps and the ledger of the caller's steps under names.
-/// The caller works alone up to the first work that is worth the workers.
+#[tactic(auto, using(crate::proofs::Roots::owed_shown))]
 fn named_run<
     'a,
     J: Following + StampNaming + Send + Sync,
     L: Ledger,
     R: Threads + Wait + Sync,
     G: Gate,
-    W: Watching,
+    W: Watching + Send,
 >(
     rt: &'a R,
     alloc: Global,
     script: &'a Script,
     workers: u8,
     gate: &'a G,
-    watch: &'a W,
+    watch: W,
+    desk: Desk,
     unnamed: Unnamed<Taken>,
     blank: Blank,
-) -> Result<Desk, NoMemory>
+) -> (Result<Desk, NoMemory>, W)
     requires workers { workers ≤ 16 }
     requires few { length script.now.commands ≤ 2 ^ 32 - 1 }
+    requires canvas { desk.canvas ≡ script.now.canvas }
+    requires front { IsFront desk.fed script.now.commands }
 
     // What the names stand for.
     requires script { script.now ≡ J.script }
@@ -296,31 +320,46 @@ fn named_run<
     requires name { blank.name ≡ L.name }
     requires parts { blank.parts ≡ L.parts }
     requires some { 0 < blank.parts }
-    ensures { IfOk result (λ d. IsPaintedBy script.now d) }
+    ensures painted { IfOk result.0 (λ d. IsPaintedBy script.now d) }
+    ensures shows { IfOk result.0 (λ d. SeesRoot (W.seen result.1) d) }
 {
-    let desk = new_desk(alloc, script, workers + 1)?;
+    let mut watch = watch;
+    watch.owe_all();
     let desk = StampedDesk::new(desk, unnamed);
     let crew: Crew<'a, J, R, G, W> = Crew {
         rt,
         script,
         gate,
-        watch,
-        board: Mutex::new(Board::new(alloc, desk, usize::from(workers) + 1)),
+        board: Mutex::new(Board::new(alloc, desk, watch, usize::from(workers) + 1)),
         changed: Condvar::new(),
     };
-    let mut caller = Worker {
-        alloc,
-        crew: &crew,
-        steps: Steps::<L>::new(blank),
-    };
-    if let Some(work) = caller.alone() {
-        together(&mut caller, workers, work);
-    }
-    let Worker { mut steps, .. } = caller;
+    let mut steps = work_all(&crew, alloc, workers, Steps::<L>::new(blank));
     let Crew { board, .. } = crew;
-    let mut desk = board.into_inner().into_desk();
-    finish(&mut desk, script, &mut steps)?;
-    Ok(desk)
+    let (desk, watch) = board.into_inner().into_parts();
+    settle_watched(desk, watch, script, &mut steps)
+}
+
+/// Does what is left of a script on the caller's thread, while all is owed.
+#[tactic(auto, using(crate::proofs::Roots::owed_shown))]
+fn settle_watched<L: Ledger, W: Watching>(
+    desk: Desk,
+    watch: W,
+    script: &Script,
+    steps: &mut Steps<L>,
+) -> (Result<Desk, NoMemory>, W)
+    requires canvas { desk.canvas ≡ script.now.canvas }
+    requires front { IsFront desk.fed script.now.commands }
+    requires few { length script.now.commands ≤ 2 ^ 32 - 1 }
+    ensures painted { IfOk result.0 (λ d. IsPaintedBy script.now d) }
+    ensures shows { IfOk result.0 (λ d. SeesRoot (W.seen result.1) d) }
+{
+    let mut desk = desk;
+    let mut watch = watch;
+    watch.owe_all();
+    match finish(&mut desk, script, steps) {
+        Ok(()) => (Ok(desk), watch),
+        Err(NoMemory) => (Err(NoMemory), watch),
+    }
 }
 
 /// A desk for a script, which keeps the script's commands no second time.

@@ -3,6 +3,7 @@
 ghost use Rattle.std.specs.Prelude.{◌≡◌, ◌≤◌, ◌<◌, ◌-◌, ◌^◌, length, take, OnOk};
 ghost use Rattle.crew_run.specs.Front.{IsFront};
 ghost use Rattle.crew_run.specs.Painted.{IsPaintedBy};
+ghost use Rattle.crew_run.specs.Watched.{KeepsRoot};
 
 use desk_core::Desk;
 use doc_model::MOST_COMMANDS;
@@ -18,6 +19,7 @@ fn feed_next<J: StampNaming>(desk: &mut StampedDesk<J>, script: &Script) -> bool
     requires front { IsFront desk.old.fed script.now.commands }
     ensures front { IsFront desk.new.fed script.now.commands }
     ensures canvas { desk.new.canvas ≡ desk.old.canvas }
+    ensures root { KeepsRoot desk.old desk.new }
 {
     let _lawful = script.commands();
     let count = desk.desk().fed_count();
@@ -33,6 +35,7 @@ pub(crate) fn feed_ahead<J: StampNaming>(desk: &mut StampedDesk<J>, script: &Scr
     requires front { IsFront desk.old.fed script.now.commands }
     ensures front { IsFront desk.new.fed script.now.commands }
     ensures canvas { desk.new.canvas ≡ desk.old.canvas }
+    ensures root { KeepsRoot desk.old desk.new }
 {
     for _ in desk.desk().fed_count()..script.len() {
         if !desk.desk().wants_commands() {

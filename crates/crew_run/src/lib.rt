@@ -4,8 +4,9 @@
 //! # Decisions
 //!
 //! - What lies under the lock (`Board`) knows the script by a name, a type parameter that each call picks: its
-//!   type says that the desk's canvas is the script's and that its fed commands begin the script's. So nothing
-//!   is compared at the end, and nothing else of what the threads do needs a proof.
+//!   type says that the desk's canvas is the script's, that its fed commands begin the script's, and that whoever
+//!   watches shows what the root shows. So nothing is compared at the end, and nothing else of what the threads
+//!   do needs a proof.
 //! - The crew feeds ahead until the entry at the head is closed, so no job of a cancelled stroke is ever
 //!   started. It composes late: while jobs are at work for which the head waits it starts no walk, since what
 //!   they change would be composed once more.
@@ -16,8 +17,9 @@
 //!   for 64 points, and one that it covers in part for a quarter, since each range made a plain tile of its own
 //!   (`load_of`); one that a path meets counts for as many points as its dabs there have (`points_of`). No clause
 //!   speaks of it.
-//! - Whoever watches is told after each hold in which tiles of a walk were laid (`Watching`), under the desk's
-//!   lock, so updates come in the order of the desk's events. A caller that is alone paints small jobs in place
+//! - Whoever watches (`Watching`) lies under the lock beside the desk, and is told of each tile of a walk as it is
+//!   laid, so updates come in the order of the desk's events. It says of each point what it shows there, or that
+//!   it owes it; before the caller settles alone all is owed. A caller that is alone paints small jobs in place
 //!   and enters the gate for none of these.
 #![tactic(auto)]
 

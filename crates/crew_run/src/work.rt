@@ -2,7 +2,7 @@
 
 ghost use Rattle.std.specs.Prelude.{◌≡◌, IfOk};
 
-use geom_core::{NoMemory, Rect};
+use geom_core::NoMemory;
 use stamped_desk::{StampNaming, StampedPainting, StampedWalk};
 use std::alloc::Global;
 use std::sync::Arc;
@@ -43,17 +43,6 @@ impl<J: StampNaming> WalkRows<J> {
             keys.push(rect.tile_at(i as u32))?;
         }
         compose_keys(alloc, inputs, &keys)
-    }
-
-    /// A rectangle round them.
-    pub(crate) fn bound(&self) -> Rect {
-        let rect = self.walk.ticket().inputs.patch().rect;
-        let to = self.to.min(rect.tile_count() as usize);
-        let mut bound = None;
-        for i in self.from..to {
-            bound = Some(Rect::round(bound, &rect.tile_at(i as u32).rect()));
-        }
-        bound.unwrap_or(rect)
     }
 }
 

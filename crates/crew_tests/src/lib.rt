@@ -15,4 +15,6 @@ mod meets;
 #[cfg(test)]
 mod painted;
 #[cfg(test)]
+mod stamps;
+#[cfg(test)]
 mod together;

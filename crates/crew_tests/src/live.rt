@@ -3,7 +3,7 @@
 ghost use Rattle.std.specs.Prelude.{◌≡◌};
 ghost use Rattle.live_view.specs.Views.{IsOnCanvas};
 
-use crate::painted::script_of;
+use crate::painted::{painted as painted_by_crew, script_of};
 use crew_run::Shown;
 use demo_gen::script_of as generated_script;
 use desk_core::Desk;
@@ -30,6 +30,22 @@ const SEEDS: u64 = 10;
 /// How many times a thread looks at most.
 const LOOKS: u32 = 4_000_000;
 
+/// How many tiles that it sees a thread keeps at most.
+const KEPT: usize = 2048;
+
+/// A canvas of six tiles, and a layer.
+const SHEET: &[u8] = b"canvas 192 128\nlayer 1 0 0\n";
+
+/// Strokes of one job on it, each with an export, before which all is composed.
+const STROKES: [&[u8]; 6] = [
+    b"stroke 1 1\nfill 1 seq 0 0 192 128 ff0000ff over 255\nend 1\nexport\n",
+    b"stroke 2 1\nfill 2 seq 20 30 150 60 00ff0080 over 255\nend 2\nexport\n",
+    b"stroke 3 1\ndab 3 seq 100 60 50 soft 0000ffff over 200\nend 3\nexport\n",
+    b"stroke 4 1\nfill 4 seq 60 0 70 128 ffffff40 over 255\nend 4\nexport\n",
+    b"undo\nexport\n",
+    b"stroke 5 1\nfill 5 seq 0 70 64 30 000000ff over 128\nend 5\nexport\n",
+];
+
 /// A half opaque red, which no entry exports.
 const HALF_RED: &[u8] =
     b"canvas 1 1\nlayer 1 0 0\nstroke 1 1\nfill 1 seq 0 0 1 1 ff000080 over 255\nend 1\n";
@@ -39,6 +55,13 @@ const HALF_RED: &[u8] =
 struct Seen {
     rises: bool,
     last: u64,
+}
+
+/// A tile that a thread saw.
+#[derive(Drop)]
+struct Sight {
+    key: TileKey,
+    tile: Tile,
 }
 
 /// What became of a script: what was seen while it was painted, how many updates there were, and how many
@@ -61,9 +84,14 @@ fn key_at(place: u32) -> TileKey
     }
 }
 
-/// Looks at tile after tile until the painting is over.
-fn look_on<K: Naming>(reader: LiveReader<K>, over: &AtomicU64) -> Seen {
+/// Looks at tile after tile until the painting is over, and keeps some of those that it sees.
+fn look_on<K: Naming>(
+    alloc: Global,
+    reader: LiveReader<K>,
+    over: &AtomicU64,
+) -> (Seen, Vec<Sight>) {
     let mut reader = reader;
+    let mut sights = Vec::new(alloc);
     let mut seen = Seen {
         rises: true,
         last: 0,
@@ -72,12 +100,23 @@ fn look_on<K: Naming>(reader: LiveReader<K>, over: &AtomicU64) -> Seen {
         if over.load(Ordering::SeqCst) == 1 {
             break;
         }
-        if let Ok(shown) = reader.look(key_at(place)) {
+        let key = key_at(place);
+        if let Ok(shown) = reader.look(key) {
             seen.rises = seen.rises && seen.last <= shown.version;
             seen.last = shown.version;
+            keep(&mut sights, key, shown.tile);
         }
     }
-    seen
+    (seen, sights)
+}
+
+/// Keeps a tile that was seen, if there is one, and room.
+fn keep(sights: &mut Vec<Sight>, key: TileKey, tile: Option<Tile>) {
+    if let Some(tile) = tile {
+        if sights.len() < KEPT {
+            let _ = sights.push(Sight { key, tile });
+        }
+    }
 }
 
 /// The desk and the writer of a script that was painted by so many workers, if it could be.
@@ -140,7 +179,7 @@ fn looked_at<K: Naming + Send + Sync + 'static, R: Threads + Wait + Sync>(
     script: &Script,
     workers: u8,
     opened: LiveOpened,
-) -> Option<Told>
+) -> Option<(Told, Vec<Sight>)>
     requires { opened ≡ K.book }
 {
     let over = Arc::new(alloc, AtomicU64::new(0)).ok()?;
@@ -150,15 +189,15 @@ fn looked_at<K: Naming + Send + Sync + 'static, R: Threads + Wait + Sync>(
         live.close(rt);
         return None;
     };
-    let Ok(child) = thread::spawn(rt, move || look_on(reader, &theirs)) else {
+    let Ok(child) = thread::spawn(rt, move || look_on(alloc, reader, &theirs)) else {
         live.close(rt);
         return None;
     };
     let done = painted(rt, alloc, script, workers, live);
     over.store(1, Ordering::SeqCst);
-    let seen = child.join(rt);
+    let (seen, sights) = child.join(rt);
     match done {
-        Some((desk, live)) => Some(what_became(rt, seen, &desk, live)),
+        Some((desk, live)) => Some((what_became(rt, seen, &desk, live), sights)),
         None => None,
     }
 }
@@ -179,14 +218,70 @@ fn who_looks_on_sees_it_come(rt: HostRuntime) -> Result<(), Fail> {
             return Err("no script".into());
         };
         for workers in [0, 2] {
-            let Some(told) = looked_at::<Brand, _>(&rt, rt.alloc(), &script, workers, open_live())
-            else {
+            let Some((told, _)) = looked_at::<Brand, _>(
+                &rt,
+                rt.alloc(),
+                &script,
+                workers,
+                open_live(),
+            ) else {
                 return Err("not painted".into());
             };
             let is_right = told.seen.rises
                 && told.seen.last <= told.count
                 && told.others == Some(0);
             assert!(rt; is_right, "seed {seed}, {workers} workers: {told:?}");
+        }
+    }
+    Ok(())
+}
+
+/// The script of the first of the strokes.
+fn first_strokes(alloc: Global, count: usize) -> Result<Script, Fail> {
+    let mut text = Vec::new(alloc);
+    text.extend_from_slice(SHEET)?;
+    for stroke in STROKES.iter().take(count) {
+        text.extend_from_slice(stroke)?;
+    }
+    script_of(alloc, &text)
+}
+
+/// The desks on which the first strokes were painted, for each number of them.
+fn prefixes<R: Threads + Wait + Sync>(rt: &R, alloc: Global) -> Result<Vec<Desk>, Fail> {
+    let mut desks = Vec::new(alloc);
+    for count in 0..=STROKES.len() {
+        let script = first_strokes(alloc, count)?;
+        desks.push(painted_by_crew(rt, alloc, &script, 0, &NoGate)?)?;
+    }
+    Ok(desks)
+}
+
+/// Whether the tile is that of one of the desks.
+fn is_of_one(sight: &Sight, desks: &[Desk]) -> bool {
+    desks.iter().any(|desk| is_same(Some(&sight.tile), desk.root_tile(sight.key)))
+}
+
+#[test]
+fn what_is_seen_was_painted(rt: HostRuntime) -> Result<(), Fail> {
+    let desks = prefixes(&rt, rt.alloc())?;
+    let script = first_strokes(rt.alloc(), STROKES.len())?;
+    for workers in [0, 1, 4] {
+        let Some((told, sights)) = looked_at::<Brand, _>(
+            &rt,
+            rt.alloc(),
+            &script,
+            workers,
+            open_live(),
+        ) else {
+            return Err("not painted".into());
+        };
+        assert!(rt; told.others == Some(0), "{workers} workers: {told:?}");
+        for sight in &sights {
+            assert!(rt;
+                is_of_one(sight, &desks),
+                "{workers} workers: {:?}",
+                sight.key
+            );
         }
     }
     Ok(())

@@ -8,9 +8,10 @@ use crate::gates::Senders;
 use artists::{Drawn, artist_for, paint_together};
 use doc_model::{Canvas, Command};
 use geom_core::NoMemory;
+use io_edge::NoGate;
 use pixel_core::Pixel;
 use plain_painter::{drawn_script, plain_frames};
-use script_text::{Script, print, read};
+use script_text::{ReadRefusal, Script, print, read};
 use std::alloc::Global;
 use std::process::Abort;
 use std::sync::Wait;
@@ -141,5 +142,36 @@ fn artists_draw_one_history(rt: HostRuntime) -> Result<(), Fail> {
             );
         }
     }
+    Ok(())
+}
+
+/// Two strokes, which are of two artists.
+const TWO_STROKES: &[u8] =
+    b"canvas 2 1\nlayer 1 0 0\nstroke 1 1\nfill 1 seq 0 0 1 1 ff0000ff over 255\nend 1\nstroke 2 1\nfill 2 seq 1 0 1 1 0000ffff over 255\nend 2\nexport\n";
+
+/// Whether two artists send all commands of a script, and its desk has what is told.
+fn is_drawn_whole<R: Threads + Wait + Sync>(rt: &R, alloc: Global) -> Result<bool, NoMemory> {
+    let script = match read(alloc, TWO_STROKES) {
+        Ok(script) => script,
+        Err(ReadRefusal::NoMemory) => return Err(NoMemory),
+        Err(ReadRefusal::Fault(_)) => return Ok(false),
+    };
+    let count = script.len();
+    if count > 1_000_000 {
+        return Ok(false);
+    }
+    let drawn = paint_together(rt, alloc, script, 2, 1, &NoGate)?;
+    let told = plain_frames(alloc, &drawn.script)?;
+    Ok(drawn.script.len() == count && is_told(&drawn.desk, &told))
+}
+
+/// With any one allocation failing, no command is lost, and the desk has what is told.
+#[test]
+fn artists_lose_no_command(rt: HostRuntime) -> Result<(), Fail> {
+    let is_whole = match is_drawn_whole(&rt, rt.alloc()) {
+        Err(NoMemory) => is_drawn_whole(&rt, rt.alloc()),
+        is_whole => is_whole,
+    };
+    assert!(rt; is_whole?);
     Ok(())
 }

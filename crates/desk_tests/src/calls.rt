@@ -107,7 +107,7 @@ const WIDE_JOB: Play = Play {
 };
 
 /// What is shown, and the calls of a desk, or of two, one after the other.
-const ROWS: [(&str, &[Play]); 37] = [
+const ROWS: [(&str, &[Play]); 38] = [
     (
         "a new desk is settled, and exports its paper",
         &[Play {
@@ -900,6 +900,50 @@ const ROWS: [(&str, &[Play]); 37] = [
                 Take(Walk),
                 Whole(4, 4, Stored),
                 Look(0, [178, 205, 128, 255], Clean),
+            ],
+        }],
+    ),
+    (
+        "above four layers, of which one loses a stroke by an undo",
+        &[Play {
+            script: b"canvas 1 1\nlayer 1 0 0 0000ffff\nlayer 2 0 1 ff000040\nlayer 3 0 2 00ff0040\nlayer 4 0 3 ff000040\nlayer 5 0 4\nstroke 1 1\nfill 1 seq 0 0 1 1 00ff00ff over 255\nend 1\nstroke 2 5\nfill 2 seq 0 0 1 1 ffffff80 over 255\nend 2\nundo\nundo\nstroke 3 5\nfill 3 seq 0 0 1 1 ffffff80 over 255\nend 3\n",
+            slots: 1,
+            calls: &[
+                Feed(5),
+                Take(Did),
+                Take(Did),
+                Take(Did),
+                Take(Did),
+                Take(Did),
+                Take(Walk),
+                Whole(0, 0, Stored),
+                Feed(2),
+                Take(Did),
+                Take(Paint),
+                Publish(1, 1, Stored),
+                End(1, Done),
+                Take(Walk),
+                Whole(2, 2, Stored),
+                Feed(3),
+                Take(Did),
+                Take(Did),
+                Take(Paint),
+                Publish(3, 3, Stored),
+                End(3, Done),
+                Take(Walk),
+                Whole(4, 4, Stored),
+                Look(0, [178, 205, 128, 255], Clean),
+                Feed(5),
+                Take(Did),
+                Take(Did),
+                Take(Did),
+                Take(Did),
+                Take(Paint),
+                Publish(5, 5, Stored),
+                End(5, Done),
+                Take(Walk),
+                Whole(6, 6, Stored),
+                Look(0, [178, 152, 181, 255], Clean),
             ],
         }],
     ),

@@ -1,2 +1,3 @@
 mod RootTiles
 mod LastPictures
+mod Owing

@@ -32,35 +32,6 @@ use Rattle.live_view.specs.Views.{Feed, published, pending, all_updates}
 use Rattle.live_view.proofs.Laying.{updates_more, same_kept}
 use Rattle.live_run.specs.Showing.{ShowsTiles, ShowsRoot, ShowsPicture, PutsRoot}
 
--- a key more, which is the one or stands before it
-key_cases : (ks : List Key) (i : ℕ) (key k : Key) → slice_get ks i ≡ Some key → list_any (same_key k) (take (i + 1) ks) ≡ true → (list_any (same_key k) (take i ks) ≡ true) ⊎ (same_key k key ≡ true)
-key_cases ks i key k at h = or_cases (list_any (same_key k) (take i ks)) (same_key k key) (sym more ∙ h)
-  where
-    more : list_any (same_key k) (take (i + 1) ks) ≡ (list_any (same_key k) (take i ks) || same_key k key)
-    more = list_any_more (same_key k) ks i key (slice_get_within ks i key at) ∙ ap (λ x. list_any (same_key k) (take i ks) || same_key k x) (get_or_from_slice_get ks i key key at)
-
--- before the first
-pub none_shown : (us : List Update) (s : State) (keys : List Key) → ShowsTiles us s (take 0 keys)
-none_shown us s keys p h = absurd (let t : false ≡ true = h in cc)
-
--- one tile more
-pub shows_more : (old new : List Update) (s : State) (keys : List Key) (i : ℕ) (key : Key) → slice_get keys i ≡ Some key → PutsRoot old new s key → ShowsTiles old s (take i keys) → ShowsTiles new s (take (i + 1) keys)
-shows_more old new s keys i key at_i put so p h = go (same_key (key_of p) key) refl
-  where
-    here : shown new (key_of p) ≡ cond (same_key (key_of p) key) (Some put.tile) (shown old (key_of p))
-    here = ap (λ us. shown us (key_of p)) put.more ∙ fold-append (newer (key_of p)) None old ((record { key = key; tile = put.tile }) ∷ [])
-
-    earlier : same_key (key_of p) key ≡ false → list_any (same_key (key_of p)) (take i keys) ≡ true
-    earlier e = elim (key_cases keys i key (key_of p) at_i h) [ inl t ↦ t | inr t ↦ absurd (let u : false ≡ true = sym e ∙ t in cc) ]
-
-    go : (b : Bool) → same_key (key_of p) key ≡ b → pixel_or (shown new (key_of p)) clear p ≡ at (cache s.caches 0) p
-    go true e = ap (λ o. pixel_or o clear p) (here ∙ taken (same_key (key_of p) key) (Some put.tile) (shown old (key_of p)) e) ∙ put.is p e
-    go false e = ap (λ o. pixel_or o clear p) (here ∙ kept (same_key (key_of p) key) (Some put.tile) (shown old (key_of p)) e) ∙ so p (earlier e)
-
--- behind the last
-pub all_shown : (us : List Update) (s : State) (keys : List Key) (i : ℕ) → length keys ≤ i → ShowsTiles us s (take i keys) → ShowsTiles us s keys
-all_shown us s keys i past so = subst (ShowsTiles us s) (take_all i keys past) so
-
 -- an update more of a writer is one more of all its updates
 pub put_more : (old new : Feed) (s : State) (key : Key) (t : Pixels) → published new ≡ published old → ((p : Point) → in_tile key p ≡ true → pixel_at t p ≡ at (cache s.caches 0) p)
     → pending new ≡ pending old ++ (record { key = key; tile = t }) ∷ [] → PutsRoot (all_updates old) (all_updates new) s key
@@ -75,12 +46,9 @@ pub clear_shown : (s : State) (key : Key) (t : Pixels) (n : ℕ) → t ≡ repli
 clear_shown s key t n blank is p h = ap (λ (u : Pixels). pixel_at u p) blank ∙ (same_kept clear n _ ∙ sym (is p h))
 
 -- what was pending is published
-all_published : (rows : Rows) (row : List Update) → updates_of (with_row rows row) ≡ updates_of rows ++ row
+pub all_published : (rows : Rows) (row : List Update) → updates_of (with_row rows row) ≡ updates_of rows ++ row
 all_published rows [] = sym (append-nil (updates_of rows))
 all_published rows (u ∷ more) = updates_more rows (u ∷ more)
-
-pub published_all : (old new : Feed) → published new ≡ with_row (published old) (pending old) → all_updates old ≡ updates_of (published new)
-published_all old new is = sym (ap updates_of is ∙ all_published (published old) (pending old))
 
 -- the root's cache is the picture
 pub picture_shown : (us : List Update) (s : State) → ShowsRoot us s → desk.ShowsPicture s → ShowsPicture us s

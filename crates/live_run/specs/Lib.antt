@@ -1,3 +1,5 @@
 pub mod Showing
 pub mod Last
+pub mod Lent
+pub mod Owing
 pub mod Painted

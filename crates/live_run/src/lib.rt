@@ -2,12 +2,12 @@
 //!
 //! # Decisions
 //!
-//! - What `run_live` promises follows from its end alone: once the desk is settled each tile of the canvas is
-//!   put once more and published, with no pixel copied. So nothing that happens while the crew paints needs a
-//!   proof.
-//! - `paint_live` is `run_live` with a writer that is lent: a closure can hold no writer, since it isn't
-//!   `Drop`. That the writer goes on is asked at the end: it has so many updates, or the call answers
-//!   `NoMemory`, which doesn't happen.
+//! - What lies under the crew's lock beside the desk (`Screen`) has the writer and the tiles that it owes. Its type
+//!   says that a tile which isn't owed was put as the root's cache has it. A put that is refused leaves its tile
+//!   owed, and so does all that changes the root without a word. So readers see tiles of the root, each as it was
+//!   at some time, and once all is done what is owed is laid down: all tiles, with no pixel copied.
+//! - The writer is lent, since a closure can hold none: it isn't `Drop`. A lock keeps nothing but types, so the
+//!   reference has a name there (`Lending`), as have the rows that were published before.
 //! - Where a look is refused or isn't of the newest version, `live_frame` takes the desk's own tile, so that
 //!   `run` needs no answer for either; the clauses of `look` and `run_live` carry that the picture is a
 //!   reader's.
@@ -15,6 +15,8 @@
 #![tactic(auto)]
 
 mod frames;
+mod lent;
+mod owed;
 mod run;
 mod screen;
 mod shown;

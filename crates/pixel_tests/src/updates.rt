@@ -32,12 +32,13 @@ fn cell(rt: &impl Abort, k: u8) -> Rect {
     rect(rt, 256 * i32::from(k % 8), 256 * i32::from(k / 8), 256, 256)
 }
 
-/// One pixel in each cell waits for the root: the 64 places are taken.
+/// One pixel in each cell waits for the root: the 64 places are taken. The oldest is at the edge of them all.
 fn one_in_each_cell(rt: &impl Abort) -> Updates {
     let mut updates = nothing(rt);
     for k in 0u8..64 {
-        let corner = cell(rt, k);
-        updates.add(Walk::Up(0), rect(rt, corner.x(), corner.y(), 1, 1));
+        let inset = if k == 0 { 0 } else { 3 };
+        let (x, y) = (256 * i32::from(k % 8), 256 * i32::from(k / 8));
+        updates.add(Walk::Up(0), rect(rt, x + inset, y + inset, 1, 1));
     }
     updates
 }
@@ -49,9 +50,9 @@ fn begun_anew(rt: &impl Abort) -> Updates {
     updates
 }
 
-/// Whether the patches are all groups on the cells of the rectangle (0, 0, 1793, 1793).
+/// Whether the patches are all groups on the cells of the rectangle (0, 0, 1796, 1796).
 fn all_on_cells(rt: &impl Abort, updates: &Updates) -> bool {
-    let whole = rect(rt, 0, 0, 1793, 1793);
+    let whole = rect(rt, 0, 0, 1796, 1796);
     let mut same = updates.len() == 64;
     for k in 0u8..64 {
         let part = whole.clip(&cell(rt, k));
@@ -89,7 +90,7 @@ fn running_walkers_are_avoided(rt: HostRuntime) {
     }
     assert!(rt; updates.take(&running).is_none());
     let walk = Walk::All;
-    let last = rect(&rt, 1792, 1792, 1, 1);
+    let last = rect(&rt, 1792, 1792, 4, 4);
     assert!(rt; updates.take(&running[..63]) == Some(Patch { walk, rect: last }));
 }
 

@@ -18,4 +18,4 @@ mod words;
 pub use forms::{canvas, command_of};
 pub use plain::plain_job;
 pub use tracks::path;
-pub use words::{JobWord, Word, is, word_of};
+pub use words::{JobWord, Word, edge_of, exclusive_of, is, kind_of, op_of, seen_of, word_of};

@@ -24,6 +24,15 @@ fn fill(x: u8, last: u8) -> Job {
     }
 }
 
+/// Moves the pixel of the column `x` to the column `to`.
+fn shift(x: u8, to: u8) -> Job {
+    Job::Move {
+        rect: row(x, 0),
+        dx: i32::from(to) - i32::from(x),
+        dy: 0,
+    }
+}
+
 /// Blurs one pixel by the pixels beside it.
 fn blur(x: u8) -> Job {
     Job::Blur {
@@ -65,6 +74,12 @@ fn conflicts(rt: HostRuntime) {
     assert_eq!(rt; answer(alloc, &third), Some((Some((1, 3)), 2)));
     let both_unique = [(Kind::Uni, fill(0, 1)), (Kind::Uni, fill(1, 1))];
     assert_eq!(rt; answer(alloc, &both_unique), Some((None, 2)));
+    let between = [
+        (Kind::Con, shift(0, 10)),
+        (Kind::Uni, fill(4, 5)),
+        (Kind::Uni, fill(5, 6)),
+    ];
+    assert_eq!(rt; answer(alloc, &between), Some((None, 3)));
     let one_unique = [(Kind::Con, fill(0, 1)), (Kind::Uni, fill(1, 1))];
     assert_eq!(rt; answer(alloc, &one_unique), Some((Some((1, 2)), 1)));
     let barrier = [

@@ -2,6 +2,7 @@ use Rattle.std.proofs.Common.{List, sym, ◌∙◌, subst}
 use Rattle.doc_model.specs.declared.command.Command.{Command}
 use Rattle.crew_run.specs.Front.{IsFront}
 use Rattle.crew_run.proofs.Kept.{take_keeps}
+use Rattle.crew_run.proofs.Roots.{still_shown}
 use Rattle.crew_run.proofs.board.Board.begin.Goals as goal
 
 pub invariant_of-self : goal.invariant_of-self
@@ -11,6 +12,7 @@ invariant_of-self g c =
     record {
       canvas_is = keeps.canvas ∙ c.args.self.now.canvas_is;
       front = subst (λ (fed : List Command). IsFront fed g.J.Following.script.commands) (sym keeps.fed) c.args.self.now.front;
+      shows = still_shown keeps.root c.args.self.now.shows;
     }
 
 pub new-requires-clause-checked : goal.new-requires-clause-checked

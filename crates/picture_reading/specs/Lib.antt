@@ -1,0 +1,4 @@
+pub mod Formats
+pub mod Pictures
+pub mod Reading
+pub mod Changes
